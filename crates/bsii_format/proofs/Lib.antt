@@ -1,0 +1,5 @@
+-- The laws of the definitions.
+pub mod Readers
+pub mod Parsers
+pub mod Records
+pub mod File

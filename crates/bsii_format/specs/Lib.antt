@@ -1,0 +1,17 @@
+-- What a reader must believe, in the order of the bytes. Each comment in quotation marks is a sentence of document 01.
+pub mod Ascii
+pub mod Replies
+pub mod Reader
+pub mod Numbers
+pub mod Utf8
+pub mod Strings
+pub mod Types
+pub mod Values
+pub mod Prototypes
+pub mod Blocks
+pub mod File
+pub mod Digits
+pub mod Floats
+pub mod Text
+pub mod BlockText
+pub mod Calls
