@@ -3,3 +3,4 @@ pub mod Readers
 pub mod Parsers
 pub mod Records
 pub mod File
+pub mod Worked

@@ -15,3 +15,4 @@ pub mod Floats
 pub mod Text
 pub mod BlockText
 pub mod Calls
+pub mod Worked

@@ -1,0 +1,75 @@
+-- Document 01's "Worked bytes": the file of 82 bytes with its text of 73, and the cases marked * as one table. proofs/Worked.antt computes
+-- them; FORMAT.md, "A worked file", goes through the same bytes.
+use Prim.Native.Nat.{ℕ, zero, suc, _/_, _%_}
+use mathlib.Core.List.{List, [], _∷_, _++_}
+use Rattle.bsii_format.specs.Ascii.{ascii}
+use Rattle.bsii_format.specs.Replies.{Reply, gives, refuses, refusal, zeroDigit, enumValue, absent}
+use Rattle.bsii_format.specs.Reader.{Result, ok, fault}
+use Rattle.bsii_format.specs.Values.{Value, single, array, valueParser}
+use Rattle.bsii_format.specs.Text.{elementText}
+use Rattle.bsii_format.specs.BlockText.{orRefuse}
+
+-- n in w bytes, little-endian
+unfoldable pub le : ℕ → ℕ → List ℕ
+le zero n = []
+le (suc w) n = n % 256 ∷ le w (n / 256)
+
+abbrev pub u32 : ℕ → List ℕ
+u32 = le 4
+
+abbrev pub u64 : ℕ → List ℕ
+u64 = le 8
+
+-- ---- the worked file
+
+unfoldable pub workedFile : List ℕ
+workedFile =
+    ascii "BSII" ++ u32 2
+    ++ u32 0 ++ le 1 1 ++ u32 7 ++ u32 4 ++ ascii "trip" ++ u32 0x27 ++ u32 2 ++ ascii "km" ++ u32 6 ++ u32 1 ++ ascii "w" ++ u32 0
+    ++ u32 7 ++ le 1 1 ++ u64 0x57 ++ u32 300 ++ u32 2 ++ u32 0x3fc0_0000 ++ u32 0xc000_0000
+    ++ u32 0 ++ le 1 0
+
+unfoldable pub workedText : List ℕ
+workedText = ascii "SiiNunit\n{\ntrip : a1 {\n  km: 300\n  w: 2\n  w[0]: &3fc00000\n  w[1]: -2\n}\n}\n"
+
+-- ---- the cases marked *
+
+-- the text of a single value, whose enum list is empty
+unfoldable pub singleText : Result Value → Reply (List ℕ)
+singleText (ok (single e) at r) = orRefuse enumValue 0 (elementText [] (e .value))
+singleText (ok (array l) at r) = refusal absent 0
+singleText (fault f) = refuses f
+
+pub record Case : Type 0 where
+  pub typeId : ℕ
+  pub raw : List ℕ
+  pub says : Reply (List ℕ)
+
+infix 60 _of_says_
+
+abbrev pub _of_says_ : ℕ → List ℕ → Reply (List ℕ) → Case
+t of l says r = record { typeId = t; raw = l; says = r }
+
+-- the bits of 1, and a placement with f1 = f3 = 1, this f4 and zeros
+abbrev pub placementWith : ℕ → List ℕ
+placementWith f4 = u32 0x3f80_0000 ++ u32 0 ++ u32 0x3f80_0000 ++ u32 f4 ++ u32 0 ++ u32 0 ++ u32 0 ++ u32 0
+
+-- "Words: 0* and 0x8000000000000000* empty; 1* `0`; 38* refused 5; 39* `00`. Floats: 10000000* decimal, 10000001* `&4b189681`, bits 1* `&1`,
+-- minus zero* `-0`. Ids: 0x10000* `_nameless.1.0000`; no words* `null`. Placement, f1 = f3 = 1: f4 = 0* gives −1048575 for both;
+-- f4 = 8390656* gives 1 for both". An empty word's text as a value is `""`. The bits of 10000000, 10000001 and 8390656 are
+-- 0x4b189680, 0x4b189681 and 0x4b000800
+unfoldable pub starred : List Case
+starred =
+    (0x03 of u64 0 says gives (ascii "\"\"")) ∷
+    (0x03 of u64 0x8000_0000_0000_0000 says gives (ascii "\"\"")) ∷
+    (0x03 of u64 1 says gives (ascii "0")) ∷
+    (0x03 of u64 38 says refusal zeroDigit 0) ∷
+    (0x03 of u64 39 says gives (ascii "00")) ∷
+    (0x05 of u32 0x4b18_9680 says gives (ascii "10000000")) ∷
+    (0x05 of u32 0x4b18_9681 says gives (ascii "&4b189681")) ∷
+    (0x05 of u32 1 says gives (ascii "&1")) ∷
+    (0x05 of u32 0x8000_0000 says gives (ascii "-0")) ∷
+    (0x39 of le 1 0xff ++ u64 0x1_0000 says gives (ascii "_nameless.1.0000")) ∷
+    (0x39 of le 1 0 says gives (ascii "null")) ∷
+    (0x19 of placementWith 0 says gives (ascii "(-1048575, 0, -1048575) (0; 0, 0, 0)")) ∷
+    (0x19 of placementWith 0x4b00_0800 says gives (ascii "(1, 0, 1) (0; 0, 0, 0)")) ∷ []

@@ -1,0 +1,5 @@
+-- Widening: document 01, "Widening"; FORMAT.md, "Widening".
+pub mod Marks
+pub mod Insertions
+pub mod Parts
+pub mod Claim
