@@ -45,6 +45,11 @@ pub worked-full : textOf 2 workedFile ≡ refusal tableFull 8
 unfolding computes
 worked-full = refl
 
+-- and one with exactly that room
+pub worked-exactly : textOf 3 workedFile ≡ gives workedText
+unfolding computes
+worked-exactly = refl
+
 -- every case marked * of document 01
 pub starred-hold : map (λ (c : Case). singleText (valueParser (c .typeId) 0 (c .raw))) starred ≡ map (λ (c : Case). c .says) starred
 unfolding computes

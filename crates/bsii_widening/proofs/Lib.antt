@@ -9,3 +9,4 @@ pub mod Text
 pub mod Lookups
 pub mod Unlisted
 pub mod Demand3
+pub mod Example

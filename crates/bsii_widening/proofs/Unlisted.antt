@@ -10,7 +10,7 @@ use mathlib.Core.List.{List, [], _∷_, _++_, append-assoc}
 use lib.ListN.{length, take, length-append}
 use lib.Dec.{T, eqb}
 use Rattle.bsii_format.specs.Replies.{Fault, unlistedType}
-use Rattle.bsii_format.specs.Reader.{Result, ok, fault, faultAt, Reader, after, _>>=_, _<$>_, fail, Consumed, with, consumed}
+use Rattle.bsii_format.specs.Reader.{Result, ok, fault, faultAt, Reader, after, _>>=_, _<$>_, fail, Consumed, with, consumed, WellFormed}
 use Rattle.bsii_format.specs.Strings.{Id, idParser}
 use Rattle.bsii_format.specs.Types.{shapeOf}
 use Rattle.bsii_format.specs.Values.{Value, valueParser, shapeParser}
@@ -18,7 +18,7 @@ use Rattle.bsii_format.specs.Prototypes.{ValuePrototype, Prototype}
 use Rattle.bsii_format.specs.Blocks.{DataValue, DataBlock, getPrototype, dataValue, dataValueParser, dataValuesParser}
 use Rattle.bsii_format.specs.File.{Record, prototype, block, Head, carrying, headParser, Step, blockStep, dataBlockParser, stepParser, recordParser, define, distinctIds, consRecord, recordsThen, recordsFrom, recordsParser, headerParser, BsiiFile, bsiiFile, bsiiParser, valuesBytes, recordBytes, recordsBytes, fileBytes, defineAll}
 use Rattle.bsii_format.specs.BlockText.{valuesOffset}
-use Rattle.bsii_format.proofs.Readers.{Fits, map-fault, consumed-fits}
+use Rattle.bsii_format.proofs.Readers.{Fits, fault≢ok, map-fault, consumed-fits}
 use Rattle.bsii_format.proofs.Records.{GoodField, GoodValues, nil, cons, value-fits, GoodPrototype, GoodBlock, GoodRecord, records-step, room-for, ids-defineAll, head-takes}
 use Rattle.bsii_widening.specs.Marks.{Mark, old, inserted, unmark, mapMark, all, MarkedPrototype, MarkedBlock, markedPrototype, markedBlock, MarkedRecords, newPrototype, newBlock, newRecords}
 use Rattle.bsii_widening.specs.Insertions.{insertAt, insertIf, intoPrototype, intoBlock, insertField, ValuesAllowed}
@@ -32,9 +32,13 @@ use Rattle.bsii_widening.proofs.Invariant.{FineBlock, Inv, done, protot
 -- ---- one block
 
 -- "refused before any byte of the value"
-unlisted-value : (t : ℕ) → shapeOf t ≡ none → (b : ℕ) (s : List ℕ) → dataValueParser t b s ≡ faultAt unlistedType b
+unlisted-value : (t : ℕ) → shapeOf t ≡ none → (at : ℕ) (s : List ℕ) → dataValueParser t at s ≡ faultAt unlistedType at
 unfolding dataValueParser _<$>_ _>>=_ consumed after valueParser shapeParser fail
-unlisted-value t e b s = rw e
+unlisted-value t e at s = rw e
+
+-- so a well-formed value has a listed type, and `Allowed` need not ask for it
+pub listed : (t : ℕ) {v : DataValue} (c : List ℕ) → WellFormed (dataValueParser t) v c → shapeOf t ≡ none → ⊥
+listed t c w e = fault≢ok (sym (unlisted-value t e 0 c) ∙ w)
 
 -- whatever bytes the value has
 values-fault : (p : ℕ) (d : Consumed ValuePrototype) (v : DataValue) {fs : List (Consumed ValuePrototype)} {l : List DataValue} → shapeOf (d .value .typeId) ≡ none → GoodValues fs l → p ≤ length l

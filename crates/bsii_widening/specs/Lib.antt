@@ -3,3 +3,4 @@ pub mod Marks
 pub mod Insertions
 pub mod Parts
 pub mod Claim
+pub mod Example
