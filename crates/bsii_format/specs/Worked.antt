@@ -46,7 +46,6 @@ pub record Case : Type 0 where
   pub says : Reply (List ℕ)
 
 infix 60 _of_says_
-
 abbrev pub _of_says_ : ℕ → List ℕ → Reply (List ℕ) → Case
 t of l says r = record { typeId = t; raw = l; says = r }
 

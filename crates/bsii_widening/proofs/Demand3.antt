@@ -75,7 +75,6 @@ fits-output out t h = rw (is-true (leb (length t) (length out)) (le→leb (lengt
 -- ---- a sound marked file over an old save that converts
 
 module _ (words : ℕ) (s out : List ℕ) (f : BsiiFile) (at : ℕ) (r : List ℕ) (size : ℕ) (o : OldSave words s out f at r size) where
-
   taken : FileTaken (words / 3) f s at r
   taken = file-good (words / 3) s f at r (parse-ok words s (o .reads) .1)
 
@@ -95,16 +94,17 @@ module _ (words : ℕ) (s out : List ℕ) (f : BsiiFile) (at : ℕ) (r : List �
   unfolding newFile prototypesOf
   still-converts words′ M h before m =
       let reads : parse words′ (newFile f r M) ≡ ok (newOne M) (length (fileBytes (newOne M))) r =
-        parse-fits words′ (newOne M) r (record { header = taken .good .header; records = inv-good valueText h; roomed = m .table; last = taken .good .last }) (m .file) in
+      parse-fits words′ (newOne M) r (record { header = taken .good .header; records = inv-good valueText h; roomed = m .table; last = taken .good .last }) (m .file) in
       record {
         converts = λ out′ k. text-call words′ (newFile f r M) out′ reads ∙ ap (textAnswer out′) (new-text valueText f M h) ∙ fits-output out′ (newText M) k;
         found = λ k name a e.
-          let b = field-found valueText f (newOne M) M h before refl k name a (absent-back (fieldOf k name f) (sym (field-call words s k name (o .reads)) ∙ e)) in
-          (b .0, field-call words′ (newFile f r M) (renumber M k) name reads ∙ ap (orRefuse absent 0) (b .1) ∙ unfold orRefuse in refl, b .2, b .3);
+            let b = field-found valueText f (newOne M) M h before refl k name a (absent-back (fieldOf k name f) (sym (field-call words s k name (o .reads)) ∙ e)) in
+            (b .0, field-call words′ (newFile f r M) (renumber M k) name reads ∙ ap (orRefuse absent 0) (b .1) ∙ unfold orRefuse in refl, b .2, b .3);
         leftOut =
-          gives-inj valueText (sym (old-text valueText f M h) ∙ ap (λ l. fileText valueText (record { header = f .header; records = l; end = f .end })) before ∙ had .is)
-          ∙ sym (had .front) ∙ ap (λ (z : TextAnswer). take size (z .output)) (sym (text-call words s out (o .reads)));
-        anchored = before }
+            gives-inj valueText (sym (old-text valueText f M h) ∙ ap (λ l. fileText valueText (record { header = f .header; records = l; end = f .end })) before ∙ had .is)
+            ∙ sym (had .front) ∙ ap (λ (z : TextAnswer). take size (z .output)) (sym (text-call words s out (o .reads)));
+        anchored = before;
+      }
 
   -- the position is one of the last definition's, or its end
   position : (n p : ℕ) (d : Consumed ValuePrototype) (M : MarkedRecords) → DefinitionAllowed n p d M → (m : Mark MarkedPrototype) → getMarked n (markedPrototypes M []) ≡ some m
@@ -114,21 +114,23 @@ module _ (words : ℕ) (s out : List ℕ) (f : BsiiFile) (at : ℕ) (r : List �
 
   last-unlisted : (words′ : ℕ) (M : MarkedRecords) → Sound valueText M → NoIdTwice (newRecords M) → oldRecords M ≡ f .records → LastUnlisted words s out f r size words′ M
   unfolding insert newFile prototypesOf
-  last-unlisted words′ M h once before n p d v a u m =
-      ((λ x e. refused words′ (newFile f r (insert (aField n p d v) M)) x
+  last-unlisted words′ M h once before n p d v a u m = (
+    (λ x e. refused words′ (newFile f r (insert (aField n p d v) M)) x
         (parse-short words′ (newFile f r (insert (aField n p d v) M)) (m .file)
         ∙ file-stops valueText (words′ / 3) n p d v (markedPrototypes M []) (good-field d (a .wellFormed)) u (position n p d M a)
         (newOne (insert (aField n p d v) M)) r x {M = M} (taken .good .header) refl (widens-nil n p d) h (m .table) e)),
-      (λ e. still-converts words′ (insert (aField n p d v) M)
+    (λ e. still-converts words′ (insert (aField n p d v) M)
         (sound-insert valueText value-says (aField n p d v) M (record { definition = a; values = no-values n p d v 0 (length (f .header .raw)) M e }) once h)
-        (old-insert (aField n p d v) M ∙ before) m))
+        (old-insert (aField n p d v) M ∙ before) m),
+  )
 
 pub demand3 : Demand3
 unfolding widened newFile
 demand3 words s out f at r size o l a words′ =
     let M = insertAll l (markRecords (f .records)) in
     let h = sound-all valueText value-says l (markRecords (f .records)) a (once-old words s out f at r size o) (sound-old words s out f at r size o) in
-    let before = old-widened l (f .records) in
-    (taken words s out f at r size o .front ∙ ap (λ z. fileBytes (record { header = f .header; records = z; end = f .end }) ++ r) (sym (new-markRecords (f .records))),
-    still-converts words s out f at r size o words′ M h before,
-    last-unlisted words s out f at r size o words′ M h (once-all l (markRecords (f .records)) a (once-old words s out f at r size o)) before)
+    let before = old-widened l (f .records) in (
+      taken words s out f at r size o .front ∙ ap (λ z. fileBytes (record { header = f .header; records = z; end = f .end }) ++ r) (sym (new-markRecords (f .records))),
+      still-converts words s out f at r size o words′ M h before,
+      last-unlisted words s out f at r size o words′ M h (once-all l (markRecords (f .records)) a (once-old words s out f at r size o)) before,
+    )

@@ -102,13 +102,13 @@ old-known n [] e = none≢some e
 old-known n (old q ∷ env) {p} e = go (eqb n (q .id)) (old-known n env) e
   where
     go : (b : Bool) → (getMarked n env ≡ some (old p) → getPrototype n (oldEnv env) ≡ some (oldPrototype p)) → cond b (some (old q)) (getMarked n env) ≡ some (old p)
-      → cond b (some (oldPrototype q)) (getPrototype n (oldEnv env)) ≡ some (oldPrototype p)
+        → cond b (some (oldPrototype q)) (getPrototype n (oldEnv env)) ≡ some (oldPrototype p)
     go true ih k = ap (λ z. some (oldPrototype (unmark z))) (some-inj k)
     go false ih k = ih k
 old-known n (inserted q ∷ env) {p} e = go (eqb n (q .id)) (old-known n env) e
   where
     go : (b : Bool) → (getMarked n env ≡ some (old p) → getPrototype n (oldEnv env) ≡ some (oldPrototype p)) → cond b (some (inserted q)) (getMarked n env) ≡ some (old p)
-      → getPrototype n (oldEnv env) ≡ some (oldPrototype p)
+        → getPrototype n (oldEnv env) ≡ some (oldPrototype p)
     go true ih k = let z : _≡_ {A = Mark MarkedPrototype} (inserted q) (old p) = some-inj k in none≢some (ap isOld z)
     go false ih k = ih k
 
@@ -196,19 +196,23 @@ widens-cons n p d m {env} {env′} w = go (eqb n (unmark m .id)) refl
   where
     go : (c : Bool) → eqb n (unmark m .id) ≡ c → Widens n p d (m ∷ env) (mapMark (intoPrototype c p d) m ∷ env′)
     go false q =
-      let ne : n ≡ unmark m .id → ⊥ = λ z. other-id n (unmark m .id) q (sym z) in
-      subst (λ z. Widens n p d (m ∷ env) (z ∷ env′)) (sym (not-into p d m)) (record {
-        agree = agree-cons n m (w .agree);
-        own = λ y e. agree-new m env′ .agrees n ne ∙ w .own y (sym (agree-new m env .agrees n ne) ∙ e) })
+        let ne : n ≡ unmark m .id → ⊥ = λ z. other-id n (unmark m .id) q (sym z) in
+        subst (λ z. Widens n p d (m ∷ env) (z ∷ env′)) (sym (not-into p d m)) (record {
+          agree = agree-cons n m (w .agree);
+          own = λ y e. agree-new m env′ .agrees n ne ∙ w .own y (sym (agree-new m env .agrees n ne) ∙ e);
+        })
     go true q =
-      let is : n ≡ unmark m .id = this-id n (unmark m .id) q in
-      record {
-        agree = record { agrees = λ x ne.
-          agree-new (mapMark (intoPrototype true p d) m) env′ .agrees x (λ z. ne (z ∙ id-into true p d m ∙ sym is))
-          ∙ w .agree .agrees x ne ∙ sym (agree-new m env .agrees x (λ z. ne (z ∙ sym is))) };
-        own = λ y e.
-          find-hit n (mapMark (intoPrototype true p d) m) env′ (is ∙ sym (id-into true p d m))
-          ∙ ap (λ z. some (mapMark (intoPrototype true p d) z)) (some-inj (sym (find-hit n m env is) ∙ e)) }
+        let is : n ≡ unmark m .id = this-id n (unmark m .id) q in
+        record {
+          agree = record {
+            agrees = λ x ne.
+                agree-new (mapMark (intoPrototype true p d) m) env′ .agrees x (λ z. ne (z ∙ id-into true p d m ∙ sym is))
+                ∙ w .agree .agrees x ne ∙ sym (agree-new m env .agrees x (λ z. ne (z ∙ sym is)));
+          };
+          own = λ y e.
+              find-hit n (mapMark (intoPrototype true p d) m) env′ (is ∙ sym (id-into true p d m))
+              ∙ ap (λ z. some (mapMark (intoPrototype true p d) z)) (some-inj (sym (find-hit n m env is) ∙ e));
+        }
 
 pub widens-defines : (n p : ℕ) (d : Consumed ValuePrototype) (v : ℕ → DataValue) (k : ℕ) (M : MarkedRecords) {env env′ : List (Mark MarkedPrototype)} → Widens n p d env env′
     → Widens n p d (markedPrototypes M env) (markedPrototypes (insertField n p d v k M) env′)

@@ -32,12 +32,16 @@ old-save = record { reads = refl; converts = refl; once = (tt, tt) }
 
 allowed : AllAllowed additions (markRecords (oldFile .records))
 unfolding widens
-allowed =
-    (record {
-      definition = record { of = _; defined = refl; position = lit≤ tt; wellFormed = refl; newName = tt };
-      values = (tt, ((λ h. (refl, tt)), tt)) },
-    (record { wellFormed = refl; undefined = refl },
-    (record { wellFormed = refl; enums = λ q e. subst (λ (z : Prototype). EnumsListed (z .fields) (extraBlock .values)) (some-inj e) (tt, tt) }, tt)))
+allowed = (
+  record {
+    definition = record { of = _; defined = refl; position = lit≤ tt; wellFormed = refl; newName = tt };
+    values = (tt, ((λ h. (refl, tt)), tt));
+  },
+  (
+    record { wellFormed = refl; undefined = refl },
+    (record { wellFormed = refl; enums = λ q e. subst (λ (z : Prototype). EnumsListed (z .fields) (extraBlock .values)) (some-inj e) (tt, tt) }, tt),
+  ),
+)
 
 room : Room 6 oldFile [] (widened oldFile additions)
 unfolding widens

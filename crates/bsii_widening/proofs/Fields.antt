@@ -44,7 +44,6 @@ pub data Says (text : ValuePrototype → Value → Option (List ℕ)) : List (Co
       → text (f .value) (v .value) ≡ some t → Says text fs l → Says text (f ∷ fs) (v ∷ l)
 
 module _ {text : ValuePrototype → Value → Option (List ℕ)} where
-
   pub says-length : {fs : List (Consumed ValuePrototype)} {l : List DataValue} → Says text fs l → length fs ≡ length l
   says-length none-left = refl
   says-length (saying t e h) = ap suc (says-length h)
@@ -131,11 +130,13 @@ clear-insert (suc p) n f (inserted x ∷ fs) g h = (h .0, clear-insert p n f fs 
 
 pub distinct-insert : (p : ℕ) (f : Consumed ValuePrototype) (fs : List (Mark (Consumed ValuePrototype))) → T (not (hasName (f .value .name) (all fs))) → Distinct fs
     → Distinct (insertAt p (inserted f) fs)
-distinct-insert p f fs g d = record { clear = λ n h.
-    let k : T (hasName n (olds fs)) = subst (λ z. T (hasName n z)) (olds-insert p f fs) h in
-    clear-insert p n f fs
-    (not-T (same n (f .value .name)) (λ e. T-not (hasName (f .value .name) (all fs)) g (subst (λ z. T (hasName z (all fs))) (same→eq n (f .value .name) e) (has-all n fs k))))
-    (d .clear n k) }
+distinct-insert p f fs g d = record {
+  clear = λ n h.
+      let k : T (hasName n (olds fs)) = subst (λ z. T (hasName n z)) (olds-insert p f fs) h in
+      clear-insert p n f fs
+      (not-T (same n (f .value .name)) (λ e. T-not (hasName (f .value .name) (all fs)) g (subst (λ z. T (hasName z (all fs))) (same→eq n (f .value .name) e) (has-all n fs k))))
+      (d .clear n k);
+}
 
 clear-start : (n : List ℕ) (fs : List (Consumed ValuePrototype)) → Clear n (asOld fs)
 unfolding asOld

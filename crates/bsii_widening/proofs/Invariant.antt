@@ -49,7 +49,6 @@ pub record OldBlock (last : List (Mark MarkedPrototype)) (b : MarkedBlock) : Typ
   pub distinct : Distinct (by .fields)
 
 module _ (text : ValuePrototype → Value → Option (List ℕ)) where
-
   -- `by` is the definition in force, `by′` the last one
   pub record FineBlock (last env : List (Mark MarkedPrototype)) (b : MarkedBlock) : Type 0 where
     pub head : Fits Head headParser (carrying (b .prototypeId)) (b .head)
@@ -91,26 +90,35 @@ module _ (text : ValuePrototype → Value → Option (List ℕ)) where
     where
       go : (c : Bool) → eqb n (b .prototypeId) ≡ c → FineBlock last′ env′ (intoBlock c p v b)
       go false q = record {
-        head = g .head; id = g .id;
-        by = g .by; found = we .agree .agrees (b .prototypeId) (other-id n (b .prototypeId) q) ∙ g .found; values = g .values;
-        by′ = g .by′; found′ = wl .agree .agrees (b .prototypeId) (other-id n (b .prototypeId) q) ∙ g .found′; says = g .says }
+        head = g .head;
+        id = g .id;
+        by = g .by;
+        found = we .agree .agrees (b .prototypeId) (other-id n (b .prototypeId) q) ∙ g .found;
+        values = g .values;
+        by′ = g .by′;
+        found′ = wl .agree .agrees (b .prototypeId) (other-id n (b .prototypeId) q) ∙ g .found′;
+        says = g .says;
+      }
       go true q =
-        let w = a (subst T (sym q) tt) in
-        let t = has (d .value) (v .value) (w .1) in
-        record {
-          head = g .head; id = g .id;
-          by = mapMark (intoPrototype true p d) (g .by);
-          found = own-known n p d (b .prototypeId) q we (g .found);
-          values = subst₂ GoodValues (sym (into-all p d (g .by))) (sym (all-insert p v (b .values))) (values-insert p (good-value d v (w .0)) (g .values));
-          by′ = mapMark (intoPrototype true p d) (g .by′);
-          found′ = own-known n p d (b .prototypeId) q wl (g .found′);
-          says = subst₂ (Says text) (sym (into-all p d (g .by′))) (sym (all-insert p v (b .values))) (says-insert p d v (t .0) (t .1) (g .says)) }
+          let w = a (subst T (sym q) tt) in
+          let t = has (d .value) (v .value) (w .1) in
+          record {
+            head = g .head;
+            id = g .id;
+            by = mapMark (intoPrototype true p d) (g .by);
+            found = own-known n p d (b .prototypeId) q we (g .found);
+            values = subst₂ GoodValues (sym (into-all p d (g .by))) (sym (all-insert p v (b .values))) (values-insert p (good-value d v (w .0)) (g .values));
+            by′ = mapMark (intoPrototype true p d) (g .by′);
+            found′ = own-known n p d (b .prototypeId) q wl (g .found′);
+            says = subst₂ (Says text) (sym (into-all p d (g .by′))) (sym (all-insert p v (b .values))) (says-insert p d v (t .0) (t .1) (g .says));
+          }
 
   pub prototype-into : (c : Bool) (p : ℕ) (d : Consumed ValuePrototype) (m : MarkedPrototype) → GoodField d → GoodPrototype (newPrototype m) → GoodPrototype (newPrototype (intoPrototype c p d m))
   prototype-into c p d m g h = record {
-      head = h .head;
-      fields = subst GoodFields (sym (all-insertIf c p d (m .fields))) (fields-insert c p g (h .fields));
-      last = h .last }
+    head = h .head;
+    fields = subst GoodFields (sym (all-insertIf c p d (m .fields))) (fields-insert c p g (h .fields));
+    last = h .last;
+  }
 
   -- the name is none of the last definition's
   abbrev NewName : ℕ → Consumed ValuePrototype → List (Mark MarkedPrototype) → Type 0
@@ -127,7 +135,8 @@ module _ (text : ValuePrototype → Value → Option (List ℕ)) where
         by = intoPrototype true p d (o .by);
         found = own-known n p d (b .prototypeId) q wl (o .found);
         aligned = aligned-insert p d v (o .aligned);
-        distinct = distinct-insert p d (o .by .fields) (a (old (o .by)) (ap (λ z. getMarked z last) (this-id n (b .prototypeId) q) ∙ o .found)) (o .distinct) }
+        distinct = distinct-insert p d (o .by .fields) (a (old (o .by)) (ap (λ z. getMarked z last) (this-id n (b .prototypeId) q) ∙ o .found)) (o .distinct);
+      }
 
   inv-into : HasText text → (n p : ℕ) (d : Consumed ValuePrototype) (v : ℕ → DataValue) (k : ℕ) {last last′ env env′ : List (Mark MarkedPrototype)} {M : MarkedRecords}
       → GoodField d → NewName n d last → Widens n p d last last′ → Widens n p d env env′ → ValuesAllowed n d v k M → Inv last env M → Inv last′ env′ (insertField n p d v k M)
@@ -149,8 +158,15 @@ module _ (text : ValuePrototype → Value → Option (List ℕ)) where
 
   fine-agree : (x : ℕ) {last last′ env env′ : List (Mark MarkedPrototype)} {b : MarkedBlock} → getMarked x last ≡ none → Agree x last last′ → Agree x env env′ → FineBlock last env b → FineBlock last′ env′ b
   fine-agree x {b = b} u a a′ g = record {
-      head = g .head; id = g .id; by = g .by; found = a′ .agrees (b .prototypeId) (other x u g) ∙ g .found; values = g .values;
-      by′ = g .by′; found′ = a .agrees (b .prototypeId) (other x u g) ∙ g .found′; says = g .says }
+    head = g .head;
+    id = g .id;
+    by = g .by;
+    found = a′ .agrees (b .prototypeId) (other x u g) ∙ g .found;
+    values = g .values;
+    by′ = g .by′;
+    found′ = a .agrees (b .prototypeId) (other x u g) ∙ g .found′;
+    says = g .says;
+  }
 
   old-agree : (x : ℕ) {last last′ : List (Mark MarkedPrototype)} {b : MarkedBlock} → (b .prototypeId ≡ x → ⊥) → Agree x last last′ → OldBlock last b → OldBlock last′ b
   old-agree x {b = b} n a o = record { by = o .by; found = a .agrees (b .prototypeId) n ∙ o .found; aligned = o .aligned; distinct = o .distinct }
@@ -183,10 +199,15 @@ module _ (text : ValuePrototype → Value → Option (List ℕ)) where
       let x = new-back (b .prototypeId) env (g .found) in
       let y = new-back (b .prototypeId) last e in
       record {
-        head = g .head; id = g .id; by = x .0; found = x .1;
+        head = g .head;
+        id = g .id;
+        by = x .0;
+        found = x .1;
         values = subst₂ GoodValues (ap (λ (p : Prototype). p .fields) (sym (x .2))) (sym (all-asOld (b .values))) (g .values);
-        by′ = y .0; found′ = y .1;
-        says = subst₂ (Says text) (ap (λ (p : Prototype). p .fields) (sym (y .2))) (sym (all-asOld (b .values))) h }
+        by′ = y .0;
+        found′ = y .1;
+        says = subst₂ (Says text) (ap (λ (p : Prototype). p .fields) (sym (y .2))) (sym (all-asOld (b .values))) h;
+      }
 
   inv-block : (k : ℕ) (b : DataBlock) (by : Prototype) {last env : List (Mark MarkedPrototype)} {M : MarkedRecords} → getPrototype (b .prototypeId) (newEnv last) ≡ some by → Says text (by .fields) (b .values)
       → GoodBlock (defineAll (take k (newRecords M)) (newEnv env)) b → Inv last env M → Inv last env (insertAt k (inserted (markedBlock (markBlock b))) M)

@@ -145,7 +145,6 @@ index-some l (some i) e = (i, refl)
 -- ---- an old block, where it stands now
 
 module _ (text : ValuePrototype → Value → Option (List ℕ)) where
-
   record Stands (last : List (Mark MarkedPrototype)) (M : MarkedRecords) (k : ℕ) (b : DataBlock) : Type 0 where
     pub at : MarkedBlock
     pub there : getElem? (blocks (newRecords M)) (renumber M k) ≡ some (newBlock at)
@@ -176,8 +175,8 @@ module _ (text : ValuePrototype → Value → Option (List ℕ)) where
   unfolding valueOf unmark
   found-at M k name c e m o there here =
       let before : atIndex (olds (m .values)) (fieldIndex name (olds (o .by .fields))) ≡ some c =
-        sym (value-at name (prototypesOf (oldRecords M)) (getElem? (blocks (oldRecords M)) k) (oldBlock m) (oldPrototype (o .by)) here
-        (ap (getPrototype (m .prototypeId)) (old-last M) ∙ old-known (m .prototypeId) (markedPrototypes M []) (o .found))) ∙ e in
+      sym (value-at name (prototypesOf (oldRecords M)) (getElem? (blocks (oldRecords M)) k) (oldBlock m) (oldPrototype (o .by)) here
+      (ap (getPrototype (m .prototypeId)) (old-last M) ∙ old-known (m .prototypeId) (markedPrototypes M []) (o .found))) ∙ e in
       let i = index-some (olds (m .values)) (fieldIndex name (olds (o .by .fields))) before in
       value-at name (prototypesOf (newRecords M)) (getElem? (blocks (newRecords M)) (renumber M k)) (newBlock m) (newPrototype (o .by)) there
       (ap (getPrototype (m .prototypeId)) (new-last M) ∙ new-known (m .prototypeId) (markedPrototypes M []) (o .found))
@@ -197,5 +196,5 @@ module _ (text : ValuePrototype → Value → Option (List ℕ)) where
       let x = to-value (fieldIn name (prototypesOf (f .records)) (getElem? (blocksOf f) k)) e in
       let was : valueOf (oldRecords M) k name ≡ some (x .0) = ap (λ l. valueOf l k name) before ∙ sym (bare-field f k name) ∙ x .1 in
       let y = of-value (fieldIn name (prototypesOf (g .records)) (getElem? (blocksOf g) (renumber M k)))
-        (bare-field g (renumber M k) name ∙ ap (λ l. valueOf l (renumber M k) name) after ∙ found-again M h k name (x .0) was) in
+      (bare-field g (renumber M k) name ∙ ap (λ l. valueOf l (renumber M k) name) after ∙ found-again M h k name (x .0) was) in
       (y .0, y .1, y .2 ∙ sym (x .2), y .3 ∙ sym (x .3))

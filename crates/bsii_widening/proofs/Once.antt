@@ -129,9 +129,10 @@ once-prototype : (k : ℕ) (p : Prototype) (l : List Record) → NoIdTwice l →
 unfolding insertAt definesId
 once-prototype zero p l o h = (h, o)
 once-prototype (suc k) p [] o h = (tt, tt)
-once-prototype (suc k) p (prototype m ∷ l) o h =
-    (defines-prototype (m .id) k p l (not-sym (p .id) (m .id) (nor-left (eqb (p .id) (m .id)) (definesId (p .id) l) h)) (o .0),
-    once-prototype k p l (o .1) (nor-right (eqb (p .id) (m .id)) (definesId (p .id) l) h))
+once-prototype (suc k) p (prototype m ∷ l) o h = (
+  defines-prototype (m .id) k p l (not-sym (p .id) (m .id) (nor-left (eqb (p .id) (m .id)) (definesId (p .id) l) h)) (o .0),
+  once-prototype k p l (o .1) (nor-right (eqb (p .id) (m .id)) (definesId (p .id) l) h),
+)
 once-prototype (suc k) p (block b ∷ l) o h = once-prototype k p l o h
 
 defines-block : (x k : ℕ) (b : DataBlock) (l : List Record) → definesId x (insertAt k (block b) l) ≡ definesId x l

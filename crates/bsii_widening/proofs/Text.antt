@@ -45,7 +45,6 @@ framed-olds o x =
     ∙ sym (append-assoc o (concat (olds x)) closing)
 
 module _ (text : ValuePrototype → Value → Option (List ℕ)) where
-
   -- ---- a block
 
   lines : List (Consumed ValuePrototype) → List DataValue → List ℕ
@@ -140,9 +139,6 @@ module _ (text : ValuePrototype → Value → Option (List ℕ)) where
 
   -- ---- the file
 
-
-
-
   pub new-text : (f : BsiiFile) (M : MarkedRecords) → Sound text M
       → fileText text (record { header = f .header; records = newRecords M; end = f .end }) ≡ gives (concat (all (textParts text M)))
   unfolding fileText textParts joined
@@ -223,10 +219,15 @@ module _ (text : ValuePrototype → Value → Option (List ℕ)) where
       let y = block-said at (getPrototype (b .prototypeId) last) b (x .2) in
       block-old
       (record {
-        head = g .head; id = g .id; by = old (markPrototype (g .by)); found = start-known (b .prototypeId) env (g .found);
+        head = g .head;
+        id = g .id;
+        by = old (markPrototype (g .by));
+        found = start-known (b .prototypeId) env (g .found);
         values = subst₂ GoodValues (sym (all-asOld (g .by .fields))) (sym (all-asOld (b .values))) (g .values);
-        by′ = old (markPrototype (y .0)); found′ = start-known (b .prototypeId) last (y .1);
-        says = subst₂ (Says text) (sym (all-asOld (y .0 .fields))) (sym (all-asOld (b .values))) (y .2) })
+        by′ = old (markPrototype (y .0));
+        found′ = start-known (b .prototypeId) last (y .1);
+        says = subst₂ (Says text) (sym (all-asOld (y .0 .fields))) (sym (all-asOld (b .values))) (y .2);
+      })
       (record { by = markPrototype (y .0); found = start-known (b .prototypeId) last (y .1); aligned = aligned-start (y .2); distinct = distinct-start (y .0 .fields) })
       (inv-start last (at + length (recordBytes (block b))) h (x .3))
 

@@ -57,8 +57,13 @@ block-fault : (env : List Prototype) (b : DataBlock) (q : Prototype) (p : ℕ) (
     → recordParser env at (recordBytes (block b) ++ t) ≡ faultAt unlistedType (valuesOffset at b + length (valuesBytes (take p (b .values))))
 unfolding recordParser after recordBytes stepParser dataBlockParser _>>=_ valuesOffset
 block-fault env b q p d v fs l h i k e u x g o at t =
-    rw (append-assoc (b .head) (b .id .raw ++ valuesBytes (b .values)) t, append-assoc (b .id .raw) (valuesBytes (b .values)) t,
-      consumed-fits h .reads at (b .id .raw ++ (valuesBytes (b .values) ++ t)), k, consumed-fits i .reads (at + length (b .head)) (valuesBytes (b .values) ++ t))
+    rw (
+      append-assoc (b .head) (b .id .raw ++ valuesBytes (b .values)) t,
+      append-assoc (b .id .raw) (valuesBytes (b .values)) t,
+      consumed-fits h .reads at (b .id .raw ++ (valuesBytes (b .values) ++ t)),
+      k,
+      consumed-fits i .reads (at + length (b .head)) (valuesBytes (b .values) ++ t),
+    )
     (map-fault (blockStep (b .head) (b .prototypeId) (b .id)) (dataValuesParser (q .fields)) (at + length (b .head) + length (b .id .raw)) (valuesBytes (b .values) ++ t)
     (rw (e, u) (values-fault p d v x g o (at + length (b .head) + length (b .id .raw)) t)))
 
@@ -78,7 +83,6 @@ records-past rooms m env i l at t x g o e =
 
 module _ (text : ValuePrototype → Value → Option (List ℕ)) (rooms n p : ℕ) (d : Consumed ValuePrototype) (v : ℕ → DataValue) (last : List (Mark MarkedPrototype)) (g : GoodField d)
     (u : shapeOf (d .value .typeId) ≡ none) (inside : (m : Mark MarkedPrototype) → getMarked n last ≡ some m → p ≤ length (all (unmark m .fields))) where
-
   abbrev Stops : List (Mark MarkedPrototype) → ℕ → MarkedRecords → ℕ → Type 0
   Stops env′ k M m = (at : ℕ) (t : List ℕ) (x : ℕ) → firstCarried n p at (newRecords (insertField n p d v k M)) ≡ some x
       → distinctIds (defineAll (newRecords (insertField n p d v k M)) (newEnv env′)) ≤ rooms
@@ -93,26 +97,27 @@ module _ (text : ValuePrototype → Value → Option (List ℕ)) (rooms n p : �
     where
       L : List Record
       L = newRecords (insertField n p d v (suc k) l)
+
       go : (c : Bool) → eqb n (b .prototypeId) ≡ c
-        → cond c (some (at + length (b .head) + length (b .id .raw) + length (valuesBytes (take p (all (insertIf c p (inserted (v k)) (b .values)))))))
+          → cond c (some (at + length (b .head) + length (b .id .raw) + length (valuesBytes (take p (all (insertIf c p (inserted (v k)) (b .values)))))))
           (firstCarried n p (at + length (recordBytes (block (newBlock (intoBlock c p (v k) b))))) L) ≡ some x
-        → distinctIds (defineAll (block (newBlock (intoBlock c p (v k) b)) ∷ L) (newEnv env′)) ≤ rooms
-        → recordsFrom rooms (suc m) (newEnv env′) at (recordsBytes (block (newBlock (intoBlock c p (v k) b)) ∷ L) ++ t) ≡ faultAt unlistedType x
+          → distinctIds (defineAll (block (newBlock (intoBlock c p (v k) b)) ∷ L) (newEnv env′)) ≤ rooms
+          → recordsFrom rooms (suc m) (newEnv env′) at (recordsBytes (block (newBlock (intoBlock c p (v k) b)) ∷ L) ++ t) ≡ faultAt unlistedType x
       go true q z r =
-        records-stop rooms m (newEnv env′) at (recordBytes (block (newBlock (intoBlock true p (v k) b))) ++ recordsBytes L ++ t)
-        (ap (recordParser (newEnv env′) at) (append-assoc (recordBytes (block (newBlock (intoBlock true p (v k) b)))) (recordsBytes L) t)
-        ∙ block-fault (newEnv env′) (newBlock (intoBlock true p (v k) b)) (newPrototype (unmark (mapMark (intoPrototype true p d) (h .by)))) p d (v k) (all (unmark (h .by) .fields)) (all (b .values)) (h .head) (h .id)
-        (new-known (b .prototypeId) env′ (own-known n p d (b .prototypeId) q we (h .found)))
-        (into-all p d (h .by))
-        (all-insert p (v k) (b .values))
-        u (h .values)
-        (omega (arith, inside (h .by′) (ap (λ c. getMarked c last) (this-id n (b .prototypeId) q) ∙ h .found′), says-length (h .says)))
-        at (recordsBytes L ++ t)
-        ∙ ap (λ i. faultAt unlistedType i) (some-inj z))
+          records-stop rooms m (newEnv env′) at (recordBytes (block (newBlock (intoBlock true p (v k) b))) ++ recordsBytes L ++ t)
+          (ap (recordParser (newEnv env′) at) (append-assoc (recordBytes (block (newBlock (intoBlock true p (v k) b)))) (recordsBytes L) t)
+          ∙ block-fault (newEnv env′) (newBlock (intoBlock true p (v k) b)) (newPrototype (unmark (mapMark (intoPrototype true p d) (h .by)))) p d (v k) (all (unmark (h .by) .fields)) (all (b .values)) (h .head) (h .id)
+          (new-known (b .prototypeId) env′ (own-known n p d (b .prototypeId) q we (h .found)))
+          (into-all p d (h .by))
+          (all-insert p (v k) (b .values))
+          u (h .values)
+          (omega (arith, inside (h .by′) (ap (λ c. getMarked c last) (this-id n (b .prototypeId) q) ∙ h .found′), says-length (h .says)))
+          at (recordsBytes L ++ t)
+          ∙ ap (λ i. faultAt unlistedType i) (some-inj z))
       go false q z r =
-        records-past rooms m (newEnv env′) (block (newBlock b)) L at t (record { number = unlistedType; offset = x })
-        (record { head = h .head; id = h .id; by = newPrototype (unmark (h .by)); found = new-known (b .prototypeId) env′ (we .agree .agrees (b .prototypeId) (other-id n (b .prototypeId) q) ∙ h .found); values = h .values }) r
-        (ih (at + length (recordBytes (block (newBlock b)))) t x z r)
+          records-past rooms m (newEnv env′) (block (newBlock b)) L at t (record { number = unlistedType; offset = x })
+          (record { head = h .head; id = h .id; by = newPrototype (unmark (h .by)); found = new-known (b .prototypeId) env′ (we .agree .agrees (b .prototypeId) (other-id n (b .prototypeId) q) ∙ h .found); values = h .values }) r
+          (ih (at + length (recordBytes (block (newBlock b)))) t x z r)
 
   stops : (k m : ℕ) {env env′ : List (Mark MarkedPrototype)} {M : MarkedRecords} → Widens n p d env env′ → Inv text last env M → length M ≤ m → Stops env′ k M m
   unfolding newRecords insertField firstCarried unmark mapMark defineAll define
@@ -149,10 +154,10 @@ module _ (text : ValuePrototype → Value → Option (List ℕ)) (rooms n p : �
   file-stops f r x {M} h q we i o e =
       let long : length M ≤ length (recordsBytes (f .records) ++ f .end ++ r) = rw (length-append, length-append) (omega (arith, insert-long 0 i, ap (λ z. length (recordsBytes z)) q)) in
       let body : recordsFrom rooms (length (recordsBytes (f .records) ++ f .end ++ r)) [] (length (f .header .raw)) (recordsBytes (f .records) ++ f .end ++ r) ≡ faultAt unlistedType x =
-        ap₂ (λ (z : List Record) (y : List ℕ). recordsFrom rooms (length (recordsBytes (f .records) ++ f .end ++ r)) [] (length (f .header .raw)) y) q
-        (append-assoc (recordsBytes (f .records)) (f .end) r ∙ ap (λ z. recordsBytes z ++ (f .end ++ r)) q)
-        ∙ stops 0 (length (recordsBytes (f .records) ++ f .end ++ r)) we i long (length (f .header .raw)) (f .end ++ r) x
-        (ap (firstCarried n p (length (f .header .raw))) (sym q) ∙ e) (subst (λ z. distinctIds (defineAll z []) ≤ rooms) q o) in
+      ap₂ (λ (z : List Record) (y : List ℕ). recordsFrom rooms (length (recordsBytes (f .records) ++ f .end ++ r)) [] (length (f .header .raw)) y) q
+      (append-assoc (recordsBytes (f .records)) (f .end) r ∙ ap (λ z. recordsBytes z ++ (f .end ++ r)) q)
+      ∙ stops 0 (length (recordsBytes (f .records) ++ f .end ++ r)) we i long (length (f .header .raw)) (f .end ++ r) x
+      (ap (firstCarried n p (length (f .header .raw))) (sym q) ∙ e) (subst (λ z. distinctIds (defineAll z []) ≤ rooms) q o) in
       rw (append-assoc (f .header .raw) (recordsBytes (f .records) ++ f .end) r, consumed-fits h .reads 0 (recordsBytes (f .records) ++ f .end ++ r), zero-add)
       (map-fault (bsiiFile (f .header)) (recordsParser rooms) (length (f .header .raw)) (recordsBytes (f .records) ++ f .end ++ r) body)
 

@@ -77,9 +77,9 @@ LastUnlisted words s out f r size words′ M =
     (n p : ℕ) (d : Consumed ValuePrototype) (v : ℕ → DataValue) → DefinitionAllowed n p d M → shapeOf (d .value .typeId) ≡ none
     → Room words′ f r (insert (aField n p d v) M)
     → ((x : ℕ) → firstCarried n p (length (f .header .raw)) (newRecords (insert (aField n p d v) M)) ≡ some x
-      → Refused words′ x (newFile f r (insert (aField n p d v) M)))
+    → Refused words′ x (newFile f r (insert (aField n p d v) M)))
     × (firstCarried n p (length (f .header .raw)) (newRecords (insert (aField n p d v) M)) ≡ none
-      → StillConverts words s out f r size words′ (insert (aField n p d v) M))
+    → StillConverts words s out f r size words′ (insert (aField n p d v) M))
 
 -- "Demand 3 is a single claim about the whole list, the empty one included"
 abbrev pub Demand3 : Type 0

@@ -33,15 +33,21 @@ enumFive k = record { typeId = 0x37; value = single (with (nums enum (5 ∷ []))
 -- (ii) the prototype 9, `p`, with one bool `b`
 unfoldable pub extraPrototype : Prototype
 extraPrototype = record {
-    head = u32 0 ++ le 1 1 ++ u32 9 ++ u32 1 ++ ascii "p"; id = 9; name = ascii "p";
-    fields = with (record { typeId = 0x35; name = ascii "b"; enumValues = [] }) (u32 0x35 ++ u32 1 ++ ascii "b") ∷ [];
-    terminator = u32 0 }
+  head = u32 0 ++ le 1 1 ++ u32 9 ++ u32 1 ++ ascii "p";
+  id = 9;
+  name = ascii "p";
+  fields = with (record { typeId = 0x35; name = ascii "b"; enumValues = [] }) (u32 0x35 ++ u32 1 ++ ascii "b") ∷ [];
+  terminator = u32 0;
+}
 
 -- (iii) a block of it, with the id `null`
 unfoldable pub extraBlock : DataBlock
 extraBlock = record {
-    head = u32 9; prototypeId = 9; id = with (named []) (le 1 0);
-    values = record { typeId = 0x35; value = single (with (nums bool (1 ∷ [])) (le 1 1)); raw = le 1 1 } ∷ [] }
+  head = u32 9;
+  prototypeId = 9;
+  id = with (named []) (le 1 0);
+  values = record { typeId = 0x35; value = single (with (nums bool (1 ∷ [])) (le 1 1)); raw = le 1 1 } ∷ [];
+}
 
 -- the prototype in front of the first record, the block in front of the end record
 unfoldable pub additions : List Insertion

@@ -31,7 +31,6 @@ getMarked = findBy (λ (m : Mark MarkedPrototype). unmark m .id)
 
 -- `text` gives a field's lines, as in the text's own definition
 module _ (text : ValuePrototype → Value → Option (List ℕ)) where
-
   unfoldable pub linesOf : ValuePrototype → DataValue → List ℕ
   linesOf d v = orNothing (text d (v .value))
 
