@@ -1,0 +1,38 @@
+-- The rows of the table: three words for each prototype id, (id, offset of the definition in force, offset of the last definition).
+-- A zero id is a valid id and the words may come in with anything in them, so the number of rows is carried beside the table.
+use Prim.Native.Nat.{ℕ, zero, suc, _+_, _*_, _≤_, _<_}
+use mathlib.Core.Path.{_≡_}
+use mathlib.Core.Bool.{cond}
+use mathlib.Core.Option.{Option, none, some}
+use mathlib.Core.List.{List}
+use lib.ListN.{length, getD}
+use lib.Dec.{eqb}
+
+-- the two offsets of an id
+pub record Row : Type 0 where
+  pub inForce : ℕ
+  pub last : ℕ
+
+abbrev pub offsets : ℕ → ℕ → Row
+offsets a b = record { inForce = a; last = b }
+
+abbrev pub idAt : List ℕ → ℕ → ℕ
+idAt t i = getD t (3 * i) 0
+
+abbrev pub rowAt : List ℕ → ℕ → Row
+rowAt t i = offsets (getD t (3 * i + 1) 0) (getD t (3 * i + 2) 0)
+
+-- the first of so many rows, from the row i on, whose id word is the id
+unfoldable pub lookupFrom : List ℕ → ℕ → ℕ → ℕ → Option Row
+lookupFrom t i zero id = none
+lookupFrom t i (suc left) id = cond (eqb id (idAt t i)) (some (rowAt t i)) (lookupFrom t (suc i) left id)
+
+-- the first row among `rows` whose id word is the id
+abbrev pub lookup : List ℕ → ℕ → ℕ → Option Row
+lookup t rows id = lookupFrom t 0 rows id
+
+-- What a number of rows means: the words are there, and no id has two rows. Callers carry it and never look into it: rows that are kept
+-- sorted add a field here.
+pub record Rows (t : List ℕ) (rows : ℕ) : Type 0 where
+  pub room : 3 * rows ≤ length t
+  pub once : (i j : ℕ) → i < rows → j < rows → idAt t i ≡ idAt t j → i ≡ j

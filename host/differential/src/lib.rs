@@ -1,0 +1,13 @@
+//! The comparison of the library, the model and the unchanged Rust.
+
+pub mod compare;
+pub mod large;
+#[cfg(feature = "linked-lookups")]
+pub mod linked;
+mod model_side;
+mod oracle_side;
+mod plan;
+pub mod report;
+pub mod shrink;
+mod side;
+pub mod watch;

@@ -1,0 +1,193 @@
+//! The library against the model: every answer, with its offsets, and tables of all sizes.
+
+use crate::plan::{indices, Plan, TEXT_MEMORY};
+use crate::report::{Check, Tally};
+use crate::side::Side;
+use calls::Implementation;
+use generate::Random;
+use model::Model;
+
+/// How often the two are asked for the same thing with a random table size.
+const TABLE_SIZES: usize = 2;
+
+const WHO: &str = "library and model";
+
+pub struct Pair<'a, 'b> {
+    pub library: &'a mut Side<'b>,
+    pub model: &'a mut Side<'b>,
+    pub file: &'a [u8],
+    pub with_text: bool,
+    pub tally: &'a mut Tally,
+}
+
+macro_rules! both {
+    ($pair:ident, $call:ident, $label:literal $(, $argument:expr)*) => {{
+        let found = $pair.library.$call($pair.file $(, $argument)*)?;
+        let expected = $pair.model.$call($pair.file $(, $argument)*)?;
+        let asked = || format!("{:?}", ($($argument,)*));
+        $pair.tally.same((WHO, $label), asked, found, expected)?;
+        found
+    }};
+}
+
+impl Pair<'_, '_> {
+    pub fn compare(&mut self, plan: &Plan, random: &mut Random) -> Check {
+        self.lookups(plan)?;
+        self.fields(plan)?;
+        if self.with_text {
+            self.text(plan.words)?;
+        }
+        self.table_sizes(plan, random)
+    }
+
+    fn lookups(&mut self, plan: &Plan) -> Check {
+        let words = plan.words;
+        both!(self, read, "reading", words);
+        for id in &plan.ids {
+            both!(self, get_prototype, "prototype", words, *id);
+        }
+        for n in &plan.blocks {
+            both!(self, block_at, "block", words, *n);
+        }
+        for name in &plan.names {
+            let mut n = 0;
+            while both!(self, named, "blocks_by_prototype_name", words, name, n).number == 0 {
+                n += 1;
+            }
+            both!(
+                self,
+                named,
+                "blocks_by_prototype_name",
+                words,
+                name,
+                u64::MAX
+            );
+        }
+        Ok(())
+    }
+
+    fn fields(&mut self, plan: &Plan) -> Check {
+        for n in &plan.blocks {
+            for name in &plan.names {
+                let field = both!(self, field, "field", plan.words, *n, name);
+                if field.number == 0 {
+                    let start = field.part_offset as usize;
+                    let part = &self.file[start..start + field.part_len as usize];
+                    self.elements(field.type_id, part)?;
+                }
+            }
+        }
+        Ok(())
+    }
+
+    fn elements(&mut self, type_id: u32, part: &[u8]) -> Check {
+        let mut count = 0;
+        while count < 8 && self.model.element(type_id, part, count).number == 0 {
+            count += 1;
+        }
+        for index in indices(count) {
+            self.element(type_id, part, index)?;
+        }
+        Ok(())
+    }
+
+    /// The element call with any bytes.
+    pub fn element(&mut self, type_id: u32, part: &[u8], index: u64) -> Check {
+        let found = self.library.element(type_id, part, index);
+        let expected = self.model.element(type_id, part, index);
+        let asked = || format!("type {type_id:#x}, index {index}, {part:02x?}");
+        self.tally.same((WHO, "element"), asked, found, expected)
+    }
+
+    /// With no room; and, as long as the text is of a size to be written, with room to spare, with
+    /// exact room and with one byte too few.
+    fn text(&mut self, words: usize) -> Check {
+        let refused = both!(self, text, "text", words, 0);
+        if refused.number != 11 || refused.length > TEXT_MEMORY {
+            return Ok(());
+        }
+        let needed = refused.length as usize;
+        for room in [needed - 1, needed, needed + 5] {
+            self.text_in(words, room)?;
+        }
+        Ok(())
+    }
+
+    fn text_in(&mut self, words: usize, room: usize) -> Check {
+        let answer = both!(self, text, "text", words, room);
+        if answer.number != 0 {
+            return Ok(());
+        }
+        let [found, expected] = [&self.library, &self.model]
+            .map(|side| String::from_utf8_lossy(side.written(answer)).into_owned());
+        self.tally
+            .same((WHO, "text bytes"), String::new, found, expected)
+    }
+
+    /// Exactly enough words, one too few, small tables and a large one.
+    fn table_sizes(&mut self, plan: &Plan, random: &mut Random) -> Check {
+        let exact = 3 * plan.distinct.unwrap_or(3);
+        let less = random.below(exact + 1);
+        let sizes = [
+            0,
+            1,
+            2,
+            3,
+            exact,
+            exact + 1,
+            exact.saturating_sub(1),
+            less,
+            3 * exact + 40,
+        ];
+        for _ in 0..TABLE_SIZES {
+            self.table_size(plan, random.pick(&sizes))?;
+        }
+        Ok(())
+    }
+
+    fn table_size(&mut self, plan: &Plan, words: usize) -> Check {
+        let last = plan.names.len() - 1;
+        both!(self, read, "reading", words);
+        both!(self, get_prototype, "prototype", words, plan.ids[0]);
+        both!(self, block_at, "block", words, 0);
+        both!(
+            self,
+            named,
+            "blocks_by_prototype_name",
+            words,
+            &plan.names[last],
+            0
+        );
+        both!(self, field, "field", words, 0, &plan.names[last]);
+        if self.with_text {
+            self.text(words)?;
+        }
+        Ok(())
+    }
+}
+
+/// A faulty value's reply is the Rust's reply to a file whose only block starts with that value.
+pub fn element_fault(type_id: u32, part: &[u8], tally: &mut Tally) -> Check {
+    let refused = Model::default().element_of(type_id, part, 0);
+    // A definition cannot have type 0.
+    if type_id == 0 || !matches!(refused.number, 3 | 4 | 5 | 7) {
+        return Ok(());
+    }
+    let mut file = b"BSII\x02\0\0\0\0\0\0\0\x01\x01\0\0\0\0\0\0\0".to_vec();
+    file.extend(type_id.to_le_bytes());
+    let empty_list = if type_id == 0x37 { 4 } else { 0 };
+    file.extend(vec![0; 4 + empty_list + 4]);
+    file.extend([1, 0, 0, 0, 0]);
+    file.extend_from_slice(part);
+    let rust = match oracle::parse(&file) {
+        Err(oracle::Fault::Number(number)) => number,
+        _ => 0,
+    };
+    let asked = || format!("type {type_id:#x}, {part:02x?}");
+    tally.same(
+        ("model and Rust", "faulty value"),
+        asked,
+        refused.number,
+        rust,
+    )
+}

@@ -1,0 +1,64 @@
+//! What is asked about a file.
+
+use model::{Model, Place};
+
+/// The text length up to which the Rust is asked for the text.
+pub const TEXT_MEMORY: u64 = 64 << 20;
+
+pub struct Plan {
+    pub names: Vec<Vec<u8>>,
+    pub ids: Vec<u32>,
+    pub blocks: Vec<u64>,
+    /// Words enough for the file, and two that hold nothing.
+    pub words: usize,
+    /// The distinct ids, if the file is accepted.
+    pub distinct: Option<usize>,
+}
+
+impl Plan {
+    pub fn new(model: &mut Model, file: &[u8]) -> Plan {
+        let mut plan = Plan {
+            names: vec![b"".to_vec(), b"nowhere".to_vec(), vec![0xff]],
+            ids: vec![0, 1, 0xffff_ffff],
+            blocks: vec![0, u64::MAX, 1 << 32],
+            // A prototype has at least 17 bytes.
+            words: 3 * (file.len() / 17) + 2,
+            distinct: None,
+        };
+        if let Ok(parsed) = model.parsed(file, usize::MAX) {
+            let name = |place: &Place| place.of(file).to_vec();
+            plan.names.extend(parsed.names.iter().map(name));
+            plan.ids.extend(parsed.prototypes.iter().map(|p| p.id));
+            plan.blocks.extend(0..=parsed.blocks.len() as u64);
+            plan.distinct = Some(parsed.prototypes.len());
+            plan.words = 3 * parsed.prototypes.len() + 2;
+            plan.add_close_names();
+        }
+        plan.names.sort();
+        plan.names.dedup();
+        plan.ids.sort();
+        plan.ids.dedup();
+        plan.blocks.sort();
+        plan.blocks.dedup();
+        plan
+    }
+
+    /// Names that share a start with one of the file.
+    fn add_close_names(&mut self) {
+        let Some(longest) = self.names.iter().max_by_key(|name| name.len()) else {
+            return;
+        };
+        let shorter = longest[..longest.len() - 1].to_vec();
+        let longer = [longest.as_slice(), b"x"].concat();
+        self.names.extend([shorter, longer]);
+    }
+}
+
+/// The indices that are asked of a value with `count` elements: the first ones, the last one, and
+/// three that are absent.
+pub fn indices(count: u64) -> impl Iterator<Item = u64> {
+    let last = count.saturating_sub(1);
+    let first = 0..count.min(6);
+    let tail = (last >= 6).then_some(last);
+    first.chain(tail).chain([count, count + 1, u64::MAX])
+}

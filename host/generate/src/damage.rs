@@ -1,0 +1,79 @@
+//! Damaged copies of files.
+
+use crate::valid::{self, Made};
+use crate::Random;
+
+const HUGE: [u32; 8] = [
+    0xffff_ffff,
+    0xffff_fffe,
+    0x8000_0000,
+    0x7fff_ffff,
+    0x1000_0000,
+    0x0100_0001,
+    0x0001_0000,
+    256,
+];
+
+pub fn damage(random: &mut Random, made: &mut Made) {
+    for _ in 0..1 + random.below(6) / 3 {
+        change(random, made);
+    }
+}
+
+fn change(random: &mut Random, made: &mut Made) {
+    let len = made.bytes.len();
+    let at = random.below(len);
+    match random.below(10) {
+        0 if len > 0 => made.bytes[at] ^= 1 << random.below(8),
+        1 if len > 0 => made.bytes[at] = random.pick(&[0, 1, 2, 0x37, 0x7f, 0x80, 0xfe, 0xff]),
+        2 | 3 => made.bytes.truncate(at),
+        4 => splice(random, made, at),
+        5 => insert(random, made, at),
+        6 => delete(random, made, at),
+        _ => change_number(random, made),
+    }
+}
+
+/// The front of one file and the rear of another.
+fn splice(random: &mut Random, made: &mut Made, at: usize) {
+    let other = valid::file(random).bytes;
+    let from = random.below(other.len());
+    made.bytes.truncate(at);
+    made.bytes.extend_from_slice(&other[from..]);
+}
+
+fn insert(random: &mut Random, made: &mut Made, at: usize) {
+    let len = 1 + random.below(9);
+    let byte = random.number() as u8;
+    let same = random.chance(50);
+    let bytes: Vec<u8> = (0..len)
+        .map(|_| if same { byte } else { random.number() as u8 })
+        .collect();
+    made.bytes.splice(at..at, bytes);
+}
+
+fn delete(random: &mut Random, made: &mut Made, at: usize) {
+    let end = (at + 1 + random.below(9)).min(made.bytes.len());
+    made.bytes.drain(at..end);
+}
+
+/// Changes a length, a count, a type or a record number.
+fn change_number(random: &mut Random, made: &mut Made) {
+    if made.numbers.is_empty() {
+        return;
+    }
+    let at = random.pick(&made.numbers);
+    let Some(bytes) = made.bytes.get_mut(at..at + 4) else {
+        return;
+    };
+    let old = u32::from_le_bytes([bytes[0], bytes[1], bytes[2], bytes[3]]);
+    let new = match random.below(6) {
+        0 => old.wrapping_add(1),
+        1 => old.wrapping_sub(1),
+        2 => random.below(0x40) as u32,
+        3 => random.pick(&HUGE),
+        4 => random.pick(&valid::LISTED),
+        _ => random.pick(&[0, 1, 2]),
+    };
+    bytes.copy_from_slice(&new.to_le_bytes());
+}

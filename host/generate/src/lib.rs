@@ -1,0 +1,33 @@
+//! Reproducible test files: file `index` of `seed` is always the same bytes.
+
+mod corners;
+mod damage;
+mod random;
+mod short;
+mod valid;
+
+pub use random::Random;
+pub use short::Short;
+pub use valid::{worked_bytes, LISTED};
+
+/// A random file, whole or damaged.
+pub fn file(seed: u64, index: u64) -> Vec<u8> {
+    let mut random = Random::new(seed, index);
+    let mut made = valid::file(&mut random);
+    if random.chance(40) {
+        damage::damage(&mut random, &mut made);
+    }
+    made.bytes
+}
+
+/// A type and bytes for the element call, whole, cut or changed.
+pub fn element(random: &mut Random) -> (u32, Vec<u8>) {
+    let mut made = valid::Made::default();
+    let type_id = valid::value_alone(random, &mut made);
+    if random.chance(50) {
+        damage::damage(random, &mut made);
+    } else if random.chance(50) {
+        made.bytes.extend(b"rest");
+    }
+    (type_id, made.bytes)
+}

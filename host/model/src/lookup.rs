@@ -1,0 +1,232 @@
+//! The records of a file and the look-ups.
+
+use crate::layout::{refuse, value, Cursor, Place, Refusal};
+use calls::{Block, Field, Number, Prototype, Reading, LENGTH_LIMIT};
+
+pub struct Definition {
+    pub type_id: u32,
+    pub name: Place,
+    /// For an enum, its pairs of number and string.
+    pub list: Option<Vec<(u32, Place)>>,
+}
+
+pub struct PrototypeRecord {
+    pub id: u32,
+    pub name: Place,
+    pub fields: Vec<Definition>,
+}
+
+/// A value with the type in force when its block was read.
+pub struct Value {
+    pub type_id: u32,
+    pub place: Place,
+}
+
+pub struct BlockRecord {
+    pub start: usize,
+    pub prototype: u32,
+    pub id: Place,
+    pub values: Vec<Value>,
+}
+
+#[derive(Default)]
+pub struct Parsed {
+    /// The definitions in force, after reading the last ones, one for each distinct id.
+    pub prototypes: Vec<PrototypeRecord>,
+    pub blocks: Vec<BlockRecord>,
+    pub next: usize,
+    /// Every prototype's and field's name, replaced ones too: what a test asks for.
+    pub names: Vec<Place>,
+}
+
+impl Parsed {
+    /// Reads from front to back; `capacity` is the number of ids that the table holds.
+    pub fn read(file: &[u8], capacity: usize) -> Result<Parsed, Refusal> {
+        if file.len() > LENGTH_LIMIT {
+            return refuse(12, 0);
+        }
+        if !file.starts_with(b"BSII") {
+            return refuse(1, 0);
+        }
+        let mut cursor = Cursor { bytes: file, at: 4 };
+        if cursor.u32()? == 1 {
+            return refuse(2, 8);
+        }
+        let mut parsed = Parsed::default();
+        while !parsed.record(&mut cursor, capacity)? {}
+        parsed.next = cursor.at;
+        Ok(parsed)
+    }
+
+    /// Reads one record; true if it is the end record.
+    fn record(&mut self, cursor: &mut Cursor<'_>, capacity: usize) -> Result<bool, Refusal> {
+        let start = cursor.at;
+        match cursor.u32()? {
+            0 => {
+                let mark = cursor.at;
+                match cursor.u8()? {
+                    0 => return Ok(true),
+                    1 => self.define(prototype(cursor)?, start, capacity)?,
+                    _ => return refuse(3, mark),
+                }
+            }
+            id => {
+                let block = self.block(cursor, start, id)?;
+                self.blocks.push(block);
+            }
+        }
+        Ok(false)
+    }
+
+    fn define(&mut self, new: PrototypeRecord, start: usize, room: usize) -> Result<(), Refusal> {
+        self.names.push(new.name);
+        self.names.extend(new.fields.iter().map(|field| field.name));
+        let known = self.prototypes.iter().position(|old| old.id == new.id);
+        match known {
+            Some(position) => self.prototypes[position] = new,
+            None if self.prototypes.len() >= room => return refuse(10, start),
+            None => self.prototypes.push(new),
+        }
+        Ok(())
+    }
+
+    fn block(
+        &self,
+        cursor: &mut Cursor<'_>,
+        start: usize,
+        prototype: u32,
+    ) -> Result<BlockRecord, Refusal> {
+        let Some(in_force) = self.prototype(prototype) else {
+            return refuse(6, start);
+        };
+        let id = cursor.id()?;
+        let mut values = Vec::with_capacity(in_force.fields.len());
+        for field in &in_force.fields {
+            let type_id = field.type_id;
+            let offset = cursor.at;
+            value(cursor, type_id, |_| {})?;
+            let len = cursor.at - offset;
+            let place = Place { offset, len };
+            values.push(Value { type_id, place });
+        }
+        Ok(BlockRecord {
+            start,
+            prototype,
+            id,
+            values,
+        })
+    }
+
+    pub fn prototype(&self, id: u32) -> Option<&PrototypeRecord> {
+        self.prototypes.iter().find(|prototype| prototype.id == id)
+    }
+
+    pub fn reading(&self) -> Reading {
+        Reading {
+            number: 0,
+            offset: 0,
+            prototypes: self.prototypes.len() as u64,
+            blocks: self.blocks.len() as u64,
+            next: self.next as u64,
+        }
+    }
+
+    pub fn get_prototype(&self, id: u32) -> Result<Prototype, Refusal> {
+        let Some(prototype) = self.prototype(id) else {
+            return refuse(13, 0);
+        };
+        Ok(Prototype {
+            number: 0,
+            offset: 0,
+            name_offset: prototype.name.offset as u64,
+            name_len: prototype.name.len as u64,
+            fields: prototype.fields.len() as u64,
+        })
+    }
+
+    fn numbered(&self, n: u64) -> Result<&BlockRecord, Refusal> {
+        let block = usize::try_from(n).ok().and_then(|n| self.blocks.get(n));
+        block.map_or(refuse(13, 0), Ok)
+    }
+
+    pub fn block_at(&self, n: u64) -> Result<Block, Refusal> {
+        let block = self.numbered(n)?;
+        Ok(Block {
+            number: 0,
+            offset: 0,
+            prototype_id: block.prototype,
+            id_offset: block.id.offset as u64,
+            id_len: block.id.len as u64,
+        })
+    }
+
+    /// The last definition of a block's prototype.
+    pub fn last_of(&self, block: &BlockRecord) -> &PrototypeRecord {
+        self.prototype(block.prototype)
+            .expect("a block's prototype is defined, and no definition is lost")
+    }
+
+    pub fn nth_block_named(&self, file: &[u8], name: &[u8], n: u64) -> Result<Number, Refusal> {
+        let mut before = 0;
+        for (value, block) in self.blocks.iter().enumerate() {
+            if self.last_of(block).name.of(file) != name {
+                continue;
+            }
+            if before == n {
+                let value = value as u64;
+                return Ok(Number {
+                    value,
+                    ..Number::default()
+                });
+            }
+            before += 1;
+        }
+        refuse(13, 0)
+    }
+
+    pub fn field_of(&self, file: &[u8], block: u64, name: &[u8]) -> Result<Field, Refusal> {
+        let block = self.numbered(block)?;
+        let fields = &self.last_of(block).fields;
+        let position = fields.iter().position(|field| field.name.of(file) == name);
+        let Some(value) = position.and_then(|position| block.values.get(position)) else {
+            return refuse(13, 0);
+        };
+        Ok(Field {
+            number: 0,
+            offset: 0,
+            type_id: value.type_id,
+            part_offset: value.place.offset as u64,
+            part_len: value.place.len as u64,
+        })
+    }
+}
+
+/// A prototype from its id on, the zero after its definitions included.
+fn prototype(cursor: &mut Cursor<'_>) -> Result<PrototypeRecord, Refusal> {
+    let id = cursor.u32()?;
+    let name = cursor.string()?;
+    let mut fields = Vec::new();
+    loop {
+        match cursor.u32()? {
+            0 => return Ok(PrototypeRecord { id, name, fields }),
+            type_id => fields.push(definition(cursor, type_id)?),
+        }
+    }
+}
+
+fn definition(cursor: &mut Cursor<'_>, type_id: u32) -> Result<Definition, Refusal> {
+    let name = cursor.string()?;
+    let mut list = None;
+    if type_id == 0x37 {
+        let mut pairs = Vec::new();
+        for _ in 0..cursor.u32()? {
+            pairs.push((cursor.u32()?, cursor.string()?));
+        }
+        list = Some(pairs);
+    }
+    Ok(Definition {
+        type_id,
+        name,
+        list,
+    })
+}

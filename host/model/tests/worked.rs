@@ -1,0 +1,219 @@
+//! Document 01's worked bytes, and offsets that no other side gives.
+
+use calls::{Element, Implementation, Text};
+use model::Model;
+
+fn text_of(file: &[u8]) -> String {
+    let mut out = vec![0; 4096];
+    let text = Model::default().to_siin(file, &mut [0; 768], &mut out);
+    match text.number {
+        0 => String::from_utf8(out[..text.length as usize].to_vec()).unwrap(),
+        number => format!("refused {number} at {}", text.offset),
+    }
+}
+
+fn string(bytes: &[u8]) -> Vec<u8> {
+    [&(bytes.len() as u32).to_le_bytes(), bytes].concat()
+}
+
+fn prototype(id: u32, name: &str, fields: &[(u32, &str)]) -> Vec<u8> {
+    let mut record = vec![0, 0, 0, 0, 1];
+    record.extend(id.to_le_bytes());
+    record.extend(string(name.as_bytes()));
+    for (type_id, name) in fields {
+        record.extend(type_id.to_le_bytes());
+        record.extend(string(name.as_bytes()));
+    }
+    record.extend([0; 4]);
+    record
+}
+
+fn file(records: &[Vec<u8>]) -> Vec<u8> {
+    [b"BSII\x02\0\0\0".as_slice(), &records.concat(), &[0; 5]].concat()
+}
+
+/// A file with one field, in a block with an id without words.
+fn one_value(type_id: u32, value: &[u8]) -> Vec<u8> {
+    let block = [&[1, 0, 0, 0, 0], value].concat();
+    file(&[prototype(1, "p", &[(type_id, "f")]), block])
+}
+
+/// What stands behind `f: ` in such a file's text.
+fn shown(type_id: u32, value: &[u8]) -> String {
+    let text = text_of(&one_value(type_id, value));
+    match text.strip_prefix("SiiNunit\n{\np : null {\n  f: ") {
+        Some(rest) => rest.strip_suffix("\n}\n}\n").unwrap().to_string(),
+        None => text,
+    }
+}
+
+#[test]
+fn worked_file() {
+    let block = [
+        b"\x07\0\0\0\x01\x57\0\0\0\0\0\0\0\x2c\x01\0\0\x02\0\0\0".as_slice(),
+        b"\0\0\xc0\x3f\0\0\0\xc0",
+    ];
+    let file = file(&[
+        prototype(7, "trip", &[(0x27, "km"), (6, "w")]),
+        block.concat(),
+    ]);
+    assert_eq!(file.len(), 82);
+    let text = "SiiNunit\n{\ntrip : a1 {\n  km: 300\n  w: 2\n  w[0]: &3fc00000\n  w[1]: -2\n}\n}\n";
+    assert_eq!(text.len(), 73);
+    assert_eq!(text_of(&file), text);
+}
+
+#[test]
+fn words() {
+    let word = |word: u64| shown(3, &word.to_le_bytes());
+    assert_eq!(word(0), "\"\"");
+    assert_eq!(word(1 << 63), "\"\"");
+    assert_eq!(word(1), "0");
+    assert_eq!(word(37), "_");
+    assert_eq!(word(38), "refused 5 at 40");
+    assert_eq!(word(39), "00");
+}
+
+#[test]
+fn floats() {
+    let float = |float: f32| shown(5, &float.to_le_bytes());
+    assert_eq!(float(10_000_000.0), "10000000");
+    assert_eq!(float(10_000_001.0), "&4b189681");
+    assert_eq!(float(f32::from_bits(1)), "&1");
+    assert_eq!(float(-0.0), "-0");
+    assert_eq!(float(-3.0), "-3");
+    assert_eq!(float(f32::NAN), "&7fc00000");
+}
+
+#[test]
+fn placements() {
+    let placement = |f1: f32, f4: f32| {
+        let floats = [f1, -0.0, f1, f4, 1.0, 0.0, -0.0, 2.0];
+        let shown = shown(0x19, &floats.map(f32::to_le_bytes).concat());
+        let (sums, rest) = shown.split_once(") ").unwrap();
+        assert_eq!(rest, "(1; 0, -0, 2)");
+        sums.strip_prefix('(').unwrap().to_string()
+    };
+    assert_eq!(placement(1.0, 0.0), "-1048575, -0, -1048575");
+    assert_eq!(placement(1.0, 8_390_656.0), "1, -0, 1");
+    assert_eq!(placement(0.0, -1.5), "1048064, -0, 1048064");
+    assert_eq!(placement(-0.0, 8_390_656.0), "0, -0, 0");
+    assert_eq!(placement(0.03125, 0.0), "-1048576, -0, -1048576");
+    assert_eq!(placement(0.09375, 0.0), "&c97ffffe, -0, &c97ffffe");
+    assert_eq!(placement(0.0, f32::NAN), "-1048576, -0, -1048576");
+    assert_eq!(placement(0.0, f32::INFINITY), "1048064, -0, 1048064");
+    assert_eq!(placement(0.0, -f32::INFINITY), "-1048576, -0, -1048576");
+}
+
+#[test]
+fn ids() {
+    let nameless = |number: u64| shown(0x39, &[&[0xff], &number.to_le_bytes()[..]].concat());
+    assert_eq!(nameless(0), "_nameless.0");
+    assert_eq!(nameless(0x10000), "_nameless.1.0000");
+    assert_eq!(nameless(u64::MAX), "_nameless.ffff.ffff.ffff.ffff");
+    assert_eq!(shown(0x3b, &[0]), "null");
+    assert_eq!(shown(0x3d, &[&[1][..], &[0; 8]].concat()), "");
+    assert_eq!(shown(0x3d, &[&[2][..], &[0; 16]].concat()), ".");
+}
+
+#[test]
+fn faults_and_their_offsets() {
+    let worked = one_value(1, &string(b"abc"));
+    let cut = |len: usize| text_of(&worked[..len]);
+    assert_eq!(cut(3), "refused 1 at 0");
+    for len in 4..8 {
+        assert_eq!(cut(len), "refused 3 at 4");
+    }
+    assert_eq!(text_of(b"BSII\x01\0\0\0"), "refused 2 at 8");
+    assert_eq!(cut(8), "refused 3 at 8");
+    assert_eq!(cut(12), "refused 3 at 12");
+    assert_eq!(text_of(b"BSII\x02\0\0\0\0\0\0\0\x02"), "refused 3 at 12");
+    assert_eq!(cut(22), "refused 3 at 22");
+    // The block stands at 35, its id at 39, the string's length at 40, its bytes at 44.
+    assert_eq!(&worked[35..40], [1, 0, 0, 0, 0].as_slice());
+    assert_eq!(cut(39), "refused 3 at 39");
+    assert_eq!(cut(43), "refused 3 at 40");
+    assert_eq!(cut(46), "refused 3 at 44");
+    assert_eq!(text_of(&one_value(1, &string(b"a\xff"))), "refused 4 at 44");
+    // The second of two floats runs out.
+    assert_eq!(text_of(&one_value(7, &[0; 6])[..46]), "refused 3 at 44");
+    let stranger = file(&[vec![5, 0, 0, 0]]);
+    assert_eq!(text_of(&stranger), "refused 6 at 8");
+    assert_eq!(text_of(&one_value(8, b"")), "refused 7 at 40");
+    assert_eq!(text_of(&one_value(8, b"")[..40]), "refused 7 at 40");
+}
+
+#[test]
+fn regrouped_and_enum() {
+    let block = |value: &[u8]| [&[1, 0, 0, 0, 0], value].concat();
+    let first = prototype(1, "p", &[(0x27, "f")]);
+    let at = 8 + first.len();
+    let fewer = file(&[first.clone(), block(&[9; 4]), prototype(1, "q", &[])]);
+    assert_eq!(text_of(&fewer), format!("refused 8 at {at}"));
+    let other = file(&[
+        first,
+        block(&[9, 0, 0, 0]),
+        prototype(1, "q", &[(0x06, "g")]),
+    ]);
+    assert_eq!(text_of(&other), "SiiNunit\n{\nq : null {\n  g: 9\n}\n}\n");
+}
+
+#[test]
+fn table() {
+    let two = file(&[
+        prototype(0, "a", &[]),
+        prototype(0, "b", &[]),
+        prototype(5, "c", &[]),
+    ]);
+    let read = |words: usize| {
+        let mut table = vec![7; words];
+        let reading = Model::default().read(&two, &mut table);
+        assert!(table.iter().all(|word| *word == 0));
+        (reading.number, reading.offset, reading.prototypes)
+    };
+    assert_eq!(read(2), (10, 8, 0));
+    assert_eq!(read(5), (10, 44, 0));
+    assert_eq!(read(6), (0, 0, 2));
+}
+
+#[test]
+fn output() {
+    let file = file(&[]);
+    let mut out = [7; 12];
+    let text = Model::default().to_siin(&file, &mut [], &mut out);
+    assert_eq!((text.number, text.length, out), (11, 13, [7; 12]));
+}
+
+/// A name of 2^20 bytes over an array of 2^20 bools.
+#[test]
+fn needed_length_beyond_32_bits() {
+    let name = "n".repeat(1 << 20);
+    let block = [b"\x01\0\0\0\0\0\0\x10\0".as_slice(), &vec![0; 1 << 20]].concat();
+    let file = file(&[prototype(1, "p", &[(0x36, &name)]), block]);
+    let text = Model::default().to_siin(&file, &mut [0; 3], &mut []);
+    let expected = Text {
+        number: 11,
+        offset: 0,
+        length: 1_099_531_488_224,
+    };
+    assert_eq!(text, expected);
+}
+
+#[test]
+fn elements() {
+    let element = |type_id: u32, part: &[u8], index: u64| -> Element {
+        Model::default().element_of(type_id, part, index)
+    };
+    let two = b"\x02\0\0\0\x01\0\0\0a\x01\0\0\0b";
+    let second = element(2, two, 1);
+    assert_eq!(
+        (second.number, second.place_offset, second.place_len),
+        (0, 13, 1)
+    );
+    assert_eq!(element(2, two, 2).number, 13);
+    assert_eq!(element(2, &two[..13], 0), Element::refused(3, 13));
+    assert_eq!(element(0, b"", 9), Element::refused(7, 0));
+    assert_eq!(element(0x36, &[0; 4], 0), Element::refused(13, 0));
+    assert_eq!(element(0x25, &[0xff; 4], 0).value, u64::MAX);
+    assert_eq!(element(0x19, &[0; 31], 0), Element::refused(3, 28));
+}
