@@ -4,3 +4,4 @@ pub mod Parsers
 pub mod Records
 pub mod File
 pub mod Worked
+pub mod Replies

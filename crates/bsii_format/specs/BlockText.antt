@@ -42,14 +42,14 @@ valuesOffset at b = at + length (b .head) + length (b .id .raw)
 
 -- `text` gives a field's lines, none for an enum value that is not in its list: `valueText` in the text call
 module _ (text : ValuePrototype → Value → Option (List ℕ)) where
-  -- The lines of a block's fields under the last definition's, the first value at the offset `at`. "9: value not in the last
+  -- The lines of a block's fields under the last definition's, the first value at the offset `at`. 9: "value not in the last
   -- definition's list, or no list there", at "value". Both lists have one length, or 8 was given
   unfoldable pub fieldsText : ℕ → List (Consumed ValuePrototype) → List DataValue → Reply (List ℕ)
   fieldsText at [] l = gives []
   fieldsText at (f ∷ fs) [] = gives []
   fieldsText at (f ∷ fs) (v ∷ l) = joined (orRefuse enumValue at (text (f .value) (v .value))) (fieldsText (at + length (v .raw)) fs l)
 
-  -- A block at the offset `at` under the last definition of its id; an accepted block has one. "8: last definition has another number
+  -- A block at the offset `at` under the last definition of its id; an accepted block has one. 8: "last definition has another number
   -- of fields than the block", at "block"
   unfoldable pub blockText : ℕ → Option Prototype → DataBlock → Reply (List ℕ)
   blockText at none b = refusal undefinedPrototype at

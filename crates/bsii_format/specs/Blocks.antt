@@ -1,7 +1,7 @@
 -- Data blocks, and the definitions in force: document 01, "Data block: u32 prototype id, not zero, which must be defined earlier; an
 -- id; one value per definition in force, in order"; FORMAT.md, "Data blocks".
 use Prim.Native.Nat.{ℕ}
-use mathlib.Core.Bool.{Bool, cond}
+use mathlib.Core.Bool.{cond}
 use mathlib.Core.Option.{Option, none, some}
 use mathlib.Core.List.{List, [], _∷_}
 use lib.Dec.{eqb}

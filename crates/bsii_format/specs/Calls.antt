@@ -1,6 +1,6 @@
 -- What each call answers, as a function of the bytes, the number of table words, the output and the arguments: document 01,
 -- "src/bsii_file.rs", "src/bsii_output.rs" and "Replies in number order"; FORMAT.md, "Calls".
-use Prim.Native.Nat.{ℕ, zero, suc, _+_, _-_}
+use Prim.Native.Nat.{ℕ, zero, suc, _+_}
 use mathlib.Core.Bool.{Bool, true, false, cond}
 use mathlib.Core.Option.{Option, none, some, Option·map}
 use mathlib.Core.List.{List, [], _∷_, _++_}
@@ -9,7 +9,7 @@ use lib.Dec.{leb}
 use lib.IntN.{ℤ}
 use lib.Ieee.{Float, binary32, ofBits}
 use Rattle.bsii_format.specs.Ascii.{ascii}
-use Rattle.bsii_format.specs.Replies.{Fault, Reply, gives, refuses, refusal, outputShort, inputLong, absent}
+use Rattle.bsii_format.specs.Replies.{Reply, gives, refuses, refusal, outputShort, inputLong, absent}
 use Rattle.bsii_format.specs.Reader.{Result, ok, fault, same, Consumed}
 use Rattle.bsii_format.specs.Numbers.{signed}
 use Rattle.bsii_format.specs.Types.{Numeric, float, floatVec2, floatVec3, floatVec4, floatVec8, int32, int32Vec3, uint32, uint16, int64, uint64, bool, enum}
@@ -32,7 +32,7 @@ unfoldable pub ofFile : {A : Type 0} → (BsiiFile → ℕ → Reply A) → Resu
 ofFile answer (ok f at r) = answer f at
 ofFile answer (fault x) = refuses x
 
--- "13: block, prototype, name or element not there", at 0
+-- 13: "block, prototype, name or element not there", at 0
 abbrev pub orAbsent : {A : Type 0} → Option A → Reply A
 orAbsent = orRefuse absent 0
 
@@ -267,7 +267,7 @@ pub record TextAnswer : Type 0 where
   pub needed : ℕ
   pub output : List ℕ
 
--- "11: text longer than the output; needed length also given", at 0; "output bytes beyond it keep their values"; "A refusal changes no
+-- 11: "text longer than the output; needed length also given", at 0; "output bytes beyond it keep their values"; "A refusal changes no
 -- output byte."
 unfoldable pub textAnswer : List ℕ → Reply (List ℕ) → TextAnswer
 textAnswer out (gives t) =

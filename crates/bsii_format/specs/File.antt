@@ -7,7 +7,7 @@ use lib.ListN.{length}
 use lib.Dec.{leb, eqb}
 use Rattle.bsii_format.specs.Ascii.{ascii}
 use Rattle.bsii_format.specs.Replies.{invalidHeader, unsupportedVersion, malformed, undefinedPrototype, tableFull, inputLong}
-use Rattle.bsii_format.specs.Reader.{Result, ok, faultAt, Reader, after, success, fail, verify, tag, Consumed, with, consumed, _>>=_, _<$>_}
+use Rattle.bsii_format.specs.Reader.{Result, faultAt, Reader, after, success, fail, verify, tag, Consumed, consumed, _>>=_, _<$>_}
 use Rattle.bsii_format.specs.Numbers.{leU8, leU32}
 use Rattle.bsii_format.specs.Strings.{isSome, strParser, Id, idParser}
 use Rattle.bsii_format.specs.Prototypes.{ValuePrototype, Prototype, Fields, fieldsParser}
@@ -25,6 +25,7 @@ pub data Head : Type 0 where
   defining : ℕ → List ℕ → Head
   carrying : ℕ → Head
 
+-- behind a mark, which `headParser` has found to be 0 or 1
 unfoldable pub markParser : ℕ → Reader Head
 markParser zero = success ending
 markParser (suc m) = do
@@ -32,7 +33,7 @@ markParser (suc m) = do
   s ← strParser
   success (defining n s)
 
--- "Record number u32 zero and next byte 0: end record. Next byte 1: a prototype. Another byte: malformed", at that byte
+-- "Record number u32 zero and next byte 0: end record (5 bytes). .. Next byte 1: a prototype. Another byte: malformed", at that byte
 unfoldable pub headParser : Reader Head
 headParser = do
   n ← leU32
@@ -49,7 +50,7 @@ prototypeStep h n name l = more (prototype (record { head = h; id = n; name = na
 unfoldable pub blockStep : List ℕ → ℕ → Consumed Id → List DataValue → Step
 blockStep h n i l = more (block (record { head = h; prototypeId = n; id = i; values = l }))
 
--- a block under the definition in force; "6: block's prototype undefined so far", at the block, before its id is read
+-- a block under the definition in force; 6: "block's prototype undefined so far", at the block, before its id is read
 unfoldable pub dataBlockParser : ℕ → List ℕ → ℕ → Option Prototype → Reader Step
 dataBlockParser start h n none at s = faultAt undefinedPrototype start
 dataBlockParser start h n (some p) at s = (consumed idParser >>= (λ i. blockStep h n i <$> dataValuesParser (p .fields))) at s
@@ -73,7 +74,7 @@ unfoldable pub distinctIds : List Prototype → ℕ
 distinctIds [] = 0
 distinctIds (p ∷ env) = cond (isSome (getPrototype (p .id) env)) (distinctIds env) (suc (distinctIds env))
 
--- "10: a new id beyond a third of the words, rounded down": `rooms` is that third
+-- 10: "a new id beyond a third of the words, rounded down": `rooms` is that third
 unfoldable pub hasRoom : ℕ → List Prototype → Record → Bool
 hasRoom rooms env (prototype p) = leb (distinctIds (p ∷ env)) rooms
 hasRoom rooms env (block b) = true
@@ -103,7 +104,7 @@ recordsParser rooms at s = recordsFrom rooms (length s) [] at s
 
 -- ---- the file
 
--- "BSII", u32 version; "2: version 1", at 8
+-- "BSII", u32 version; 2: "version 1", at 8
 unfoldable pub headerParser : Reader ℕ
 headerParser = do
   u ← tag (ascii "BSII") invalidHeader
@@ -122,7 +123,7 @@ bsiiFile h l = record { header = h; records = l .records; end = l .end }
 unfoldable pub bsiiParser : ℕ → Reader BsiiFile
 bsiiParser rooms = consumed headerParser >>= (λ h. bsiiFile h <$> recordsParser rooms)
 
--- "12: input above 16,777,216 bytes"
+-- 12: "input above 16,777,216 bytes"
 abbrev pub lengthLimit : ℕ
 lengthLimit = 16_777_216
 

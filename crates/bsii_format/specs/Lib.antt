@@ -1,4 +1,5 @@
--- What a reader must believe, in the order of the bytes. Each comment in quotation marks is a sentence of document 01.
+-- What a reader must believe, in the order of the bytes. Words in quotation marks are document 01's, with `..` where some are left out, or the
+-- headings of FORMAT.md.
 pub mod Ascii
 pub mod Replies
 pub mod Reader

@@ -1,5 +1,5 @@
--- Readers: what the layout is written in. A reader is a function of the bytes from some place on; the offset of that place is
--- handed along only to be reported. Bytes are numbers; that each is below 256 is used by no definition.
+-- Readers: what the layout is written in. A reader is a function of an offset and of the bytes from there on. No reader chooses by the offset:
+-- it is reported, and differences of offsets say how many bytes were taken. Bytes are numbers; that each is below 256 is used by no definition.
 use Prim.Native.Nat.{ℕ, zero, suc, _+_, _-_}
 use mathlib.Core.Path.{_≡_}
 use mathlib.Core.Bool.{Bool, true, false, cond, _&&_}
@@ -41,7 +41,7 @@ infixl 30 _<$>_
 unfoldable pub _<$>_ : {A B : Type 0} → (A → B) → Reader A → Reader B
 f <$> R = R >>= (λ a. success (f a))
 
--- n bytes. "3: a number, a byte, or a string's bytes after its length run out", at "that item's start"
+-- n bytes. 3: "a number, a byte, or a string's bytes after its length run out", at "that item's start"
 unfoldable pub bytes : ℕ → Reader (List ℕ)
 bytes n at s = cond (leb n (length s)) (ok (take n s) (at + n) (drop n s)) (faultAt malformed at)
 

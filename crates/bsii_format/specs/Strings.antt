@@ -1,5 +1,5 @@
 -- Strings, encoded words and ids: document 01, "src/bsii_parse.rs"; FORMAT.md, "Strings", "Encoded words", "Ids".
-use Prim.Native.Nat.{ℕ, zero, suc, _-_, _/_, _%_}
+use Prim.Native.Nat.{ℕ, zero, suc, _/_, _%_}
 use mathlib.Core.Bool.{Bool, true, false, cond}
 use mathlib.Core.Option.{Option, none, some, Option·map, Option·getD}
 use mathlib.Core.List.{List, [], _∷_}
@@ -11,7 +11,7 @@ use Rattle.bsii_format.specs.Reader.{Reader, bytes, verify, repeat, _>>=
 use Rattle.bsii_format.specs.Numbers.{leU8, leU32, leU64}
 use Rattle.bsii_format.specs.Utf8.{utf8}
 
--- "String: u32 length, then bytes that are UTF-8". 3 and 4 are both at the "first byte after its length"
+-- "String: u32 length, then bytes that are UTF-8". Bytes that run out (3) and bytes that are not UTF-8 (4) are both at the first byte after the length
 unfoldable pub strParser : Reader (List ℕ)
 strParser = do
   n ← leU32

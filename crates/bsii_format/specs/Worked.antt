@@ -5,7 +5,7 @@ use mathlib.Core.List.{List, [], _∷_, _++_}
 use Rattle.bsii_format.specs.Ascii.{ascii}
 use Rattle.bsii_format.specs.Replies.{Reply, gives, refuses, refusal, zeroDigit, enumValue, absent}
 use Rattle.bsii_format.specs.Reader.{Result, ok, fault}
-use Rattle.bsii_format.specs.Values.{Value, single, array, valueParser}
+use Rattle.bsii_format.specs.Values.{Value, single, array}
 use Rattle.bsii_format.specs.Text.{elementText}
 use Rattle.bsii_format.specs.BlockText.{orRefuse}
 
@@ -53,7 +53,7 @@ t of l says r = record { typeId = t; raw = l; says = r }
 abbrev pub placementWith : ℕ → List ℕ
 placementWith f4 = u32 0x3f80_0000 ++ u32 0 ++ u32 0x3f80_0000 ++ u32 f4 ++ u32 0 ++ u32 0 ++ u32 0 ++ u32 0
 
--- "Words: 0* and 0x8000000000000000* empty; 1* `0`; 38* refused 5; 39* `00`. Floats: 10000000* decimal, 10000001* `&4b189681`, bits 1* `&1`,
+-- "Words: 0* and 0x8000000000000000* empty; 1* `0`; .. 38* refused 5; 39* `00`. Floats: 10000000* decimal, 10000001* `&4b189681`, bits 1* `&1`,
 -- minus zero* `-0`. Ids: 0x10000* `_nameless.1.0000`; no words* `null`. Placement, f1 = f3 = 1: f4 = 0* gives −1048575 for both;
 -- f4 = 8390656* gives 1 for both". An empty word's text as a value is `""`. The bits of 10000000, 10000001 and 8390656 are
 -- 0x4b189680, 0x4b189681 and 0x4b000800
