@@ -1,0 +1,148 @@
+-- The reading walk as a whole: what holds at each turn of its loop, and what follows at its end.
+use mathlib.Core.Path.{_≡_, refl, sym, ap, ap₂, _∙_, subst}
+use Prim.Native.Nat.{ℕ, zero, suc, _+_, _-_, _/_, _≤_, _<_}
+use native.Mathlib.Nat.{add-zero, add-assoc}
+use native.Mathlib.Omega.{arith}
+use mathlib.Core.List.{List, [], _∷_, _++_, append-assoc, append-nil}
+use lib.ListN.{length, drop, length-append}
+use Rattle.bsii_format.specs.Replies.{Fault}
+use Rattle.bsii_format.specs.Reader.{Result, ok, fault, faultAt}
+use Rattle.bsii_format.specs.Prototypes.{Prototype}
+use Rattle.bsii_format.specs.File.{Record, prototype, block, recordBytes, recordsBytes, Records, recordsFrom}
+use Rattle.bsii_format.specs.Calls.{Placed, placed, consPrototype, prototypesIn}
+use Rattle.bsii_table.specs.Rows.{Rows}
+use Rattle.bsii_parse.specs.Walks.{blockCount, behind, recordsAt, bare, Kept, Ready, Steps, passed, ended, refused, Walks, done, stopped}
+use Rattle.bsii_parse.specs.declared.walk.Progress.{Progress}
+use Rattle.bsii_parse.specs.declared.walk.Step.{Step}
+use Rattle.bsii_parse.specs.declared.walk.Step.the-variants.{Go, End, Refused}
+use Rattle.bsii_parse.specs.declared.walk.Walked.{Walked}
+use Rattle.bsii_parse.specs.declared.walk.Walked.the-variants.{Done, Fault as Stopped}
+use Rattle.bsii_parse.proofs.Records.{behind-behind, blockCount-append}
+use Rattle.bsii_parse.proofs.Tables.{kept-none}
+
+abbrev sizeOf : Record → ℕ
+sizeOf r = length (recordBytes r)
+
+-- the definitions of records that stand from `start` on
+abbrev pub defsFrom : ℕ → List Record → List (Placed Prototype)
+defsFrom start l = prototypesIn (placed sizeOf start l) []
+
+defs-snoc : (at : ℕ) (l : List Record) (i : Record) (env : List (Placed Prototype))
+    → prototypesIn (placed sizeOf at (l ++ (i ∷ []))) env ≡ consPrototype (at + length (recordsBytes l)) i (prototypesIn (placed sizeOf at l) env)
+unfolding prototypesIn placed recordsBytes
+defs-snoc at [] i env = ap (λ n. consPrototype n i env) (sym (add-zero at))
+defs-snoc at (x ∷ l) i env =
+    defs-snoc (at + sizeOf x) l i (consPrototype at x env)
+    ∙ ap (λ n. consPrototype n i (prototypesIn (placed sizeOf (at + sizeOf x) l) (consPrototype at x env))) (rw length-append (omega arith))
+
+bytes-snoc : (l : List Record) (i : Record) → length (recordsBytes (l ++ (i ∷ []))) ≡ length (recordsBytes l) + length (recordBytes i)
+unfolding recordsBytes
+bytes-snoc [] i = rw length-append (omega arith)
+bytes-snoc (x ∷ l) i = rw (length-append, length-append) (omega (arith, bytes-snoc l i))
+
+-- the records `so` were passed from `start` on, and the walk stands at p with the table t; t₀ is the table that came in
+pub record Along (s : List ℕ) (start : ℕ) (t₀ : List ℕ) (p : Progress) (t : List ℕ) : Type 0 where
+  pub so : List Record
+  pub place : p .at ≡ start + length (recordsBytes so)
+  pub inside : p .at ≤ length s
+  pub counted : p .blocks ≤ p .at
+  pub blocks : p .blocks ≡ blockCount so
+  pub size : length t ≡ length t₀
+  pub kept : Kept s t (p .rows) (defsFrom start so)
+  pub rest : recordsAt (length t₀ / 3) [] start s ≡ behind so (recordsAt (length t₀ / 3) (bare (defsFrom start so)) (p .at) s)
+
+behind-none : (q : Result Records) → q ≡ behind [] q
+unfolding behind
+behind-none (ok q at r) = refl
+behind-none (fault f) = refl
+
+pub along-start : (s : List ℕ) (start : ℕ) (t : List ℕ) → start ≤ length s → Along s start t (record { at = start; rows = 0; blocks = 0 }) t
+unfolding recordsBytes blockCount prototypesIn placed
+along-start s start t h = record {
+  so = [];
+  place = sym (add-zero start);
+  inside = h;
+  counted = omega arith;
+  blocks = refl;
+  size = refl;
+  kept = kept-none s t;
+  rest = behind-none (recordsAt (length t / 3) [] start s);
+}
+
+pub along-ready : (s : List ℕ) (start : ℕ) (t₀ : List ℕ) (p : Progress) (t : List ℕ) → length s ≤ 16_777_216 → Along s start t₀ p t → Ready s p t
+along-ready s start t₀ p t h a = record { short = h; inside = a .inside; counted = a .counted; rows = a .kept .holds .valid }
+
+go≢end : {P : Type 0} {q : Progress} {n : ℕ} → _≡_ {A = Step} (Go q) (End n) → P
+go≢end e = let z : _≡_ {A = ℕ} 0 1 = cc in let f : ⊥ = omega arith in absurd f
+
+go≢refused : {P : Type 0} {q : Progress} {k o : ℕ} → _≡_ {A = Step} (Go q) (Refused k o) → P
+go≢refused e = let z : _≡_ {A = ℕ} 0 1 = cc in let f : ⊥ = omega arith in absurd f
+
+end≢refused : {P : Type 0} {n k o : ℕ} → _≡_ {A = Step} (End n) (Refused k o) → P
+end≢refused e = let z : _≡_ {A = ℕ} 0 1 = cc in let f : ⊥ = omega arith in absurd f
+
+go-inj : {p q : Progress} → _≡_ {A = Step} (Go p) (Go q) → p ≡ q
+go-inj e = cc
+
+-- one more record; the position rises, so the loop ends
+pub record Further (s : List ℕ) (start : ℕ) (t₀ : List ℕ) (p q : Progress) (t : List ℕ) : Type 0 where
+  pub on : p .at < q .at
+  pub along : Along s start t₀ q t
+
+pub along-step : (s : List ℕ) (start : ℕ) (t₀ : List ℕ) (p : Progress) (t : List ℕ) (a : Along s start t₀ p t) (r : Step) (t′ : List ℕ) → Steps s p t (defsFrom start (a .so)) r t′
+    → (q : Progress) → r ≡ Go q → Further s start t₀ p q t′
+unfolding blockCount
+along-step s start t₀ p t a r t′ (passed i {n = n} {rows = rows} e on inside place kept size) q z =
+    let rooms : length t / 3 ≡ length t₀ / 3 = ap (λ m. m / 3) (a .size) in
+    let defs : defsFrom start (a .so ++ (i ∷ [])) ≡ consPrototype (p .at) i (defsFrom start (a .so)) =
+    defs-snoc start (a .so) i [] ∙ ap (λ m. consPrototype m i (defsFrom start (a .so))) (sym (a .place)) in
+    subst (λ w. Further s start t₀ p w t′) (go-inj z) (record {
+      on = on;
+      along = record {
+        so = a .so ++ (i ∷ []);
+        place = place ∙ rw bytes-snoc (omega (arith, a .place));
+        inside = inside;
+        counted = more-blocks i (p .blocks) (a .counted) on;
+        blocks = ap (λ m. m + blockCount (i ∷ [])) (a .blocks) ∙ sym (blockCount-append (a .so) (i ∷ []));
+        size = size ∙ a .size;
+        kept = subst (λ w. Kept s t′ rows w) (sym defs) kept;
+        rest = a .rest
+            ∙ ap (behind (a .so)) (ap (λ m. recordsAt m (bare (defsFrom start (a .so))) (p .at) s) (sym rooms) ∙ e ∙ ap (λ m. behind (i ∷ []) (recordsAt m (bare (consPrototype (p .at) i (defsFrom start (a .so)))) n s)) rooms)
+            ∙ behind-behind (a .so) (i ∷ []) (recordsAt (length t₀ / 3) (bare (consPrototype (p .at) i (defsFrom start (a .so)))) n s)
+            ∙ ap (λ w. behind (a .so ++ (i ∷ [])) (recordsAt (length t₀ / 3) (bare w) n s)) (sym defs);
+      };
+    })
+  where
+    more-blocks : (i : Record) (b : ℕ) {at n : ℕ} → b ≤ at → at < n → b + blockCount (i ∷ []) ≤ n
+    more-blocks (prototype x) b h k = unfold blockCount in omega arith
+    more-blocks (block x) b h k = unfold blockCount in omega arith
+along-step s start t₀ p t a r t′ (ended e) q z = go≢end (sym z)
+along-step s start t₀ p t a r t′ (refused e l) q z = go≢refused (sym z)
+
+pub along-end : (s : List ℕ) (start : ℕ) (t₀ : List ℕ) (p : Progress) (t : List ℕ) (a : Along s start t₀ p t) (r : Step) (t′ : List ℕ) → Steps s p t (defsFrom start (a .so)) r t′
+    → (n : ℕ) → r ≡ End n → Walks s start t₀ (Done (p .rows) (p .blocks) n) t′
+along-end s start t₀ p t a r t′ (passed i e on inside place kept size) n z = go≢end z
+along-end s start t₀ p t a r t′ (refused e l) n z = end≢refused (sym z)
+along-end s start t₀ p t a r t′ (ended {l = l} {n = m} e) n z =
+    let rooms : length t / 3 ≡ length t₀ / 3 = ap (λ m. m / 3) (a .size) in
+    let here : m ≡ n = cc in
+    let q : Records = record { records = a .so; end = l } in
+    let all : recordsAt (length t₀ / 3) [] start s ≡ ok q m (drop m s) =
+    a .rest ∙ ap (behind (a .so)) (ap (λ k. recordsAt k (bare (defsFrom start (a .so))) (p .at) s) (sym rooms) ∙ e) ∙ last l m in
+    subst (λ k. Walks s start t₀ (Done (p .rows) (p .blocks) k) t) here
+    (subst (λ k. Walks s start t₀ (Done (p .rows) k m) t) (sym (a .blocks)) (done q all (a .kept) (a .size)))
+  where
+    last : (l : List ℕ) (m : ℕ) → behind (a .so) (ok (record { records = []; end = l }) m (drop m s)) ≡ ok (record { records = a .so; end = l }) m (drop m s)
+    last l m = unfold behind in ap (λ w. ok (record { records = w; end = l }) m (drop m s)) (append-nil (a .so))
+
+pub along-stop : (s : List ℕ) (start : ℕ) (t₀ : List ℕ) (p : Progress) (t : List ℕ) (a : Along s start t₀ p t) (r : Step) (t′ : List ℕ) → Steps s p t (defsFrom start (a .so)) r t′
+    → (k o : ℕ) → r ≡ Refused k o → Walks s start t₀ (Stopped k o) t′
+unfolding behind
+along-stop s start t₀ p t a r t′ (passed i e on inside place kept size) k o z = go≢refused z
+along-stop s start t₀ p t a r t′ (ended e) k o z = end≢refused z
+along-stop s start t₀ p t a r t′ (refused {k = x} {o = y} e l) k o z =
+    let rooms : length t / 3 ≡ length t₀ / 3 = ap (λ m. m / 3) (a .size) in
+    let n : x ≡ k = cc in
+    let m : y ≡ o = cc in
+    subst (λ w. Walks s start t₀ (Stopped k w) t′) m (subst (λ w. Walks s start t₀ (Stopped w y) t′) n
+    (stopped (a .rest ∙ ap (behind (a .so)) (ap (λ k. recordsAt k (bare (defsFrom start (a .so))) (p .at) s) (sym rooms) ∙ e)) (l ∙ a .size)))

@@ -1,0 +1,7 @@
+pub mod Records
+pub mod Steps
+pub mod Tables
+pub mod Passing
+pub mod Along
+pub mod Whole
+pub mod Values

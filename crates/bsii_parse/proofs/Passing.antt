@@ -1,0 +1,185 @@
+-- The steps of the reading walk, case by case: what the code found at a record, and what the records from there on are.
+use mathlib.Core.Path.{_≡_, refl, sym, ap, _∙_, subst}
+use Prim.Native.Nat.{ℕ, _+_, _-_, _/_, _≤_, _<_}
+use native.Mathlib.Nat.{add-zero}
+use native.Mathlib.Omega.{arith}
+use mathlib.Core.Bool.{true, false}
+use mathlib.Core.Option.{Option, none, some}
+use mathlib.Core.List.{List, [], _∷_, _++_}
+use lib.ListN.{length, take, drop}
+use Rattle.bsii_format.specs.Replies.{Fault as Refusal, malformed}
+use Rattle.bsii_format.specs.Reader.{Result, ok, fault, faultAt, after, _>>=_, _<$>_, bytes, Consumed, consumed}
+use Rattle.bsii_format.specs.Numbers.{number}
+use Rattle.bsii_format.specs.Strings.{idParser}
+use Rattle.bsii_format.specs.Prototypes.{ValuePrototype, Prototype, Fields, fieldsFrom, fieldsParser}
+use Rattle.bsii_format.specs.Blocks.{DataValue, DataBlock, getPrototype, dataValuesParser}
+use Rattle.bsii_format.specs.File.{Record, prototype, block, Head, ending, defining, carrying, headParser, Step as RecordStep, end, more, recordParser, recordBytes, define, hasRoom}
+use Rattle.bsii_format.specs.Calls.{Placed, consPrototype}
+use Rattle.bsii_format.proofs.Readers.{Exact, bind-exact}
+use Rattle.bsii_format.proofs.Parsers.{id-exact}
+use Rattle.bsii_format.proofs.Records.{GoodTaken, stepBytes, record-good, GoodList, fields-good, fields-fits, GoodRow, values-good, values-fits}
+use Rattle.bsii_format.proofs.Positions.{Moved, moved, moved-on, ended}
+use Rattle.bsii_value.specs.Answers.{endOf}
+use Rattle.bsii_value.specs.declared.answers.Parsed.{Parsed}
+use Rattle.bsii_value.specs.declared.answers.Parsed.the-variants.{Next, Fault}
+use Rattle.bsii_value.proofs.Ends.{next-ended, fault-ended}
+use Rattle.bsii_table.specs.Rows.{lookup}
+use Rattle.bsii_table.specs.Table.{foundRow, Defines, Puts, PutsBoth, NoRoom}
+use Rattle.bsii_table.specs.Relation.{Holds}
+use Rattle.bsii_table.specs.declared.Found.{Found}
+use Rattle.bsii_table.specs.declared.Found.the-variants.{At, Nothing}
+use Rattle.bsii_table.specs.declared.Defined.{Defined}
+use Rattle.bsii_table.specs.declared.Defined.the-variants.{Rows, Full}
+use Rattle.bsii_table.proofs.Relation.{is-put, is-full, define-holds, define-room, define-full, found-at, found-nothing}
+use Rattle.bsii_prototype.specs.Answers.{countOf, headIs}
+use Rattle.bsii_prototype.specs.declared.answers.Counted.the-variants.{Fields as Counted-Fields, Fault as Counted-Fault}
+use Rattle.bsii_prototype.specs.declared.answers.Head.{Head as HeadAnswer}
+use Rattle.bsii_prototype.specs.declared.answers.Head.the-variants.{End as HeadEnd, Prototype as HeadPrototype, Block as HeadBlock, BadHead}
+use Rattle.bsii_parse.specs.Walks.{Stands, StandingEnd, blockCount, behind, recordsAt, bare, Kept, Ready, Steps, passed, ended as atEnd, refused, Stepped, Defining, Carrying}
+use Rattle.bsii_parse.specs.declared.walk.Progress.{Progress}
+use Rattle.bsii_parse.specs.declared.walk.Step.{Step}
+use Rattle.bsii_parse.specs.declared.walk.Step.the-variants.{Go, End, Refused}
+use Rattle.bsii_parse.proofs.Records.{record-exact, record-empty, records-fault, records-end, records-full, records-more}
+use Rattle.bsii_parse.proofs.Steps.{record-fault, record-end, prototypeOf, record-prototype, record-fields-fault, record-undefined, record-block-fault, record-block}
+use Rattle.bsii_parse.proofs.Tables.{offsets-put, bare-cons}
+
+-- ---- the list of definitions is exact
+
+pub fields-exact : Exact Fields fieldsParser
+unfolding fieldsParser
+fields-exact = record {
+  took = λ at s l at′ r e.
+      let g = fields-good (length s) at s l at′ r e in
+      (_, record { front = g .front; place = g .place; fits = fields-fits (g .good) (g .last) });
+}
+
+-- a block's id and values
+block-exact : (fs : List (Consumed ValuePrototype)) → Exact (List DataValue) (idParser >>= (λ i. dataValuesParser fs))
+block-exact fs = bind-exact _ id-exact (λ i. values-exact fs)
+  where
+    values-exact : (fs : List (Consumed ValuePrototype)) → Exact (List DataValue) (dataValuesParser fs)
+    values-exact fs = record {
+      took = λ at s l at′ r e.
+          let g = values-good fs at s l at′ r e in
+          (_, record { front = g .front; place = g .place; fits = values-fits (g .good) });
+    }
+
+module _ (s : List ℕ) (p : Progress) (t : List ℕ) (env : List (Placed Prototype)) where
+  -- ---- any record
+
+  step-fault : {f : Refusal} {t′ : List ℕ} → recordParser (bare env) (p .at) (drop (p .at) s) ≡ fault f → length t′ ≡ length t → Steps s p t env (Refused (f .number) (f .offset)) t′
+  step-fault e l = refused (records-fault (length t / 3) (bare env) (p .at) s e) l
+
+  step-passed : (i : Record) {n rows : ℕ} {t′ : List ℕ} → recordParser (bare env) (p .at) (drop (p .at) s) ≡ ok (more i) n (drop n s) → hasRoom (length t / 3) (bare env) i ≡ true
+      → Kept s t′ rows (consPrototype (p .at) i env) → length t′ ≡ length t → Steps s p t env (Go (record { at = n; rows = rows; blocks = p .blocks + blockCount (i ∷ []) })) t′
+  unfolding stepBytes
+  step-passed i {n} e h k l =
+      let m = moved-on (record-exact (bare env)) (record-empty (bare env) 0) s (p .at) e in
+      let g = record-good (bare env) (p .at) (drop (p .at) s) (more i) n (drop n s) e in
+      passed i
+      (records-more (length t / 3) (bare env) (p .at) s e h ∙ ap (λ z. behind (i ∷ []) (recordsAt (length t / 3) z n s)) (sym (bare-cons (p .at) i env)))
+      (m .0) (m .1) (g .place) k l
+
+  -- ---- by the head
+
+  pub step-head-fault : {k o : ℕ} → headParser (p .at) (drop (p .at) s) ≡ faultAt k o → Steps s p t env (Refused k o) t
+  step-head-fault e = step-fault (record-fault (bare env) (p .at) (drop (p .at) s) e) refl
+
+  pub step-end : {n : ℕ} → headParser (p .at) (drop (p .at) s) ≡ ok ending n (drop n s) → Steps s p t env (End n) t
+  step-end {n} e = atEnd (records-end (length t / 3) (bare env) (p .at) s (record-end (bare env) (p .at) (drop (p .at) s) e))
+
+  -- ---- a prototype
+
+  module _ {id fields : ℕ} {name : List ℕ} (h : headParser (p .at) (drop (p .at) s) ≡ ok (defining id name) fields (drop fields s)) where
+    pub prototype-fault : {k o : ℕ} → fieldsParser fields (drop fields s) ≡ faultAt k o → Steps s p t env (Refused k o) t
+    prototype-fault e = step-fault (record-fields-fault (bare env) (p .at) (drop (p .at) s) h e) refl
+
+    one : Fields → Prototype
+    one l = prototypeOf (bare env) (p .at) (drop (p .at) s) id name fields l
+
+    pub prototype-full : {l : Fields} {n : ℕ} {d : Defined} {t′ : List ℕ} → fieldsParser fields (drop fields s) ≡ ok l n (drop n s) → Kept s t (p .rows) env → d ≡ Full
+        → Defines t (p .rows) id (p .at) d t′ → Steps s p t env (Refused 10 (p .at)) t′
+    unfolding prototypeOf one
+    prototype-full {l} {n} e k f d =
+        let x = is-full f d in
+        refused (records-full (length t / 3) (bare env) (p .at) s (record-prototype (bare env) (p .at) (drop (p .at) s) h e) (define-full (Stands s) (k .holds) (one l) refl f d)) (ap length (x .same))
+
+    pub prototype-passed : {l : Fields} {n rows : ℕ} {d : Defined} {t′ : List ℕ} → fieldsParser fields (drop fields s) ≡ ok l n (drop n s) → Kept s t (p .rows) env → d ≡ Rows rows
+        → Defines t (p .rows) id (p .at) d t′ → Steps s p t env (Go (record { at = n; rows = rows; blocks = p .blocks })) t′
+    unfolding prototypeOf one blockCount consPrototype
+    prototype-passed {l} {n} {rows} {d} {t′} e k f w =
+        let x = is-put f w in
+        let stands : Stands s (p .at) (one l) = record { fields = fields; next = n; head = h; list = e } in
+        subst (λ b. Steps s p t env (Go (record { at = n; rows = rows; blocks = b })) t′) (add-zero (p .blocks))
+        (step-passed (prototype (one l)) (record-prototype (bare env) (p .at) (drop (p .at) s) h e) (define-room (Stands s) (k .holds) (one l) refl f w)
+        (record { holds = define-holds (Stands s) (k .holds) (one l) refl stands f w; offsets = offsets-put t (p .rows) t′ rows env (one l) (p .at) x (k .offsets) })
+        (x .puts .size))
+
+  -- ---- a block
+
+  module _ {id at : ℕ} (h : headParser (p .at) (drop (p .at) s) ≡ ok (carrying id) at (drop at s)) (k : Kept s t (p .rows) env) where
+    pub block-undefined : {r : Found} → r ≡ Nothing → foundRow r ≡ lookup t (p .rows) id → Steps s p t env (Refused 6 (p .at)) t
+    block-undefined e f = step-fault (record-undefined (bare env) (p .at) (drop (p .at) s) h (found-nothing (Stands s) (k .holds) id e f)) refl
+
+    module _ {r : Found} {a b : ℕ} (e : r ≡ At a b) (f : foundRow r ≡ lookup t (p .rows) id) {q : Parsed} (w : StandingEnd s a at q) where
+      pub block-fault : {m o : ℕ} → q ≡ Fault m o → Steps s p t env (Refused m o) t
+      block-fault z =
+          let x = found-at (Stands s) (k .holds) id e f in
+          step-fault (record-block-fault (bare env) (p .at) (drop (p .at) s) h (x .1) (fault-ended _ (sym z ∙ w .ends (x .0) (x .2)))) refl
+
+      pub block-passed : {n : ℕ} → q ≡ Next n → Steps s p t env (Go (record { at = n; rows = p .rows; blocks = p .blocks + 1 })) t
+      unfolding blockCount consPrototype hasRoom
+      block-passed {n} z =
+          let x = found-at (Stands s) (k .holds) id e f in
+          let y = record-block (bare env) (p .at) (drop (p .at) s) h (x .1) (next-ended (block-exact (x .0 .fields)) s at (sym z ∙ w .ends (x .0) (x .2))) in
+          step-passed (block (y .0)) (y .1) refl k refl
+
+-- ---- the same for the code's answers
+
+module _ (s : List ℕ) (p : Progress) (t : List ℕ) (id fields : ℕ) where
+  counted-fault : {k o : ℕ} (q : Result Fields) → Counted-Fault k o ≡ countOf q → q ≡ faultAt k o
+  unfolding countOf
+  counted-fault (ok l n r) e = let z : _≡_ {A = ℕ} 0 1 = cc in let f : ⊥ = omega arith in absurd f
+  counted-fault {k} {o} (fault f) e = let a : k ≡ f .number = cc in let b : o ≡ f .offset = cc in rw (a, b)
+
+  counted-is : {c n : ℕ} → Counted-Fields c n ≡ countOf (fieldsParser fields (drop fields s)) → (l : Fields) × (fieldsParser fields (drop fields s) ≡ ok l n (drop n s))
+  unfolding countOf
+  counted-is {c} {n} e = go (fieldsParser fields (drop fields s)) refl e
+    where
+      go : (q : Result Fields) → fieldsParser fields (drop fields s) ≡ q → Counted-Fields c n ≡ countOf q → (l : Fields) × (q ≡ ok l n (drop n s))
+      go (ok l m r) h z = let i : n ≡ m = cc in (l, rw (i, ← moved fields-exact s fields h .rest))
+      go (fault f) h z = let y : _≡_ {A = ℕ} 0 1 = cc in let x : ⊥ = omega arith in absurd x
+
+  pub defining-fault : {k o : ℕ} → Counted-Fault k o ≡ countOf (fieldsParser fields (drop fields s)) → Defining s p t id fields (Refused k o) t
+  defining-fault e = record { steps = λ env k name h. prototype-fault s p t env h (counted-fault (fieldsParser fields (drop fields s)) e) }
+
+  module _ {c n : ℕ} (e : Counted-Fields c n ≡ countOf (fieldsParser fields (drop fields s))) {o : ℕ} (w : o ≡ p .at) {d : Defined} {t′ : List ℕ} (x : Defines t (p .rows) id o d t′) where
+    pub defining-full : d ≡ Full → Defining s p t id fields (Refused 10 (p .at)) t′
+    defining-full f = record { steps = λ env k name h. prototype-full s p t env h (counted-is e .1) k f (subst (λ z. Defines t (p .rows) id z d t′) w x) }
+
+    pub defining-passed : {rows : ℕ} → d ≡ Rows rows → Defining s p t id fields (Go (record { at = n; rows = rows; blocks = p .blocks })) t′
+    defining-passed f = record { steps = λ env k name h. prototype-passed s p t env h (counted-is e .1) k f (subst (λ z. Defines t (p .rows) id z d t′) w x) }
+
+module _ (s : List ℕ) (p : Progress) (t : List ℕ) (id at : ℕ) {r : Found} (f : foundRow r ≡ lookup t (p .rows) id) where
+  pub carrying-undefined : r ≡ Nothing → Carrying s p t id at (Refused 6 (p .at))
+  carrying-undefined e = record { steps = λ env k h. block-undefined s p t env h k e f }
+
+  module _ {a b : ℕ} (e : r ≡ At a b) {z : ℕ} (i : z ≡ a) {q : Parsed} (w : StandingEnd s z at q) where
+    pub carrying-fault : {m o : ℕ} → q ≡ Fault m o → Carrying s p t id at (Refused m o)
+    carrying-fault y = record { steps = λ env k h. block-fault s p t env h k e f (subst (λ x. StandingEnd s x at q) i w) y }
+
+    pub carrying-passed : {n : ℕ} → q ≡ Next n → Carrying s p t id at (Go (record { at = n; rows = p .rows; blocks = p .blocks + 1 }))
+    carrying-passed y = record { steps = λ env k h. block-passed s p t env h k e f (subst (λ x. StandingEnd s x at q) i w) y }
+
+module _ (s : List ℕ) (p : Progress) (t : List ℕ) {h : HeadAnswer} (e : headIs s h ≡ headParser (p .at) (drop (p .at) s)) where
+  pub stepped-end : {n : ℕ} → h ≡ HeadEnd n → Stepped s p t (End n) t
+  stepped-end z = record { steps = λ env k. step-end s p t env (sym e ∙ ap (headIs s) z) }
+
+  pub stepped-bad : {k o : ℕ} → h ≡ BadHead k o → Stepped s p t (Refused k o) t
+  stepped-bad z = record { steps = λ env k. step-head-fault s p t env (sym e ∙ ap (headIs s) z) }
+
+  pub stepped-defining : {id name next : ℕ} {r : Step} {t′ : List ℕ} → h ≡ HeadPrototype id name next → Defining s p t id next r t′ → Stepped s p t r t′
+  stepped-defining z d = record { steps = λ env k. d .steps env k _ (sym e ∙ ap (headIs s) z) }
+
+  pub stepped-carrying : {id next : ℕ} {r : Step} → h ≡ HeadBlock id next → Carrying s p t id next r → Stepped s p t r t
+  stepped-carrying z d = record { steps = λ env k. d .steps env k (sym e ∙ ap (headIs s) z) }

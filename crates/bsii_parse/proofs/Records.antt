@@ -1,0 +1,128 @@
+-- One step of a walk over the records of a file.
+use mathlib.Core.Path.{_≡_, refl, sym, ap, ap₂, _∙_, subst}
+use Prim.Native.Nat.{ℕ, zero, suc, _+_, _-_, _≤_, _<_}
+use native.Mathlib.Omega.{arith}
+use mathlib.Core.Bool.{Bool, true, false, cond}
+use mathlib.Core.Option.{Option, none, some}
+use mathlib.Core.List.{List, [], _∷_, _++_, append-assoc, append-nil}
+use lib.ListN.{length, drop, length-append, length-drop}
+use lib.Dec.{T}
+use Rattle.bsii_format.specs.Replies.{Fault, malformed, tableFull}
+use Rattle.bsii_format.specs.Reader.{Result, ok, fault, faultAt, Reader, after, _>>=_, success, _<$>_, bytes, Consumed, with, consumed}
+use Rattle.bsii_format.specs.Numbers.{number}
+use Rattle.bsii_format.specs.Prototypes.{Prototype}
+use Rattle.bsii_format.specs.File.{Record, prototype, block, Step, end, more, headParser, recordParser, recordBytes, define, hasRoom, Records, consRecord, recordsThen, recordsFrom, defineAll}
+use Rattle.bsii_format.proofs.Readers.{Fits, Exact, fault≢ok, ok-val, ok-at, ok-rest}
+use Rattle.bsii_format.proofs.Positions.{Moved}
+use Rattle.bsii_format.proofs.Records.{GoodTaken, GoodStep, GoodRecord, stepBytes, record-fits, record-good, head-takes}
+use Rattle.bsii_parse.specs.Walks.{blockCount, behind, recordsAt}
+
+-- ---- the record reader is exact, and takes a byte at least
+
+pub record-exact : (env : List Prototype) → Exact Step (recordParser env)
+record-exact env = record {
+  took = λ at s v at′ r e.
+      let g = record-good env at s v at′ r e in
+      (stepBytes v, record { front = g .front; place = g .place; fits = record-fits env v (g .good) });
+}
+
+-- ---- the fuel does not show
+
+pub record-empty : (env : List Prototype) (at : ℕ) → recordParser env at [] ≡ faultAt malformed at
+unfolding recordParser after consumed headParser _>>=_ number _<$>_ bytes
+record-empty env at = refl
+
+step-takes : (env : List Prototype) (q : Step) → GoodStep env q → 1 ≤ length (stepBytes q)
+unfolding stepBytes recordBytes
+step-takes env (end l) g = head-takes g
+step-takes env (more (prototype p)) g = rw length-append (omega (arith, head-takes (g .head)))
+step-takes env (more (block b)) g = rw length-append (omega (arith, head-takes (g .head)))
+
+shorter : (env : List Prototype) (at : ℕ) (s : List ℕ) (q : Step) (at′ : ℕ) (r : List ℕ) → recordParser env at s ≡ ok q at′ r → length r < length s
+shorter env at s q at′ r e =
+    let g = record-good env at s q at′ r e in
+    let l : length s ≡ length (stepBytes q) + length r = ap length (g .front) ∙ length-append (stepBytes q) r in
+    omega (arith, step-takes env q (g .good))
+
+cond-same : {A : Type 0} (b : Bool) (R R′ S : Reader A) (at : ℕ) (s : List ℕ) → R at s ≡ R′ at s → cond b R S at s ≡ cond b R′ S at s
+cond-same true R R′ S at s e = e
+cond-same false R R′ S at s e = refl
+
+map-same : {A B : Type 0} (f : A → B) (R R′ : Reader A) (at : ℕ) (s : List ℕ) → R at s ≡ R′ at s → (f <$> R) at s ≡ (f <$> R′) at s
+unfolding _<$>_ _>>=_
+map-same f R R′ at s e = ap (λ q. after q (λ a. success (f a))) e
+
+-- behind a record only what the rest is read as counts
+then-same : (rooms : ℕ) (env : List Prototype) (start : ℕ) (K K′ : List Prototype → Reader Records) (q : Result Step)
+    → ((i : Record) (at : ℕ) (s : List ℕ) → q ≡ ok (more i) at s → K (define i env) at s ≡ K′ (define i env) at s)
+    → after q (recordsThen rooms env start K) ≡ after q (recordsThen rooms env start K′)
+unfolding after recordsThen
+then-same rooms env start K K′ (ok (end l) at s) h = refl
+then-same rooms env start K K′ (ok (more i) at s) h =
+    cond-same (hasRoom rooms env i) (consRecord i <$> K (define i env)) (consRecord i <$> K′ (define i env)) _ at s
+    (map-same (consRecord i) (K (define i env)) (K′ (define i env)) at s (h i at s refl))
+then-same rooms env start K K′ (fault f) h = refl
+
+pub records-fuel : (rooms n m : ℕ) (env : List Prototype) (at : ℕ) (s : List ℕ) → length s ≤ n → length s ≤ m → recordsFrom rooms n env at s ≡ recordsFrom rooms m env at s
+unfolding recordsFrom after
+records-fuel rooms zero zero env at s h k = refl
+records-fuel rooms zero (suc m) env at [] h k = rw (record-empty env at)
+records-fuel rooms zero (suc m) env at (x ∷ s) h k = absurd (omega arith)
+records-fuel rooms (suc n) zero env at [] h k = rw (record-empty env at)
+records-fuel rooms (suc n) zero env at (x ∷ s) h k = absurd (omega arith)
+records-fuel rooms (suc n) (suc m) env at s h k =
+    then-same rooms env at (λ e. recordsFrom rooms n e) (λ e. recordsFrom rooms m e) (recordParser env at s)
+    (λ i at′ r e. records-fuel rooms n m (define i env) at′ r (less n h i at′ r e) (less m k i at′ r e))
+  where
+    less : (n : ℕ) → length s ≤ suc n → (i : Record) (at′ : ℕ) (r : List ℕ) → recordParser env at s ≡ ok (more i) at′ r → length r ≤ n
+    less n h i at′ r e = let z = shorter env at s (more i) at′ r e in omega arith
+
+-- ---- the records from a position on, and one step of them
+
+module _ (rooms : ℕ) (env : List Prototype) (at : ℕ) (s : List ℕ) where
+  unfolded : recordsAt rooms env at s ≡ after (recordParser env at (drop at s)) (recordsThen rooms env at (λ e. recordsFrom rooms (length (drop at s)) e))
+  unfolding recordsFrom
+  unfolded = records-fuel rooms (length (drop at s)) (suc (length (drop at s))) env at (drop at s) (omega arith) (omega arith)
+
+  pub records-fault : {f : Fault} → recordParser env at (drop at s) ≡ fault f → recordsAt rooms env at s ≡ fault f
+  unfolding after
+  records-fault e = unfolded ∙ rw e
+
+  pub records-end : {l : List ℕ} {n : ℕ} {r : List ℕ} → recordParser env at (drop at s) ≡ ok (end l) n r → recordsAt rooms env at s ≡ ok (record { records = []; end = l }) n r
+  unfolding after recordsThen success
+  records-end e = unfolded ∙ rw e
+
+  pub records-full : {i : Record} {n : ℕ} {r : List ℕ} → recordParser env at (drop at s) ≡ ok (more i) n r → hasRoom rooms env i ≡ false → recordsAt rooms env at s ≡ faultAt tableFull at
+  unfolding after recordsThen
+  records-full e h = unfolded ∙ rw (e, h)
+
+  pub records-more : {i : Record} {n : ℕ} → recordParser env at (drop at s) ≡ ok (more i) n (drop n s) → hasRoom rooms env i ≡ true
+      → recordsAt rooms env at s ≡ behind (i ∷ []) (recordsAt rooms (define i env) n s)
+  unfolding after recordsThen _<$>_ _>>=_
+  records-more {i} {n} e h =
+      let z = shorter env at (drop at s) (more i) n (drop n s) e in
+      unfolded ∙ rw (e, h)
+      (ap (λ q. after q (λ a. success (consRecord i a))) (records-fuel rooms (length (drop at s)) (length (drop n s)) (define i env) n (drop n s) (omega arith) (omega arith))
+      ∙ put (recordsAt rooms (define i env) n s))
+    where
+      put : (q : Result Records) → after q (λ a. success (consRecord i a)) ≡ behind (i ∷ []) q
+      put (ok q at r) = unfold after success consRecord behind in refl
+      put (fault f) = unfold after behind in refl
+
+-- ---- what lies behind
+
+pub behind-behind : (a b : List Record) (q : Result Records) → behind a (behind b q) ≡ behind (a ++ b) q
+unfolding behind
+behind-behind a b (ok q at r) = ap (λ z. ok (record { records = z; end = q .end }) at r) (sym (append-assoc a b (q .records)))
+behind-behind a b (fault f) = refl
+
+pub defineAll-append : (a b : List Record) (env : List Prototype) → defineAll (a ++ b) env ≡ defineAll b (defineAll a env)
+unfolding defineAll
+defineAll-append [] b env = refl
+defineAll-append (i ∷ a) b env = defineAll-append a b (define i env)
+
+pub blockCount-append : (a b : List Record) → blockCount (a ++ b) ≡ blockCount a + blockCount b
+unfolding blockCount
+blockCount-append [] b = omega arith
+blockCount-append (prototype p ∷ a) b = blockCount-append a b
+blockCount-append (block x ∷ a) b = omega (arith, blockCount-append a b)

@@ -1,0 +1,48 @@
+-- The table against the definitions so far, with their offsets.
+use mathlib.Core.Path.{_≡_, refl, sym, ap, _∙_, subst}
+use Prim.Native.Nat.{ℕ, _+_, _≤_}
+use mathlib.Core.Bool.{Bool, true, false, cond}
+use mathlib.Core.Option.{Option, none, some, Option·map}
+use mathlib.Core.List.{List, [], _∷_, _++_, map}
+use lib.ListN.{length}
+use lib.Dec.{eqb}
+use Rattle.bsii_format.specs.Prototypes.{Prototype}
+use Rattle.bsii_format.specs.Blocks.{findBy}
+use Rattle.bsii_format.specs.File.{Record, prototype, block, recordBytes, define, defineAll}
+use Rattle.bsii_format.specs.Calls.{Placed, placed, consPrototype, prototypesIn}
+use Rattle.bsii_table.specs.Rows.{Row, offsets, lookup, lookupFrom}
+use Rattle.bsii_table.specs.Table.{Puts, PutsBoth}
+use Rattle.bsii_table.proofs.Relation.{holds-none}
+use Rattle.bsii_parse.specs.Walks.{Stands, bare, Kept}
+
+-- an empty table holds no definition, whatever its words
+pub kept-none : (s t : List ℕ) → Kept s t 0 []
+unfolding lookupFrom findBy
+kept-none s t = record { holds = holds-none (Stands s) t; offsets = λ id. refl }
+
+cond-map : {A B : Type 0} (f : A → B) (b : Bool) (a : A) (o : Option A) → Option·map f (cond b (some a) o) ≡ cond b (some (f a)) (Option·map f o)
+cond-map f true a o = refl
+cond-map f false a o = refl
+
+-- the rows' offsets after a definition at `o`
+pub offsets-put : (t : List ℕ) (rows : ℕ) (t′ : List ℕ) (rows′ : ℕ) (env : List (Placed Prototype)) (p : Prototype) (o : ℕ) → PutsBoth t rows (p .id) o t′ rows′
+    → ((id : ℕ) → Option·map (λ (r : Row). r .last) (lookup t rows id) ≡ Option·map (λ (q : Placed Prototype). q .offset) (findBy (λ (q : Placed Prototype). q .it .id) id env))
+    → (id : ℕ) → Option·map (λ (r : Row). r .last) (lookup t′ rows′ id) ≡ Option·map (λ (q : Placed Prototype). q .offset) (findBy (λ (q : Placed Prototype). q .it .id) id (record { offset = o; it = p } ∷ env))
+unfolding findBy
+offsets-put t rows t′ rows′ env p o h k id =
+    ap (Option·map (λ (r : Row). r .last)) (h .puts .looks id)
+    ∙ cond-map (λ (r : Row). r .last) (eqb id (p .id)) (offsets o o) (lookup t rows id)
+    ∙ ap (cond (eqb id (p .id)) (some o)) (k id)
+    ∙ sym (cond-map (λ (q : Placed Prototype). q .offset) (eqb id (p .id)) (record { offset = o; it = p }) (findBy (λ (q : Placed Prototype). q .it .id) id env))
+
+-- ---- definitions with and without offsets
+
+pub bare-cons : (at : ℕ) (i : Record) (env : List (Placed Prototype)) → bare (consPrototype at i env) ≡ define i (bare env)
+unfolding consPrototype define
+bare-cons at (prototype p) env = refl
+bare-cons at (block b) env = refl
+
+pub bare-all : (size : Record → ℕ) (at : ℕ) (l : List Record) (env : List (Placed Prototype)) → bare (prototypesIn (placed size at l) env) ≡ defineAll l (bare env)
+unfolding prototypesIn placed defineAll
+bare-all size at [] env = refl
+bare-all size at (i ∷ l) env = bare-all size (at + size i) l (consPrototype at i env) ∙ ap (defineAll l) (bare-cons at i env)

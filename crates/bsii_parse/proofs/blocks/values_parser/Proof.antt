@@ -1,0 +1,99 @@
+use borrow.Author.Needs.{needs}
+use mathlib.Core.Path.{_≡_, refl, sym, ap, _∙_}
+use native.Mathlib.Omega.{arith}
+use Prim.Native.Nat.{_-_}
+use lib.ListN.{length, drop}
+use denote.Ref.{now}
+use Rattle.bsii_value.specs.Answers.{uncheckedStr}
+use Rattle.bsii_prototype.proofs.Names.{unchecked}
+use Rattle.bsii_prototype.proofs.Lists.{count-later}
+use Rattle.bsii_parse.proofs.Values.{InStep, step-start, step-last, step-bad, step-fault, step-next}
+use Rattle.bsii_parse.proofs.blocks.values_parser.Statement.{statement}
+use Rattle.bsii_parse.proofs.blocks.values_parser.Tie as tie
+use Rattle.bsii_parse.proofs.blocks.values_parser.Reads as reads
+use Rattle.bsii_parse.proofs.blocks.values_parser.Lts as lts
+use Rattle.bsii_prototype.proofs.past.value_prototype_past.Reads as value-prototype-past-reads
+use Rattle.bsii_value.proofs.values.value_parser.Reads as value-parser-reads
+
+abbrev Inv-loop : tie.InvT-loop
+Inv-loop s fields start field₀ at₀ field at = InStep s fields start field at
+
+abbrev μ-loop : tie.MeasureT-loop
+μ-loop s fields start field₀ at₀ field at = length s - field
+
+loop-holds : tie.Need-loop-holds Inv-loop μ-loop
+loop-holds c = let a = c .before .args in step-start (now (a .s)) (a .fields) (a .start)
+
+value-prototype-past-requires : tie.Need-value-prototype-past-requires Inv-loop μ-loop
+value-prototype-past-requires c κs = search needs
+
+enum-told : tie.Need-enum-told Inv-loop μ-loop
+enum-told c = search needs
+
+returns : tie.Need-returns Inv-loop μ-loop
+returns c =
+    let l = c .before .before .before in
+    let a = l .before .before .args in
+    step-last (now (a .s)) (a .fields) (a .start) (l .loop .field) (l .loop .at) (l .loop .inv) (sym (c .enum-told .given .1) ∙ c .before .before .value-prototype-past .ensures)
+
+enum-known-entry : tie.Need-enum-known-entry Inv-loop μ-loop
+enum-known-entry c = search needs
+
+returns-2 : tie.Need-returns-2 Inv-loop μ-loop
+returns-2 c =
+    let l = c .before .before .before .before in
+    let a = l .before .before .args in
+    step-bad (now (a .s)) (a .fields) (a .start) (l .loop .field) (l .loop .at) (l .loop .inv) (sym (c .before .entry .given .1) ∙ c .before .before .before .value-prototype-past .ensures) _
+
+enum-known-entry-2 : tie.Need-enum-known-entry-2 Inv-loop μ-loop
+enum-known-entry-2 c = search needs
+
+value-parser-requires : tie.Need-value-parser-requires Inv-loop μ-loop
+value-parser-requires c κs = search needs
+
+enum-known-value : tie.Need-enum-known-value Inv-loop μ-loop
+enum-known-value c = search needs
+
+returns-3 : tie.Need-returns-3 Inv-loop μ-loop
+returns-3 c =
+    let l = c .before .before .before .before .before .before .before .before in
+    let a = l .before .before .args in
+    let e = sym (c .before .before .before .before .before .entry2 .given .1) ∙ c .before .before .before .before .before .before .before .value-prototype-past .ensures in
+    step-fault (now (a .s)) (a .fields) (a .start) (l .loop .field) (l .loop .at) (l .loop .inv) e (sym (c .before .value .given .1) ∙ c .before .before .before .value-parser .ensures)
+
+enum-known-value-2 : tie.Need-enum-known-value-2 Inv-loop μ-loop
+enum-known-value-2 c = search needs
+
+loop-less : tie.Need-loop-less Inv-loop μ-loop
+loop-less c =
+    let l = c .before .before .before .before .before .before .before .before in
+    let s = now (l .before .before .args .s) in
+    let e = sym (c .before .before .before .before .before .entry2 .given .1) ∙ c .before .before .before .before .before .before .before .value-prototype-past .ensures in
+    omega (arith, count-later uncheckedStr (unchecked .exact) s (l .loop .field) e)
+
+loop-again : tie.Need-loop-again Inv-loop μ-loop
+loop-again c =
+    let l = c .before .before .before .before .before .before .before .before in
+    let a = l .before .before .args in
+    let e = sym (c .before .before .before .before .before .entry2 .given .1) ∙ c .before .before .before .before .before .before .before .value-prototype-past .ensures in
+    step-next (now (a .s)) (a .fields) (a .start) (l .loop .field) (l .loop .at) (l .loop .inv) e (sym (c .before .value2 .given .1) ∙ c .before .before .before .value-parser .ensures)
+
+pub values-parser-spec : {M : Type 1} → statement M
+values-parser-spec =
+    tie.close
+    (tie.spec
+    Inv-loop
+    μ-loop
+    loop-holds
+    value-prototype-past-requires
+    enum-told
+    returns
+    enum-known-entry
+    returns-2
+    enum-known-entry-2
+    value-parser-requires
+    enum-known-value
+    returns-3
+    enum-known-value-2
+    loop-less
+    loop-again)

@@ -1,0 +1,115 @@
+-- What the walks over a file's records know of it.
+use mathlib.Core.Path.{_≡_}
+use Prim.Native.Nat.{ℕ, suc, _+_, _/_, _≤_, _<_}
+use mathlib.Core.Option.{Option, Option·map}
+use mathlib.Core.List.{List, [], _∷_, _++_, map}
+use lib.ListN.{length, drop}
+use Rattle.bsii_format.specs.Replies.{Fault}
+use Rattle.bsii_format.specs.Reader.{Result, ok, fault, faultAt, _>>=_}
+use Rattle.bsii_format.specs.Strings.{idParser}
+use Rattle.bsii_format.specs.Prototypes.{Prototype, Fields, fieldsParser}
+use Rattle.bsii_format.specs.Blocks.{dataValuesParser, findBy}
+use Rattle.bsii_format.specs.File.{Record, prototype, block, defining, carrying, headParser, recordBytes, Records, recordsFrom, BsiiFile, parse}
+use Rattle.bsii_format.specs.Calls.{Placed, placed, placedRecords, consPrototype, prototypesIn}
+use Rattle.bsii_value.specs.Answers.{endOf}
+use Rattle.bsii_value.specs.declared.answers.Parsed.{Parsed}
+use Rattle.bsii_table.specs.Rows.{Row, lookup, Rows}
+use Rattle.bsii_table.specs.Relation.{Holds}
+use Rattle.bsii_parse.specs.declared.walk.Progress.{Progress}
+use Rattle.bsii_parse.specs.declared.walk.Step.{Step}
+use Rattle.bsii_parse.specs.declared.walk.Step.the-variants.{Go, End, Refused}
+use Rattle.bsii_parse.specs.declared.walk.Walked.{Walked}
+use Rattle.bsii_parse.specs.declared.walk.Walked.the-variants.{Done, Fault as Stopped}
+
+-- ---- prototypes and blocks at an offset
+
+-- the prototype p stands at the offset o of the file s: its head is read there, and its definitions from `fields` on
+pub record Stands (s : List ℕ) (o : ℕ) (p : Prototype) : Type 0 where
+  pub fields : ℕ
+  pub next : ℕ
+  pub head : headParser o (drop o s) ≡ ok (defining (p .id) (p .name)) fields (drop fields s)
+  pub list : fieldsParser fields (drop fields s) ≡ ok (record { fields = p .fields; terminator = p .terminator }) next (drop next s)
+
+-- values from `start` on, where definitions are read from `fields` on
+pub record ValuesEnd (s : List ℕ) (fields start : ℕ) (r : Parsed) : Type 0 where
+  pub ends : (l : Fields) (n : ℕ) (t : List ℕ) → fieldsParser fields (drop fields s) ≡ ok l n t → r ≡ endOf (dataValuesParser (l .fields) start (drop start s))
+
+-- a block's id and values from `at` on, where definitions are read from `fields` on
+pub record BlockEnd (s : List ℕ) (fields at : ℕ) (r : Parsed) : Type 0 where
+  pub ends : (l : Fields) (n : ℕ) (t : List ℕ) → fieldsParser fields (drop fields s) ≡ ok l n t
+      → r ≡ endOf ((idParser >>= (λ i. dataValuesParser (l .fields))) at (drop at s))
+
+-- the same under a prototype that stands at an offset
+pub record StandingEnd (s : List ℕ) (o at : ℕ) (r : Parsed) : Type 0 where
+  pub ends : (p : Prototype) → Stands s o p → r ≡ endOf ((idParser >>= (λ i. dataValuesParser (p .fields))) at (drop at s))
+
+-- ---- the reading walk
+
+-- how many blocks there are among records
+unfoldable pub blockCount : List Record → ℕ
+blockCount [] = 0
+blockCount (prototype p ∷ l) = blockCount l
+blockCount (block b ∷ l) = suc (blockCount l)
+
+-- the records that a walk has passed, in front of those that the rest is read as
+unfoldable pub behind : List Record → Result Records → Result Records
+behind l (ok q at r) = ok (record { records = l ++ q .records; end = q .end }) at r
+behind l (fault f) = fault f
+
+-- the records from a position on, with room for so many ids and the definitions so far
+abbrev pub recordsAt : ℕ → List Prototype → ℕ → List ℕ → Result Records
+recordsAt rooms env at s = recordsFrom rooms (length (drop at s)) env at (drop at s)
+
+-- ---- the table
+
+-- definitions without their offsets
+abbrev pub bare : List (Placed Prototype) → List Prototype
+bare = map (λ (p : Placed Prototype). p .it)
+
+-- The table's rows are the definitions so far, the last one first. `offsets` says which of two equal prototypes a row stands for.
+pub record Kept (s t : List ℕ) (rows : ℕ) (env : List (Placed Prototype)) : Type 0 where
+  pub holds : Holds (Stands s) t rows (bare env)
+  pub offsets : (id : ℕ) → Option·map (λ (r : Row). r .last) (lookup t rows id) ≡ Option·map (λ (p : Placed Prototype). p .offset) (findBy (λ (p : Placed Prototype). p .it .id) id env)
+
+-- ---- a step of the reading walk
+
+-- what it needs: the file within the length limit, a position in it, the table's rows
+pub record Ready (s : List ℕ) (p : Progress) (t : List ℕ) : Type 0 where
+  pub short : length s ≤ 16_777_216
+  pub inside : p .at ≤ length s
+  pub counted : p .blocks ≤ p .at
+  pub rows : Rows t (p .rows)
+
+-- For the definitions that the table holds: the records from here on are the one that was passed and those from there on; or they are the end
+-- record; or they are refused. Behind the step the table holds the definitions with the record's.
+pub data Steps (s : List ℕ) (p : Progress) (t : List ℕ) (env : List (Placed Prototype)) : Step → List ℕ → Type 0 where
+  passed : (i : Record) {n rows : ℕ} {t′ : List ℕ}
+      → recordsAt (length t / 3) (bare env) (p .at) s ≡ behind (i ∷ []) (recordsAt (length t / 3) (bare (consPrototype (p .at) i env)) n s)
+      → p .at < n → n ≤ length s → n ≡ p .at + length (recordBytes i) → Kept s t′ rows (consPrototype (p .at) i env) → length t′ ≡ length t
+      → Steps s p t env (Go (record { at = n; rows = rows; blocks = p .blocks + blockCount (i ∷ []) })) t′
+  ended : {l : List ℕ} {n : ℕ} → recordsAt (length t / 3) (bare env) (p .at) s ≡ ok (record { records = []; end = l }) n (drop n s) → Steps s p t env (End n) t
+  refused : {k o : ℕ} {t′ : List ℕ} → recordsAt (length t / 3) (bare env) (p .at) s ≡ faultAt k o → length t′ ≡ length t → Steps s p t env (Refused k o) t′
+
+pub record Stepped (s : List ℕ) (p : Progress) (t : List ℕ) (r : Step) (t′ : List ℕ) : Type 0 where
+  pub steps : (env : List (Placed Prototype)) → Kept s t (p .rows) env → Steps s p t env r t′
+
+-- the same where the head is read already: a prototype's definitions start at `fields`, a block's id at `at`
+pub record Defining (s : List ℕ) (p : Progress) (t : List ℕ) (id fields : ℕ) (r : Step) (t′ : List ℕ) : Type 0 where
+  pub steps : (env : List (Placed Prototype)) → Kept s t (p .rows) env → (name : List ℕ) → headParser (p .at) (drop (p .at) s) ≡ ok (defining id name) fields (drop fields s)
+      → Steps s p t env r t′
+
+pub record Carrying (s : List ℕ) (p : Progress) (t : List ℕ) (id at : ℕ) (r : Step) : Type 0 where
+  pub steps : (env : List (Placed Prototype)) → Kept s t (p .rows) env → headParser (p .at) (drop (p .at) s) ≡ ok (carrying id) at (drop at s) → Steps s p t env r t
+
+-- ---- the whole walk from `start` on, and the whole file: the table holds the definitions of what was read
+
+pub data Walks (s : List ℕ) (start : ℕ) (t : List ℕ) : Walked → List ℕ → Type 0 where
+  done : (q : Records) {rows n : ℕ} {t′ : List ℕ} → recordsAt (length t / 3) [] start s ≡ ok q n (drop n s)
+      → Kept s t′ rows (prototypesIn (placed (λ r. length (recordBytes r)) start (q .records)) []) → length t′ ≡ length t
+      → Walks s start t (Done rows (blockCount (q .records)) n) t′
+  stopped : {k o : ℕ} {t′ : List ℕ} → recordsAt (length t / 3) [] start s ≡ faultAt k o → length t′ ≡ length t → Walks s start t (Stopped k o) t′
+
+pub data ReadFile (s : List ℕ) (t : List ℕ) : Walked → List ℕ → Type 0 where
+  read : (f : BsiiFile) {rows n : ℕ} {t′ : List ℕ} → parse (length t) s ≡ ok f n (drop n s) → Kept s t′ rows (prototypesIn (placedRecords f) [])
+      → length t′ ≡ length t → ReadFile s t (Done rows (blockCount (f .records)) n) t′
+  unread : {k o : ℕ} {t′ : List ℕ} → parse (length t) s ≡ faultAt k o → length t′ ≡ length t → ReadFile s t (Stopped k o) t′

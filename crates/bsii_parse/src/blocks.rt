@@ -1,0 +1,49 @@
+// Data blocks under a prototype's definitions. The definitions were read before: their names are not checked again.
+use bsii_prototype::answers::Entry;
+use bsii_prototype::past::value_prototype_past;
+use bsii_value::answers::Parsed;
+use bsii_value::strings::id_parser;
+use bsii_value::values::value_parser;
+ghost use lib.ListN.{drop};
+ghost use Rattle.bsii_parse.specs.Walks.{ValuesEnd, BlockEnd};
+
+// The values from `start` on, one for each definition from `fields` on.
+pub fn values_parser(s: &[u8], fields: usize, start: usize) -> Parsed
+    ensures { λ r. ⌜ ValuesEnd (now (s .entry)) fields start r ⌝ }
+{
+    let mut field = fields;
+    let mut at = start;
+    loop {
+        let entry = value_prototype_past(s, field);
+        match entry {
+            Entry::Last(_) => return Parsed::Next(at),
+            Entry::Bad { number, offset } => return Parsed::Fault { number, offset },
+            Entry::Field {
+                type_id,
+                name: _,
+                name_end: _,
+                next,
+            } => {
+                let value = value_parser(s, at, type_id);
+                match value {
+                    Parsed::Fault { number, offset } => return Parsed::Fault { number, offset },
+                    Parsed::Next(end) => {
+                        at = end;
+                        field = next;
+                    }
+                }
+            }
+        }
+    }
+}
+
+// A block's id and its values.
+pub fn data_block_parser(s: &[u8], fields: usize, at: usize) -> Parsed
+    ensures { λ r. ⌜ BlockEnd (now (s .entry)) fields at r ⌝ }
+{
+    let id = id_parser(s, at);
+    match id {
+        Parsed::Fault { number, offset } => Parsed::Fault { number, offset },
+        Parsed::Next(next) => values_parser(s, fields, next),
+    }
+}

@@ -1,0 +1,57 @@
+// The reading call: the whole file, its header and its records.
+use crate::walk::Walked;
+use crate::walk::walk;
+use bsii_prototype::answers::Header;
+use bsii_prototype::heads::header_parser;
+use bsii_table::clear;
+ghost use mathlib.Core.Path.{_≡_};
+ghost use lib.ListN.{length};
+ghost use Rattle.bsii_format.specs.Calls.{readingCall, tableAfter};
+ghost use Rattle.bsii_parse.specs.Walks.{ReadFile};
+ghost use Rattle.bsii_parse.specs.Answers.{readingIs};
+
+// What the reading call answers: how many distinct prototype ids and how many blocks there are, and the offset after the end record.
+pub enum Reading {
+    Read {
+        prototypes: usize,
+        blocks: usize,
+        next: usize,
+    },
+    Refused {
+        number: u32,
+        offset: usize,
+    },
+}
+
+// The file, with the last definition of each id left in the table for a look-up: the caller clears it.
+pub fn read_file(file: &[u8], table: &mut [u32]) -> Walked
+    ensures { λ r. ⌜ ReadFile (now (file .entry)) (now (table .entry)) r (now (table .exit)) ⌝ }
+{
+    if 16_777_216 < file.len() {
+        return Walked::Fault {
+            number: 12,
+            offset: 0,
+        };
+    }
+    let header = header_parser(file);
+    match header {
+        Header::BadHeader { number, offset } => return Walked::Fault { number, offset },
+        Header::Version(_) => return walk(file, 8, table),
+    }
+}
+
+pub fn parse(file: &[u8], table: &mut [u32]) -> Reading
+    ensures reply { λ r. ⌜ readingIs r ≡ readingCall (length (now (table .entry))) (now (file .entry)) ⌝ }
+    ensures zeros { λ r. ⌜ now (table .exit) ≡ tableAfter (now (table .entry)) ⌝ }
+{
+    let walked = read_file(file, table);
+    clear(table);
+    match walked {
+        Walked::Done { rows, blocks, next } => Reading::Read {
+            prototypes: rows,
+            blocks,
+            next,
+        },
+        Walked::Fault { number, offset } => Reading::Refused { number, offset },
+    }
+}

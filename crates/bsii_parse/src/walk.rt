@@ -1,0 +1,157 @@
+// The reading walk over the records, up to the end record.
+use crate::blocks::data_block_parser;
+use bsii_prototype::answers::Counted;
+use bsii_prototype::answers::Head;
+use bsii_prototype::fields::fields_parser;
+use bsii_prototype::heads::head_parser;
+use bsii_prototype::past::fields_at;
+use bsii_table::Defined;
+use bsii_table::Found;
+use bsii_table::define;
+use bsii_table::find;
+use bsii_value::answers::Parsed;
+use bsii_value::numbers::size;
+ghost use Prim.Native.Nat.{_≤_};
+ghost use lib.ListN.{length};
+ghost use mathlib.Core.Path.{_≡_};
+ghost use lib.ListN.{drop};
+ghost use Rattle.bsii_format.specs.Reader.{ok};
+ghost use Rattle.bsii_parse.specs.Walks.{Ready, Defining, Carrying, Stepped, Walks, StandingEnd};
+
+// How far the walk is: the next record's offset, the table's rows, and the blocks so far.
+pub struct Progress {
+    pub at: usize,
+    pub rows: usize,
+    pub blocks: usize,
+}
+
+pub enum Step {
+    Go(Progress),
+    End(usize),
+    Refused { number: u32, offset: usize },
+}
+
+pub enum Walked {
+    Done {
+        rows: usize,
+        blocks: usize,
+        next: usize,
+    },
+    Fault {
+        number: u32,
+        offset: usize,
+    },
+}
+
+// A file's offsets fit the table's words, since a file has at most 16,777,216 bytes.
+fn word(x: usize) -> u32
+    requires { ⌜ x ≤ 16_777_216 ⌝ }
+    ensures { λ r. ⌜ r ≡ x ⌝ }
+{
+    x as u32
+}
+
+// A prototype of this id, whose definitions start at `fields`. A new id without room is refused once the prototype is read whole.
+fn prototype_step(s: &[u8], p: Progress, table: &mut [u32], id: u32, fields: usize) -> Step
+    requires { ⌜ Ready (now s) p (now table) ⌝ }
+    ensures { λ r. ⌜ Defining (now (s .entry)) p (now (table .entry)) id fields r (now (table .exit)) ⌝ }
+{
+    let at = p.at;
+    let rows = p.rows;
+    let blocks = p.blocks;
+    let list = fields_parser(s, fields);
+    match list {
+        Counted::Fault { number, offset } => return Step::Refused { number, offset },
+        Counted::Fields { count: _, next } => {
+            let defined = define(table, rows, id, word(at));
+            match defined {
+                Defined::Full => return Step::Refused {
+                    number: 10,
+                    offset: at,
+                },
+                Defined::Rows(held) => return Step::Go(Progress {
+                    at: next,
+                    rows: held,
+                    blocks,
+                }),
+            }
+        }
+    }
+}
+
+// The block whose own id starts at `at`, under the prototype at the offset `prototype`.
+pub fn block_parser(s: &[u8], prototype: usize, at: usize) -> Parsed
+    ensures { λ r. ⌜ StandingEnd (now (s .entry)) prototype at r ⌝ }
+{
+    let fields = fields_at(s, prototype);
+    match fields {
+        Parsed::Fault { number, offset } => Parsed::Fault { number, offset },
+        Parsed::Next(first) => data_block_parser(s, first, at),
+    }
+}
+
+// A block of this id, whose own id starts at `id_at`, under the definition in force.
+fn block_step(s: &[u8], p: Progress, table: &[u32], id: u32, id_at: usize) -> Step
+    requires { ⌜ Ready (now s) p (now table) ⌝ }
+    ensures { λ r. ⌜ Carrying (now (s .entry)) p (now (table .entry)) id «id_at» r ⌝ }
+{
+    let at = p.at;
+    let rows = p.rows;
+    let found = find(table, rows, id);
+    match found {
+        Found::Nothing => return Step::Refused {
+            number: 6,
+            offset: at,
+        },
+        Found::At { in_force, last: _ } => {
+            let parsed = block_parser(s, size(in_force), id_at);
+            match parsed {
+                Parsed::Fault { number, offset } => return Step::Refused { number, offset },
+                Parsed::Next(next) => return Step::Go(Progress {
+                    at: next,
+                    rows,
+                    blocks: p.blocks + 1,
+                }),
+            }
+        }
+    }
+}
+
+pub fn record_step(s: &[u8], p: Progress, table: &mut [u32]) -> Step
+    requires { ⌜ Ready (now s) p (now table) ⌝ }
+    ensures { λ r. ⌜ Stepped (now (s .entry)) p (now (table .entry)) r (now (table .exit)) ⌝ }
+{
+    let head = head_parser(s, p.at);
+    match head {
+        Head::End(next) => return Step::End(next),
+        Head::BadHead { number, offset } => return Step::Refused { number, offset },
+        Head::Prototype { id, name: _, next } => return prototype_step(s, p, table, id, next),
+        Head::Block { id, next } => return block_step(s, p, table, id, next),
+    }
+}
+
+// The records from `start` on, with an empty table.
+pub fn walk(s: &[u8], start: usize, table: &mut [u32]) -> Walked
+    requires { ⌜ (length (now s) ≤ 16_777_216) × (start ≤ length (now s)) ⌝ }
+    ensures { λ r. ⌜ Walks (now (s .entry)) start (now (table .entry)) r (now (table .exit)) ⌝ }
+{
+    let mut p = Progress {
+        at: start,
+        rows: 0,
+        blocks: 0,
+    };
+    loop {
+        let step = record_step(s, p, table);
+        match step {
+            Step::End(next) => return Walked::Done {
+                rows: p.rows,
+                blocks: p.blocks,
+                next,
+            },
+            Step::Refused { number, offset } => return Walked::Fault { number, offset },
+            Step::Go(further) => {
+                p = further;
+            }
+        }
+    }
+}

@@ -1,0 +1,67 @@
+-- `value_past`: by the shape that the table gives.
+use mathlib.Core.Option.{Option}
+use mathlib.Core.Path.{sym, ap, _∙_}
+use lib.ListN.{drop}
+use denote.Ref.{now}
+use Rattle.bsii_format.specs.Reader.{fail}
+use Rattle.bsii_format.specs.Types.{Shape}
+use Rattle.bsii_value.specs.Answers.{endOf}
+use Rattle.bsii_value.specs.Kinds.{shapeIs}
+use Rattle.bsii_past.specs.Unchecked.{uncheckedShape, uncheckedValue}
+use borrow.Author.Needs.{needs}
+use Rattle.bsii_past.proofs.value_past.Statement.{statement}
+use Rattle.bsii_past.proofs.value_past.Tie as tie
+
+shape-of-requires : tie.Need-shape-of-requires
+shape-of-requires c κs = search needs
+
+enum-known-shape : tie.Need-enum-known-shape
+enum-known-shape c = search needs
+
+element-past-requires : tie.Need-element-past-requires
+element-past-requires c κs = search needs
+
+enum-known-shape-2 : tie.Need-enum-known-shape-2
+enum-known-shape-2 c = search needs
+
+array-past-requires : tie.Need-array-past-requires
+array-past-requires c κs = search needs
+
+enum-told : tie.Need-enum-told
+enum-told c = search needs
+
+unlisted-requires : tie.Need-unlisted-requires
+unlisted-requires c κs = search needs
+
+returns : tie.Need-returns
+unfolding uncheckedValue uncheckedShape
+returns c =
+    let a = c .before .before .before .before .before .before .args in
+    c .element-past .ensures ∙ ap (λ (o : Option Shape). endOf (uncheckedShape o (a .at) (drop (a .at) (now (a .s))))) (ap shapeIs (sym (c .before .before .shape .given .1)) ∙ c .before .before .before .before .shape-of .ensures)
+
+returns-2 : tie.Need-returns-2
+unfolding uncheckedValue uncheckedShape
+returns-2 c =
+    let a = c .before .before .before .before .before .before .args in
+    c .array-past .ensures ∙ ap (λ (o : Option Shape). endOf (uncheckedShape o (a .at) (drop (a .at) (now (a .s))))) (ap shapeIs (sym (c .before .before .shape2 .given .1)) ∙ c .before .before .before .before .shape-of .ensures)
+
+returns-3 : tie.Need-returns-3
+unfolding uncheckedValue uncheckedShape fail endOf
+returns-3 c =
+    let a = c .before .before .before .before .before .args in
+    c .unlisted .ensures ∙ ap (λ (o : Option Shape). endOf (uncheckedShape o (a .at) (drop (a .at) (now (a .s))))) (ap shapeIs (sym (c .before .enum-told .given .1)) ∙ c .before .before .before .shape-of .ensures)
+
+pub value-past-spec : {M : Type 1} → statement M
+value-past-spec =
+    tie.close
+    (tie.spec
+    shape-of-requires
+    enum-known-shape
+    element-past-requires
+    enum-known-shape-2
+    array-past-requires
+    enum-told
+    unlisted-requires
+    returns
+    returns-2
+    returns-3)

@@ -1,0 +1,2 @@
+-- What is passed without a check.
+pub mod Unchecked

@@ -1,0 +1,111 @@
+// The ends of values in a file that was accepted: a second walk goes past them and checks no string and no word again.
+//
+// Each function takes the whole file and a position, any position, and answers for every input; its contract gives the answer as the
+// end of an unchecked reader of specs/ on the bytes from there on. Where the format's own reader accepts, that end is the same
+// (proofs/Values).
+use bsii_value::answers::Num;
+use bsii_value::answers::Parsed;
+use bsii_value::numbers::le_u8;
+use bsii_value::numbers::le_u32;
+use bsii_value::numbers::size;
+use bsii_value::strings::str_past;
+use bsii_value::types::Kind;
+use bsii_value::types::Shape;
+use bsii_value::types::arity;
+use bsii_value::types::shape_of;
+use bsii_value::types::width;
+use bsii_value::values::element_parser;
+use bsii_value::values::numbers_past;
+ghost use mathlib.Core.Path.{_≡_};
+ghost use lib.ListN.{drop};
+ghost use Rattle.bsii_format.specs.Reader.{repeat};
+ghost use Rattle.bsii_value.specs.Answers.{endOf};
+ghost use Rattle.bsii_value.specs.Kinds.{kindIs};
+ghost use Rattle.bsii_past.specs.Unchecked.{uncheckedId, uncheckedElement, uncheckedArray, uncheckedValue};
+
+pub fn id_past(s: &[u8], at: usize) -> Parsed
+    ensures { λ r. ⌜ r ≡ endOf (uncheckedId at (drop at (now (s .entry)))) ⌝ }
+{
+    let count = le_u8(s, at);
+    match count {
+        Num::Short(offset) => Parsed::Fault { number: 3, offset },
+        Num::Got(n, next) => {
+            if n == 0xff {
+                return numbers_past(s, next, 1, 8);
+            }
+            numbers_past(s, next, size(n), 8)
+        }
+    }
+}
+
+// Numbers have nothing to check: their reader is the format's own.
+pub fn element_past(s: &[u8], at: usize, kind: Kind) -> Parsed
+    ensures { λ r. ⌜ r ≡ endOf (uncheckedElement (kindIs kind) at (drop at (now (s .entry)))) ⌝ }
+{
+    match kind {
+        Kind::Numbers(_) => element_parser(s, at, kind),
+        Kind::String => str_past(s, at),
+        Kind::EncodedString => numbers_past(s, at, 1, 8),
+        Kind::Id => id_past(s, at),
+    }
+}
+
+// One element after the other, for kinds whose elements have no common length.
+fn walk_past(s: &[u8], start: usize, count: u32, kind: Kind) -> Parsed
+    ensures { λ r. ⌜ r ≡ endOf (repeat count (uncheckedElement (kindIs kind)) start (drop start (now (s .entry)))) ⌝ }
+{
+    let mut left = count;
+    let mut at = start;
+    while 0 < left {
+        let element = element_past(s, at, kind);
+        match element {
+            Parsed::Next(next) => {
+                at = next;
+            }
+            Parsed::Fault { number, offset } => {
+                return Parsed::Fault { number, offset };
+            }
+        }
+        left -= 1;
+    }
+    Parsed::Next(at)
+}
+
+// Numbers and words have one length each, so a product passes a row of them.
+pub fn elements_past(s: &[u8], at: usize, count: u32, kind: Kind) -> Parsed
+    ensures { λ r. ⌜ r ≡ endOf (repeat count (uncheckedElement (kindIs kind)) at (drop at (now (s .entry)))) ⌝ }
+{
+    match kind {
+        Kind::Numbers(n) => numbers_past(s, at, size(count) * size(arity(n)), size(width(n))),
+        Kind::EncodedString => numbers_past(s, at, size(count), 8),
+        _ => walk_past(s, at, count, kind),
+    }
+}
+
+pub fn array_past(s: &[u8], at: usize, kind: Kind) -> Parsed
+    ensures { λ r. ⌜ r ≡ endOf (uncheckedArray (kindIs kind) at (drop at (now (s .entry)))) ⌝ }
+{
+    let count = le_u32(s, at);
+    match count {
+        Num::Short(offset) => Parsed::Fault { number: 3, offset },
+        Num::Got(n, next) => elements_past(s, next, n, kind),
+    }
+}
+
+// A type that is not listed has no length that could be guessed.
+fn unlisted(offset: usize) -> Parsed
+    ensures { λ r. ⌜ r ≡ Parsed.Fault 7 offset ⌝ }
+{
+    Parsed::Fault { number: 7, offset }
+}
+
+pub fn value_past(s: &[u8], at: usize, type_id: u32) -> Parsed
+    ensures { λ r. ⌜ r ≡ endOf (uncheckedValue «type_id» at (drop at (now (s .entry)))) ⌝ }
+{
+    let shape = shape_of(type_id);
+    match shape {
+        Shape::One(kind) => element_past(s, at, kind),
+        Shape::Many(kind) => array_past(s, at, kind),
+        Shape::Unlisted => unlisted(at),
+    }
+}

@@ -1,0 +1,8 @@
+-- What the proofs of the code share. For callers: Agrees says that an unchecked reader gives what the checking one accepted, Turns is one
+-- step of a walk over definitions, and Beginnings has the place of a prototype's name.
+pub mod Agrees
+pub mod Names
+pub mod Entries
+pub mod Lists
+pub mod Turns
+pub mod Beginnings

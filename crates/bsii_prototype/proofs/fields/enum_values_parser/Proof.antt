@@ -1,0 +1,54 @@
+-- `fields::enum_values_parser`: The law of the arm that was taken.
+use mathlib.Core.Path.{sym, ap, _∙_}
+use lib.ListN.{drop}
+use denote.Ref.{now}
+use borrow.Author.Needs.{needs}
+use Rattle.bsii_format.specs.Reader.{repeat}
+use Rattle.bsii_format.specs.Strings.{strParser}
+use Rattle.bsii_value.specs.Answers.{numOf, endOf}
+use Rattle.bsii_prototype.proofs.Entries.{list-none, list-short, list-more}
+use Rattle.bsii_prototype.proofs.Agrees.{checked-enum-value, checked-enum-values}
+use Rattle.bsii_prototype.proofs.fields.enum_values_parser.Statement.{statement}
+use Rattle.bsii_prototype.proofs.fields.enum_values_parser.Tie as tie
+
+returns : tie.Need-returns
+unfolding endOf
+returns c = let a = c .before .before .args in rw checked-enum-values (sym (ap endOf (list-none strParser (a .at) (drop (a .at) (now (a .s))) (a .type-id) (c .if1 .taken))))
+
+le-u32-requires : tie.Need-le-u32-requires
+le-u32-requires c κs = search needs
+
+enum-known-count : tie.Need-enum-known-count
+enum-known-count c = search needs
+
+enum-known-count-2 : tie.Need-enum-known-count-2
+enum-known-count-2 c = search needs
+
+enum-list-requires : tie.Need-enum-list-requires
+enum-list-requires c κs = search needs
+
+returns-2 : tie.Need-returns-2
+unfolding endOf
+returns-2 c =
+    let a = c .before .before .before .before .before .before .args in
+    let e = sym (c .before .before .before .le-u32 .ensures) ∙ ap (numOf (now (a .s))) (c .before .count .given .1) in
+    rw checked-enum-values (sym (ap endOf (list-short strParser (a .at) (drop (a .at) (now (a .s))) (a .type-id) (c .before .before .before .before .if1 .left) e)))
+
+returns-3 : tie.Need-returns-3
+returns-3 c =
+    let a = c .before .before .before .before .before .before .before .args in
+    let e = sym (c .before .before .before .before .le-u32 .ensures) ∙ ap (numOf (now (a .s))) (c .before .before .count2 .given .1) in
+    let g = c .before .before .count2 .given .0 in
+    rw checked-enum-values (c .enum-list .ensures ∙ ap (λ R. endOf (repeat (g .0) R (g .1 .0) (drop (g .1 .0) (now (a .s))))) checked-enum-value ∙ sym (ap endOf (list-more strParser (a .at) (drop (a .at) (now (a .s))) (a .type-id) (c .before .before .before .before .before .if1 .left) e)))
+
+pub enum-values-parser-spec : {M : Type 1} → statement M
+enum-values-parser-spec =
+    tie.close
+    (tie.spec
+    returns
+    le-u32-requires
+    enum-known-count
+    enum-known-count-2
+    enum-list-requires
+    returns-2
+    returns-3)

@@ -1,0 +1,63 @@
+-- `past::definition_past`: The law of the arm that was taken. The name lies inside the file, so its start fits.
+use mathlib.Core.Path.{sym, _∙_}
+use native.Mathlib.Omega.{arith}
+use denote.Ref.{now}
+use borrow.Author.Needs.{needs}
+use Rattle.bsii_prototype.proofs.Names.{unchecked}
+use Rattle.bsii_prototype.proofs.Entries.{name-bad, name-fits, list-bad, field-whole}
+use Rattle.bsii_prototype.proofs.past.definition_past.Statement.{statement}
+use Rattle.bsii_prototype.proofs.past.definition_past.Tie as tie
+
+str-past-requires : tie.Need-str-past-requires
+str-past-requires c κs = search needs
+
+enum-known-string : tie.Need-enum-known-string
+enum-known-string c = search needs
+
+enum-known-string-2 : tie.Need-enum-known-string-2
+enum-known-string-2 c = search needs
+
+enum-values-past-requires : tie.Need-enum-values-past-requires
+enum-values-past-requires c κs = search needs
+
+enum-known-list : tie.Need-enum-known-list
+enum-known-list c = search needs
+
+enum-known-list-2 : tie.Need-enum-known-list-2
+enum-known-list-2 c = search needs
+
+add-t14 : tie.Need-add-t14
+add-t14 c =
+    let a = c .before .before .before .before .before .before .before .before .before .args in
+    let e = sym (c .before .before .before .before .before .string2 .given .1) ∙ c .before .before .before .before .before .before .before .str-past .ensures in
+    omega (arith, name-fits unchecked (now (a .s)) (a .at) (a .type-id) e)
+
+returns : tie.Need-returns
+returns c = let a = c .before .before .before .before .before .args in name-bad unchecked (now (a .s)) (a .at) (a .type-id) (sym (c .before .string .given .1) ∙ c .before .before .before .str-past .ensures)
+
+returns-2 : tie.Need-returns-2
+returns-2 c =
+    let a = c .before .before .before .before .before .before .before .before .before .args in
+    let e = sym (c .before .before .before .before .before .string2 .given .1) ∙ c .before .before .before .before .before .before .before .str-past .ensures in
+    list-bad unchecked (now (a .s)) (a .at) (a .type-id) e (sym (c .before .list .given .1) ∙ c .before .before .before .enum-values-past .ensures)
+
+returns-3 : tie.Need-returns-3
+returns-3 c =
+    let a = c .before .before .before .before .before .before .before .before .before .args in
+    let e = sym (c .before .before .before .before .before .string2 .given .1) ∙ c .before .before .before .before .before .before .before .str-past .ensures in
+    field-whole unchecked (now (a .s)) (a .at) (a .type-id) e (sym (c .before .list2 .given .1) ∙ c .before .before .before .enum-values-past .ensures)
+
+pub definition-past-spec : {M : Type 1} → statement M
+definition-past-spec =
+    tie.close
+    (tie.spec
+    str-past-requires
+    enum-known-string
+    enum-known-string-2
+    enum-values-past-requires
+    enum-known-list
+    enum-known-list-2
+    add-t14
+    returns
+    returns-2
+    returns-3)

@@ -1,0 +1,36 @@
+// What the readers answer: specs/Answers says what each case means.
+
+// An entry of a list of field definitions. The name's bytes lie from name to name_end, where an enum list follows.
+pub enum Entry {
+    Field {
+        type_id: u32,
+        name: usize,
+        name_end: usize,
+        next: usize,
+    },
+    Last(usize),
+    Bad {
+        number: u32,
+        offset: usize,
+    },
+}
+
+// A whole list of field definitions: how many, and the position behind its end.
+pub enum Counted {
+    Fields { count: usize, next: usize },
+    Fault { number: u32, offset: usize },
+}
+
+// How a record begins. A prototype's name lies from name to next, where its field definitions start.
+pub enum Head {
+    End(usize),
+    Prototype { id: u32, name: usize, next: usize },
+    Block { id: u32, next: usize },
+    BadHead { number: u32, offset: usize },
+}
+
+// The records of a file start at 8.
+pub enum Header {
+    Version(u32),
+    BadHeader { number: u32, offset: usize },
+}

@@ -1,0 +1,149 @@
+// Field definitions that were accepted before: their strings are not checked again.
+use crate::answers::Counted;
+use crate::answers::Entry;
+use bsii_value::answers::Num;
+use bsii_value::answers::Parsed;
+use bsii_value::answers::Str;
+use bsii_value::numbers::le_u32;
+use bsii_value::numbers::left;
+use bsii_value::strings::str_past;
+ghost use mathlib.Core.Path.{_≡_};
+ghost use Prim.Native.Nat.{_+_};
+ghost use lib.ListN.{drop};
+ghost use Rattle.bsii_format.specs.Reader.{repeat};
+ghost use Rattle.bsii_value.specs.Answers.{endOf, strOf, uncheckedStr};
+ghost use Rattle.bsii_prototype.specs.Entries.{enumValueWith, enumValuesWith, definitionWith, entryWith, fieldsWith, uncheckedHead};
+ghost use Rattle.bsii_prototype.specs.Answers.{entryOf, countOf};
+
+pub fn enum_value_past(s: &[u8], at: usize) -> Parsed
+    ensures { λ r. ⌜ r ≡ endOf (enumValueWith uncheckedStr at (drop at (now (s .entry)))) ⌝ }
+{
+    let value = le_u32(s, at);
+    match value {
+        Num::Short(offset) => Parsed::Fault { number: 3, offset },
+        Num::Got(_, next) => str_past(s, next),
+    }
+}
+
+fn enum_list_past(s: &[u8], start: usize, count: u32) -> Parsed
+    ensures { λ r. ⌜ r ≡ endOf (repeat count (enumValueWith uncheckedStr) start (drop start (now (s .entry)))) ⌝ }
+{
+    let mut left = count;
+    let mut at = start;
+    while 0 < left {
+        let pair = enum_value_past(s, at);
+        match pair {
+            Parsed::Next(next) => {
+                at = next;
+            }
+            Parsed::Fault { number, offset } => {
+                return Parsed::Fault { number, offset };
+            }
+        }
+        left -= 1;
+    }
+    Parsed::Next(at)
+}
+
+pub fn enum_values_past(s: &[u8], at: usize, type_id: u32) -> Parsed
+    ensures { λ r. ⌜ r ≡ endOf (enumValuesWith uncheckedStr «type_id» at (drop at (now (s .entry)))) ⌝ }
+{
+    if type_id != 0x37 {
+        return Parsed::Next(at);
+    }
+    let count = le_u32(s, at);
+    match count {
+        Num::Short(offset) => Parsed::Fault { number: 3, offset },
+        Num::Got(n, next) => enum_list_past(s, next, n),
+    }
+}
+
+fn definition_past(s: &[u8], at: usize, type_id: u32) -> Entry
+    ensures { λ r. ⌜ r ≡ entryOf (at + 4) (definitionWith uncheckedStr «type_id» at (drop at (now (s .entry)))) ⌝ }
+{
+    let string = str_past(s, at);
+    match string {
+        Parsed::Fault { number, offset } => Entry::Bad { number, offset },
+        Parsed::Next(name_end) => {
+            let list = enum_values_past(s, name_end, type_id);
+            match list {
+                Parsed::Fault { number, offset } => Entry::Bad { number, offset },
+                Parsed::Next(next) => Entry::Field {
+                    type_id,
+                    name: at + 4,
+                    name_end,
+                    next,
+                },
+            }
+        }
+    }
+}
+
+pub fn value_prototype_past(s: &[u8], at: usize) -> Entry
+    ensures { λ r. ⌜ r ≡ entryOf (at + 8) (entryWith uncheckedStr at (drop at (now (s .entry)))) ⌝ }
+{
+    let number = le_u32(s, at);
+    match number {
+        Num::Short(offset) => Entry::Bad { number: 3, offset },
+        Num::Got(type_id, next) => {
+            if type_id == 0 {
+                return Entry::Last(next);
+            }
+            definition_past(s, next, type_id)
+        }
+    }
+}
+
+pub fn fields_past(s: &[u8], start: usize) -> Counted
+    ensures { λ r. ⌜ r ≡ countOf (fieldsWith uncheckedStr start (drop start (now (s .entry)))) ⌝ }
+{
+    let mut count: usize = 0;
+    let mut at = start;
+    loop {
+        let entry = value_prototype_past(s, at);
+        match entry {
+            Entry::Field {
+                type_id: _,
+                name: _,
+                name_end: _,
+                next,
+            } => {
+                at = next;
+                count += 1;
+            }
+            Entry::Last(next) => {
+                return Counted::Fields { count, next };
+            }
+            Entry::Bad { number, offset } => {
+                return Counted::Fault { number, offset };
+            }
+        }
+    }
+}
+
+// The first field definition of the prototype record at offset: behind a u32 zero, the byte 1, the u32 id and the name.
+pub fn fields_at(s: &[u8], offset: usize) -> Parsed
+    ensures { λ r. ⌜ r ≡ endOf (uncheckedHead offset (drop offset (now (s .entry)))) ⌝ }
+{
+    if left(s, offset) < 9 {
+        return Parsed::Fault { number: 3, offset };
+    }
+    str_past(s, offset + 9)
+}
+
+// The name of the prototype record at offset.
+pub fn name_at(s: &[u8], offset: usize) -> Str
+    ensures { λ r. ⌜ strOf (now (s .entry)) r ≡ uncheckedHead offset (drop offset (now (s .entry))) ⌝ }
+{
+    if left(s, offset) < 9 {
+        return Str::Cut(offset);
+    }
+    let string = str_past(s, offset + 9);
+    match string {
+        Parsed::Fault { number: _, offset } => Str::Cut(offset),
+        Parsed::Next(next) => Str::Text {
+            start: offset + 13,
+            next,
+        },
+    }
+}

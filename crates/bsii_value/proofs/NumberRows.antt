@@ -1,0 +1,39 @@
+-- A row of numbers ends at a place that a product gives, or runs out at one that a division gives.
+use mathlib.Core.Path.{_≡_, ap, _∙_}
+use Prim.Native.Nat.{ℕ, _+_, _-_, _*_, _/_, _^_, _≤_, _<_}
+use native.Mathlib.Nat.{mul-zero, div-mul-le-self, mul-le-mul-right, le-trans, le-of-lt, lt-of-le-of-lt, mul-le-mul-left, mul-lt-mul-of-pos-right}
+use native.Mathlib.Omega.{arith}
+use mathlib.Core.List.{List}
+use lib.ListN.{length, drop}
+use Rattle.bsii_format.specs.Replies.{malformed}
+use Rattle.bsii_format.specs.Reader.{ok, faultAt, repeat}
+use Rattle.bsii_format.specs.Numbers.{number}
+use Rattle.bsii_format.proofs.Positions.{numbers-at, numbers-short}
+use Rattle.bsii_value.specs.Answers.{endOf}
+use Rattle.bsii_value.specs.declared.answers.Parsed.the-variants.{Next, Fault}
+use Rattle.bsii_value.proofs.Ends.{answer}
+
+-- as many as fit are no longer than what is left
+pub fitting : (n w l : ℕ) → n ≤ l / w → n * w ≤ l
+fitting n w l h = le-trans (mul-le-mul-right w h) (div-mul-le-self l w)
+
+pub product-below : {n m : ℕ} → n < 2 ^ 32 → m < 2 ^ 32 → n * m < 2 ^ 64
+product-below {n} {m} h k = lt-of-le-of-lt (mul-le-mul-left n (le-of-lt k)) (mul-lt-mul-of-pos-right h (omega arith))
+
+module _ (s : List ℕ) (at n w : ℕ) where
+  pub row-whole : n * w ≤ length s - at → Next (at + n * w) ≡ endOf (repeat n (number w) at (drop at s))
+  unfolding endOf
+  row-whole h = answer (repeat n (number w) at (drop at s)) (ok tt (at + n * w) (drop (at + n * w) s)) (numbers-at n w s at h)
+
+  -- numbers of no bytes
+  pub row-empty : w ≡ 0 → Next at ≡ endOf (repeat n (number w) at (drop at s))
+  row-empty e =
+      let z : n * w ≡ 0 = ap (λ (k : ℕ). n * k) e ∙ mul-zero n in
+      let k : at ≡ at + n * w = omega arith in
+      ap Next k ∙ row-whole (omega arith)
+
+  pub row-short : (l : ℕ) → l ≡ length s - at → 0 < w → l / w < n → Fault 3 (at + l / w * w) ≡ endOf (repeat n (number w) at (drop at s))
+  unfolding endOf
+  row-short l e p h =
+      ap (λ (l : ℕ). Fault 3 (at + l / w * w)) e
+      ∙ answer (repeat n (number w) at (drop at s)) (faultAt malformed (at + (length s - at) / w * w)) (numbers-short n w s at p (rw e at h))

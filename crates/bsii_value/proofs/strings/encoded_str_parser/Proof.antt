@@ -1,0 +1,50 @@
+-- `strings::encoded_str_parser`: The word is read, bit 63 dropped, and its digits tested.
+use mathlib.Core.Path.{sym, ap, _∙_}
+use lib.ListN.{drop}
+use denote.Ref.{now}
+use Rattle.bsii_value.specs.Answers.{numOf64}
+use Rattle.bsii_value.proofs.Words.{word-short, word-whole, word-not}
+use borrow.Author.Needs.{needs}
+use Rattle.bsii_value.proofs.strings.encoded_str_parser.Statement.{statement}
+use Rattle.bsii_value.proofs.strings.encoded_str_parser.Tie as tie
+
+le-u64-requires : tie.Need-le-u64-requires
+le-u64-requires c κs = search needs
+
+enum-known-word : tie.Need-enum-known-word
+enum-known-word c = search needs
+
+enum-known-word-2 : tie.Need-enum-known-word-2
+enum-known-word-2 c = search needs
+
+spelled-requires : tie.Need-spelled-requires
+spelled-requires c κs = search needs
+
+returns : tie.Need-returns
+returns c =
+    let a = c .before .before .before .before .before .args in
+    sym (word-short (drop (a .at) (now (a .s))) (a .at) (sym (c .before .before .before .le-u64 .ensures) ∙ ap (numOf64 (now (a .s))) (c .before .word .given .1)))
+
+returns-2 : tie.Need-returns-2
+returns-2 c =
+    let a = c .before .before .before .before .before .before .before .args in
+    let e = sym (c .before .before .before .before .before .le-u64 .ensures) ∙ ap (numOf64 (now (a .s))) (c .before .before .before .word2 .given .1) in
+    sym (word-whole (drop (a .at) (now (a .s))) (a .at) _ _ _ e (sym (c .before .spelled .ensures) ∙ c .if1 .taken))
+
+returns-3 : tie.Need-returns-3
+returns-3 c =
+    let a = c .before .before .before .before .before .before .before .args in
+    let e = sym (c .before .before .before .before .before .le-u64 .ensures) ∙ ap (numOf64 (now (a .s))) (c .before .before .before .word2 .given .1) in
+    sym (word-not (drop (a .at) (now (a .s))) (a .at) _ _ _ e (sym (c .before .spelled .ensures) ∙ c .if1 .left))
+
+pub encoded-str-parser-spec : {M : Type 1} → statement M
+encoded-str-parser-spec =
+    tie.close
+    (tie.spec
+    le-u64-requires
+    enum-known-word
+    enum-known-word-2
+    spelled-requires
+    returns
+    returns-2
+    returns-3)

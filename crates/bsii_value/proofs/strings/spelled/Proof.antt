@@ -1,0 +1,32 @@
+-- `strings::spelled`: Invariant: what is left is spelled if the whole is. Measure: what is left, which a division by 38 lowers.
+use mathlib.Core.Path.{_≡_, refl, sym, _∙_}
+use native.Mathlib.Omega.{arith}
+use Rattle.bsii_format.specs.Strings.{spelled}
+use Rattle.bsii_value.proofs.Base38.{spelled-more, spelled-not, spelled-none}
+use Rattle.bsii_value.proofs.strings.spelled.Statement.{statement}
+use Rattle.bsii_value.proofs.strings.spelled.Tie as tie
+
+abbrev Inv-loop : tie.InvT-loop
+Inv-loop n rest₀ rest = spelled rest ≡ spelled n
+
+abbrev μ-loop : tie.MeasureT-loop
+μ-loop n rest₀ rest = rest
+
+loop-holds : tie.Need-loop-holds Inv-loop μ-loop
+loop-holds c = refl
+
+returns : tie.Need-returns Inv-loop μ-loop
+returns c = let l = c .before .before .loop in sym (spelled-not (l .rest) (omega arith) (c .if1 .taken)) ∙ l .inv
+
+loop-less : tie.Need-loop-less Inv-loop μ-loop
+loop-less c = omega arith
+
+loop-again : tie.Need-loop-again Inv-loop μ-loop
+loop-again c = let l = c .before .before .loop in sym (spelled-more (l .rest) (omega arith) (c .if1 .left)) ∙ l .inv
+
+returns-2 : tie.Need-returns-2 Inv-loop μ-loop
+returns-2 c = let l = c .before .loop in sym (spelled-none (l .rest) (omega arith)) ∙ l .inv
+
+pub spelled-spec : {M : Type 1} → statement M
+spelled-spec =
+    tie.close (tie.spec Inv-loop μ-loop loop-holds returns loop-less loop-again returns-2)

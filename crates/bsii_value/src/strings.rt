@@ -1,0 +1,159 @@
+// Strings, encoded words and ids.
+use crate::answers::Num;
+use crate::answers::Num64;
+use crate::answers::Parsed;
+use crate::answers::Str;
+use crate::answers::Word;
+use crate::numbers::le_u8;
+use crate::numbers::le_u32;
+use crate::numbers::le_u64;
+use crate::numbers::left;
+use crate::numbers::size;
+use crate::utf8::is_utf8;
+ghost use mathlib.Core.Path.{_≡_};
+ghost use lib.ListN.{drop};
+ghost use Rattle.bsii_format.specs.Reader.{repeat};
+ghost use Rattle.bsii_format.specs.Numbers.{number};
+ghost use Rattle.bsii_format.specs.Strings.{strParser, spelled as spelledOf, encodedStrParser, idParser};
+ghost use Rattle.bsii_value.specs.Answers.{strOf, wordOf, endOf, uncheckedStr};
+
+pub fn str_parser(s: &[u8], at: usize) -> Str
+    ensures { λ r. ⌜ strOf (now (s .entry)) r ≡ strParser at (drop at (now (s .entry))) ⌝ }
+{
+    let length = le_u32(s, at);
+    match length {
+        Num::Short(offset) => Str::Cut(offset),
+        Num::Got(n, start) => {
+            let count = size(n);
+            if left(s, start) < count {
+                return Str::Cut(start);
+            }
+            let next = start + count;
+            if is_utf8(&s[start..next]) {
+                Str::Text { start, next }
+            } else {
+                Str::NotUtf8(start)
+            }
+        }
+    }
+}
+
+pub(crate) fn str_end(s: &[u8], at: usize) -> Parsed
+    ensures { λ r. ⌜ r ≡ endOf (strParser at (drop at (now (s .entry)))) ⌝ }
+{
+    let text = str_parser(s, at);
+    match text {
+        Str::Text { start: _, next } => Parsed::Next(next),
+        Str::Cut(offset) => Parsed::Fault { number: 3, offset },
+        Str::NotUtf8(offset) => Parsed::Fault { number: 4, offset },
+    }
+}
+
+// The end of a string whose bytes were checked before: a second walk over names need not check them twice.
+pub fn str_past(s: &[u8], at: usize) -> Parsed
+    ensures { λ r. ⌜ r ≡ endOf (uncheckedStr at (drop at (now (s .entry)))) ⌝ }
+{
+    let length = le_u32(s, at);
+    match length {
+        Num::Short(offset) => Parsed::Fault { number: 3, offset },
+        Num::Got(n, start) => {
+            let count = size(n);
+            if left(s, start) < count {
+                return Parsed::Fault {
+                    number: 3,
+                    offset: start,
+                };
+            }
+            Parsed::Next(start + count)
+        }
+    }
+}
+
+// Whether no digit to base 38 is 0.
+pub fn spelled(n: u64) -> bool
+    ensures { λ r. ⌜ r ≡ spelledOf n ⌝ }
+{
+    let mut rest = n;
+    while 0 < rest {
+        if rest % 38 == 0 {
+            return false;
+        }
+        rest = rest / 38;
+    }
+    true
+}
+
+pub fn encoded_str_parser(s: &[u8], at: usize) -> Word
+    ensures { λ r. ⌜ wordOf (now (s .entry)) r ≡ encodedStrParser at (drop at (now (s .entry))) ⌝ }
+{
+    let word = le_u64(s, at);
+    match word {
+        Num64::Short64(offset) => Word::CutWord(offset),
+        Num64::Got64(n, next) => {
+            let low = n % 0x8000_0000_0000_0000;
+            if spelled(low) {
+                Word::Low63(low, next)
+            } else {
+                Word::ZeroDigit(at)
+            }
+        }
+    }
+}
+
+pub(crate) fn word_past(s: &[u8], at: usize) -> Parsed
+    ensures { λ r. ⌜ r ≡ endOf (encodedStrParser at (drop at (now (s .entry)))) ⌝ }
+{
+    let word = encoded_str_parser(s, at);
+    match word {
+        Word::Low63(_, next) => Parsed::Next(next),
+        Word::CutWord(offset) => Parsed::Fault { number: 3, offset },
+        Word::ZeroDigit(offset) => Parsed::Fault { number: 5, offset },
+    }
+}
+
+fn words_past(s: &[u8], start: usize, count: u32) -> Parsed
+    ensures { λ r. ⌜ r ≡ endOf (repeat count encodedStrParser start (drop start (now (s .entry)))) ⌝ }
+{
+    let mut left = count;
+    let mut at = start;
+    while 0 < left {
+        let word = word_past(s, at);
+        match word {
+            Parsed::Next(next) => {
+                at = next;
+            }
+            Parsed::Fault { number, offset } => {
+                return Parsed::Fault { number, offset };
+            }
+        }
+        left -= 1;
+    }
+    Parsed::Next(at)
+}
+
+fn u64_past(s: &[u8], at: usize) -> Parsed
+    ensures { λ r. ⌜ r ≡ endOf (number 8 at (drop at (now (s .entry)))) ⌝ }
+{
+    if left(s, at) < 8 {
+        return Parsed::Fault {
+            number: 3,
+            offset: at,
+        };
+    }
+    Parsed::Next(at + 8)
+}
+
+pub fn id_parser(s: &[u8], at: usize) -> Parsed
+    ensures { λ r. ⌜ r ≡ endOf (idParser at (drop at (now (s .entry)))) ⌝ }
+{
+    let count = le_u8(s, at);
+    match count {
+        Num::Short(offset) => Parsed::Fault { number: 3, offset },
+        Num::Got(n, next) => {
+            if n == 0xff {
+                return u64_past(s, next);
+            }
+            words_past(s, next, n)
+        }
+    }
+}

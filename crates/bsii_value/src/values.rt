@@ -1,0 +1,123 @@
+// Values by type.
+use crate::answers::Num;
+use crate::answers::Parsed;
+use crate::numbers::le_u32;
+use crate::numbers::left;
+use crate::numbers::size;
+use crate::strings::id_parser;
+use crate::strings::str_end;
+use crate::strings::word_past;
+use crate::types::Kind;
+use crate::types::Numeric;
+use crate::types::Shape;
+use crate::types::arity;
+use crate::types::shape_of;
+use crate::types::width;
+ghost use mathlib.Core.Option.{some};
+ghost use mathlib.Core.Path.{_≡_};
+ghost use Prim.Native.Nat.{_*_};
+ghost use lib.ListN.{drop};
+ghost use Rattle.bsii_format.specs.Reader.{repeat};
+ghost use Rattle.bsii_format.specs.Numbers.{number};
+ghost use Rattle.bsii_format.specs.Types.{numbers, many};
+ghost use Rattle.bsii_format.specs.Values.{elementParser, shapeParser, valueParser};
+ghost use Rattle.bsii_value.specs.Answers.{endOf};
+ghost use Rattle.bsii_value.specs.Kinds.{numericIs, kindIs};
+
+// The end of a row of numbers, or the first number that runs out: computed, since an array of numbers need not be walked.
+pub fn numbers_past(s: &[u8], at: usize, count: usize, width: usize) -> Parsed
+    ensures { λ r. ⌜ r ≡ endOf (repeat count (number width) at (drop at (now (s .entry)))) ⌝ }
+{
+    if width == 0 {
+        return Parsed::Next(at);
+    }
+    let whole = left(s, at) / width;
+    if whole < count {
+        return Parsed::Fault {
+            number: 3,
+            offset: at + whole * width,
+        };
+    }
+    Parsed::Next(at + count * width)
+}
+
+// A product of two counts of 32 bits fits.
+fn product(n: u32, m: u32) -> usize
+    ensures { λ r. ⌜ r ≡ n * m ⌝ }
+{
+    (n as usize) * (m as usize)
+}
+
+// One value of a few numbers: only where it runs out a division says which number does.
+fn numeric_past(s: &[u8], at: usize, n: Numeric) -> Parsed
+    ensures { λ r. ⌜ r ≡ endOf (elementParser (numbers (numericIs n)) at (drop at (now (s .entry)))) ⌝ }
+{
+    let total = product(arity(n), width(n));
+    if left(s, at) < total {
+        return numbers_past(s, at, size(arity(n)), size(width(n)));
+    }
+    Parsed::Next(at + total)
+}
+
+pub fn element_parser(s: &[u8], at: usize, kind: Kind) -> Parsed
+    ensures { λ r. ⌜ r ≡ endOf (elementParser (kindIs kind) at (drop at (now (s .entry)))) ⌝ }
+{
+    match kind {
+        Kind::Numbers(n) => numeric_past(s, at, n),
+        Kind::String => str_end(s, at),
+        Kind::EncodedString => word_past(s, at),
+        Kind::Id => id_parser(s, at),
+    }
+}
+
+fn elements_past(s: &[u8], start: usize, count: u32, kind: Kind) -> Parsed
+    ensures { λ r. ⌜ r ≡ endOf (repeat count (elementParser (kindIs kind)) start (drop start (now (s .entry)))) ⌝ }
+{
+    let mut left = count;
+    let mut at = start;
+    while 0 < left {
+        let element = element_parser(s, at, kind);
+        match element {
+            Parsed::Next(next) => {
+                at = next;
+            }
+            Parsed::Fault { number, offset } => {
+                return Parsed::Fault { number, offset };
+            }
+        }
+        left -= 1;
+    }
+    Parsed::Next(at)
+}
+
+fn array_parser(s: &[u8], at: usize, kind: Kind) -> Parsed
+    ensures { λ r. ⌜ r ≡ endOf (shapeParser (some (many (kindIs kind))) at (drop at (now (s .entry)))) ⌝ }
+{
+    let count = le_u32(s, at);
+    match count {
+        Num::Short(offset) => Parsed::Fault { number: 3, offset },
+        Num::Got(n, next) => match kind {
+            Kind::Numbers(form) => numbers_past(
+                s,
+                next,
+                product(n, arity(form)),
+                size(width(form)),
+            ),
+            _ => elements_past(s, next, n, kind),
+        },
+    }
+}
+
+pub fn value_parser(s: &[u8], at: usize, type_id: u32) -> Parsed
+    ensures { λ r. ⌜ r ≡ endOf (valueParser «type_id» at (drop at (now (s .entry)))) ⌝ }
+{
+    let shape = shape_of(type_id);
+    match shape {
+        Shape::One(kind) => element_parser(s, at, kind),
+        Shape::Many(kind) => array_parser(s, at, kind),
+        Shape::Unlisted => Parsed::Fault {
+            number: 7,
+            offset: at,
+        },
+    }
+}
