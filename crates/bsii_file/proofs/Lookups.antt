@@ -1,0 +1,127 @@
+-- What every look-up has from `read_file`: the file and the call's answer, and from `find` the last definition of an id.
+use mathlib.Core.Path.{_≡_, refl, sym, ap, _∙_, subst}
+use Prim.Native.Nat.{ℕ}
+use native.Mathlib.Omega.{arith}
+use mathlib.Core.Bool.{Bool, true, false, cond}
+use mathlib.Core.Option.{Option, none, some, Option·map}
+use mathlib.Core.List.{List, [], _∷_}
+use lib.ListN.{length, drop}
+use lib.Dec.{eqb}
+use Rattle.bsii_format.specs.Replies.{Reply, refusal}
+use Rattle.bsii_format.specs.Reader.{ok}
+use Rattle.bsii_format.specs.Prototypes.{Prototype}
+use Rattle.bsii_format.specs.Blocks.{findBy, getPrototype}
+use Rattle.bsii_format.specs.File.{recordBytes, BsiiFile, parse, prototypesOf}
+use Rattle.bsii_format.specs.Calls.{Placed, ofFile, placedRecords, prototypesIn}
+use Rattle.bsii_table.specs.Rows.{Row, lookup}
+use Rattle.bsii_table.specs.Table.{foundRow}
+use Rattle.bsii_table.specs.Relation.{Holds}
+use Rattle.bsii_table.specs.declared.Found.{Found}
+use Rattle.bsii_table.specs.declared.Found.the-variants.{At, Nothing}
+use Rattle.bsii_table.proofs.Relation.{found-at, found-nothing}
+use Rattle.bsii_parse.specs.Walks.{Stands, blockCount, bare, Kept, ReadFile, read, unread}
+use Rattle.bsii_parse.specs.declared.walk.Walked.{Walked}
+use Rattle.bsii_parse.specs.declared.walk.Walked.the-variants.{Done, Fault as Stopped}
+use Rattle.bsii_parse.proofs.Tables.{bare-all}
+use Rattle.bsii_file.specs.Lookups.{lastDefinition}
+
+-- ---- the file
+
+done≢stopped : {P : Type 0} {a b n k o : ℕ} → _≡_ {A = Walked} (Done a b n) (Stopped k o) → P
+done≢stopped e = let z : _≡_ {A = ℕ} 0 1 = cc in let f : ⊥ = omega arith in absurd f
+
+-- the file that was read up to n, its number of blocks, and the table that holds its definitions
+pub record WasRead (s t : List ℕ) (rows blocks n : ℕ) (t′ : List ℕ) : Type 0 where
+  pub file : BsiiFile
+  pub parsed : parse (length t) s ≡ ok file n (drop n s)
+  pub kept : Kept s t′ rows (prototypesIn (placedRecords file) [])
+  pub counted : blocks ≡ blockCount (file .records)
+
+pub was-read : {s t : List ℕ} {r : Walked} {t′ : List ℕ} {rows blocks n : ℕ} → ReadFile s t r t′ → r ≡ Done rows blocks n → WasRead s t rows blocks n t′
+was-read {s} {t} {t′ = t′} {rows = rows} {blocks = blocks} {n = n} (read f {rows = a} {n = m} e k l) q =
+    let i : a ≡ rows = cc in
+    let j : m ≡ n = cc in
+    let b : blocks ≡ blockCount (f .records) = cc in
+    record {
+      file = f;
+      parsed = e ∙ ap (λ (x : ℕ). ok f x (drop x s)) j;
+      kept = subst (λ (x : ℕ). Kept s t′ x (prototypesIn (placedRecords f) [])) i k;
+      counted = b;
+    }
+was-read (unread e l) q = done≢stopped (sym q)
+
+-- a call's answer is its own function of the file
+pub read-answers : {A : Type 0} {s t : List ℕ} {rows blocks n : ℕ} {t′ : List ℕ} (answer : BsiiFile → ℕ → Reply A) (w : WasRead s t rows blocks n t′)
+    → ofFile answer (parse (length t) s) ≡ answer (w .file) n
+unfolding ofFile
+read-answers answer w = ap (ofFile answer) (w .parsed)
+
+-- or the file's fault, whatever was asked for
+pub unread-refuses : {A : Type 0} {s t : List ℕ} {r : Walked} {t′ : List ℕ} {k o : ℕ} (answer : BsiiFile → ℕ → Reply A) → ReadFile s t r t′ → r ≡ Stopped k o
+    → ofFile answer (parse (length t) s) ≡ refusal k o
+unfolding ofFile
+unread-refuses answer (read f e x l) q = done≢stopped q
+unread-refuses {k = k} {o = o} answer (unread {k = i} {o = p} e l) q =
+    let a : i ≡ k = cc in
+    let b : p ≡ o = cc in
+    ap (ofFile answer) e ∙ rw (a, b)
+
+-- ---- the last definition of an id
+
+abbrev pub bareOf : Option (Placed Prototype) → Option Prototype
+bareOf = Option·map (λ (p : Placed Prototype). p .it)
+
+-- looked up with its offset or without
+pub bare-found : (id : ℕ) (env : List (Placed Prototype)) → getPrototype id (bare env) ≡ bareOf (lastDefinition id env)
+unfolding findBy
+bare-found id [] = refl
+bare-found id (p ∷ env) = go (eqb id (p .it .id)) (lastDefinition id env) (bare-found id env)
+  where
+    go : (b : Bool) (q : Option (Placed Prototype)) {o : Option Prototype} → o ≡ bareOf q → cond b (some (p .it)) o ≡ bareOf (cond b (some p) q)
+    go true q e = refl
+    go false q e = e
+
+-- in a whole file
+pub file-found : (id : ℕ) (f : BsiiFile) → getPrototype id (prototypesOf (f .records)) ≡ bareOf (lastDefinition id (prototypesIn (placedRecords f) []))
+unfolding prototypesOf placedRecords
+file-found id f =
+    ap (getPrototype id) (sym (bare-all (λ r. length (recordBytes r)) (length (f .header .raw)) (f .records) []))
+    ∙ bare-found id (prototypesIn (placedRecords f) [])
+
+-- the table holds a file's definitions: what a second walk over the file starts from
+pub holds-last : {s t : List ℕ} {rows blocks n : ℕ} {t′ : List ℕ} (w : WasRead s t rows blocks n t′) → Holds (Stands s) t′ rows (prototypesOf (w .file .records))
+unfolding prototypesOf placedRecords
+holds-last {s} {rows = rows} {t′ = t′} w =
+    let f = w .file in
+    subst (Holds (Stands s) t′ rows) (bare-all (λ r. length (recordBytes r)) (length (f .header .raw)) (f .records) []) (w .kept .holds)
+
+some≢none : {P : Type 0} {p : Prototype} → _≡_ {A = Option Prototype} (some p) none → P
+some≢none e = let z : _≡_ {A = ℕ} 0 1 = cc in let f : ⊥ = omega arith in absurd f
+
+-- the last definition of the id stands at o
+pub record LastAt (s : List ℕ) (id o : ℕ) (env : List (Placed Prototype)) : Type 0 where
+  pub definition : Prototype
+  pub found : lastDefinition id env ≡ some (record { offset = o; it = definition })
+  pub stands : Stands s o definition
+
+module _ {s t : List ℕ} {rows : ℕ} {env : List (Placed Prototype)} (k : Kept s t rows env) (id : ℕ) {r : Found} (f : foundRow r ≡ lookup t rows id) where
+  pub last-at : {a b : ℕ} → r ≡ At a b → LastAt s id b env
+  last-at {a} {b} q = let x = found-at (Stands s) (k .holds) id q f in go (lastDefinition id env) refl (x .0) (sym (x .1) ∙ bare-found id env) (x .3)
+    where
+      offset : some b ≡ Option·map (λ (p : Placed Prototype). p .offset) (lastDefinition id env)
+      offset = ap (Option·map (λ (r : Row). r .last)) (sym (ap foundRow q) ∙ f) ∙ k .offsets id
+
+      go : (o : Option (Placed Prototype)) → lastDefinition id env ≡ o → (p : Prototype) → some p ≡ bareOf o → Stands s b p → LastAt s id b env
+      go none e p h x = some≢none h
+      go (some d) e p h x =
+          let z : some b ≡ some (d .offset) = offset ∙ ap (Option·map (λ (p : Placed Prototype). p .offset)) e in
+          let i : d .it ≡ p = cc in
+          let j : d .offset ≡ b = cc in
+          record { definition = d .it; found = e ∙ rw j; stands = subst (Stands s b) (sym i) x }
+
+  pub last-nothing : r ≡ Nothing → lastDefinition id env ≡ none
+  last-nothing q = go (lastDefinition id env) (sym (bare-found id env) ∙ found-nothing (Stands s) (k .holds) id q f)
+    where
+      go : (o : Option (Placed Prototype)) → bareOf o ≡ none → o ≡ none
+      go none h = refl
+      go (some d) h = some≢none h

@@ -1,0 +1,25 @@
+-- What the look-ups know of a file that was read.
+use mathlib.Core.Path.{_≡_}
+use Prim.Native.Nat.{ℕ, _+_}
+use mathlib.Core.Option.{Option, Option·map}
+use mathlib.Core.List.{List}
+use lib.ListN.{length}
+use Rattle.bsii_format.specs.Prototypes.{Prototype}
+use Rattle.bsii_format.specs.Blocks.{findBy}
+use Rattle.bsii_format.specs.Calls.{Placed, prototypeAnswer, orAbsent}
+use Rattle.bsii_parse.specs.Walks.{Stands, Kept}
+use Rattle.bsii_file.specs.Answers.{prototypeIs}
+use Rattle.bsii_file.specs.declared.prototypes.PrototypeReply.{PrototypeReply}
+use Rattle.bsii_file.specs.declared.prototypes.PrototypeReply.the-variants as reply
+
+-- the last definition of an id, with its offset, where `env` is all definitions, the last one first
+abbrev pub lastDefinition : ℕ → List (Placed Prototype) → Option (Placed Prototype)
+lastDefinition = findBy (λ (p : Placed Prototype). p .it .id)
+
+-- of any prototype that stands at the offset: its name's place and its number of fields
+pub record PrototypeAt (s : List ℕ) (o : ℕ) (r : PrototypeReply) : Type 0 where
+  pub answers : (p : Prototype) → Stands s o p → r ≡ reply.Prototype (o + 13) (length (p .name)) (length (p .fields))
+
+-- of any definitions that the table holds: what the prototype call answers for the last one of the id
+pub record LastPrototype (s t : List ℕ) (rows id : ℕ) (r : PrototypeReply) : Type 0 where
+  pub answers : (env : List (Placed Prototype)) → Kept s t rows env → prototypeIs r ≡ orAbsent (Option·map prototypeAnswer (lastDefinition id env))

@@ -1,0 +1,91 @@
+// A prototype by its id.
+use bsii_parse::reading::read_file;
+use bsii_parse::walk::Walked;
+use bsii_prototype::answers::Counted;
+use bsii_prototype::past::fields_at;
+use bsii_prototype::past::fields_past;
+use bsii_table::Found;
+use bsii_table::clear;
+use bsii_table::find;
+use bsii_value::answers::Parsed;
+use bsii_value::numbers::size;
+ghost use mathlib.Core.Path.{_≡_};
+ghost use lib.ListN.{length};
+ghost use Rattle.bsii_format.specs.Calls.{prototypeCall, tableAfter};
+ghost use Rattle.bsii_table.specs.Rows.{Rows};
+ghost use Rattle.bsii_file.specs.Answers.{prototypeIs};
+ghost use Rattle.bsii_file.specs.Lookups.{PrototypeAt, LastPrototype};
+
+// The name's bytes, without their u32 length, and the number of fields.
+pub enum PrototypeReply {
+    Prototype {
+        name: usize,
+        name_size: usize,
+        fields: usize,
+    },
+    Refused {
+        number: u32,
+        offset: usize,
+    },
+}
+
+// The prototype record at `offset`: its name stands behind a u32 zero, the byte 1, the u32 id and the name's u32 length.
+fn prototype_at(s: &[u8], offset: usize) -> PrototypeReply
+    ensures { λ r. ⌜ PrototypeAt (now (s .entry)) offset r ⌝ }
+{
+    let head = fields_at(s, offset);
+    match head {
+        Parsed::Fault { number, offset } => PrototypeReply::Refused { number, offset },
+        Parsed::Next(first) => {
+            let name = offset + 13;
+            let list = fields_past(s, first);
+            match list {
+                Counted::Fault { number, offset } => PrototypeReply::Refused { number, offset },
+                Counted::Fields { count, next: _ } => PrototypeReply::Prototype {
+                    name,
+                    name_size: first - name,
+                    fields: count,
+                },
+            }
+        }
+    }
+}
+
+// The last definition of the id in the file that the table was filled from.
+fn last_prototype(file: &[u8], table: &[u32], rows: usize, id: u32) -> PrototypeReply
+    requires { ⌜ Rows (now table) rows ⌝ }
+    ensures { λ r. ⌜ LastPrototype (now (file .entry)) (now (table .entry)) rows id r ⌝ }
+{
+    let found = find(table, rows, id);
+    match found {
+        Found::Nothing => PrototypeReply::Refused {
+            number: 13,
+            offset: 0,
+        },
+        Found::At { in_force: _, last } => prototype_at(file, size(last)),
+    }
+}
+
+// The answer, with the table as it was left by the reading.
+fn read_prototype(file: &[u8], table: &mut [u32], id: u32) -> PrototypeReply
+    ensures { λ r. ⌜ prototypeIs r ≡ prototypeCall (length (now (table .entry))) (now (file .entry)) id ⌝ }
+{
+    let walked = read_file(file, table);
+    match walked {
+        Walked::Fault { number, offset } => return PrototypeReply::Refused { number, offset },
+        Walked::Done {
+            rows,
+            blocks: _,
+            next: _,
+        } => return last_prototype(file, table, rows, id),
+    }
+}
+
+pub fn get_prototype(file: &[u8], table: &mut [u32], id: u32) -> PrototypeReply
+    ensures reply { λ r. ⌜ prototypeIs r ≡ prototypeCall (length (now (table .entry))) (now (file .entry)) id ⌝ }
+    ensures zeros { λ r. ⌜ now (table .exit) ≡ tableAfter (now (table .entry)) ⌝ }
+{
+    let reply = read_prototype(file, table, id);
+    clear(table);
+    reply
+}
