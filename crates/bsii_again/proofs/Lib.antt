@@ -1,0 +1,7 @@
+pub mod Parts
+pub mod HeadKinds
+pub mod Past
+pub mod Meeting
+pub mod Naming
+pub mod Seeking
+pub mod Searching

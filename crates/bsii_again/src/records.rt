@@ -1,0 +1,186 @@
+// Records of a file that was read.
+use bsii_past::id_past;
+use bsii_past::value_past;
+use bsii_prototype::answers::Counted;
+use bsii_prototype::answers::Entry;
+use bsii_prototype::past::fields_at;
+use bsii_prototype::past::fields_past;
+use bsii_prototype::past::value_prototype_past;
+use bsii_table::Found;
+use bsii_table::enter;
+use bsii_table::find;
+use bsii_value::answers::Num;
+use bsii_value::answers::Parsed;
+use bsii_value::numbers::le_u32;
+use bsii_value::numbers::le_u8;
+use bsii_value::numbers::size;
+ghost use mathlib.Core.Path.{_≡_};
+ghost use Prim.Native.Nat.{_≤_};
+ghost use lib.ListN.{length};
+ghost use Rattle.bsii_table.specs.Rows.{Rows};
+ghost use Rattle.bsii_again.specs.Again.{MarkAt, KindAt, ValuesPast, BlockPast, PrototypeAgain, BlockAgain, RecordAgain};
+
+// How a record begins.
+pub enum Kind {
+    Ends,
+    Defines(u32),
+    Carries { id: u32, next: usize },
+}
+
+// What a record was: a prototype, with the next record's offset; or a block, with the offset of its id, of the definition in force and of the last
+// one, and of the next record.
+pub enum Met {
+    Prototype(usize),
+    Block {
+        id_at: usize,
+        in_force: usize,
+        last: usize,
+        next: usize,
+    },
+    Nothing,
+}
+
+fn mark_at(s: &[u8], at: usize) -> Kind
+    ensures { λ r. ⌜ MarkAt (now (s .entry)) at r ⌝ }
+{
+    let mark = le_u8(s, at);
+    match mark {
+        Num::Short(_) => Kind::Ends,
+        Num::Got(m, next) => {
+            if m == 0 {
+                return Kind::Ends;
+            }
+            let number = le_u32(s, next);
+            match number {
+                Num::Short(_) => Kind::Ends,
+                Num::Got(id, _) => Kind::Defines(id),
+            }
+        }
+    }
+}
+
+fn kind_at(s: &[u8], at: usize) -> Kind
+    ensures { λ r. ⌜ KindAt (now (s .entry)) at r ⌝ }
+{
+    let number = le_u32(s, at);
+    match number {
+        Num::Short(_) => Kind::Ends,
+        Num::Got(n, next) => {
+            if n != 0 {
+                return Kind::Carries { id: n, next };
+            }
+            mark_at(s, next)
+        }
+    }
+}
+
+// The end of the values from `start` on, under the definitions from `fields` on.
+pub fn values_past(s: &[u8], fields: usize, start: usize) -> Parsed
+    ensures { λ r. ⌜ ValuesPast (now (s .entry)) fields start r ⌝ }
+{
+    let mut field = fields;
+    let mut at = start;
+    loop {
+        let entry = value_prototype_past(s, field);
+        match entry {
+            Entry::Last(_) => return Parsed::Next(at),
+            Entry::Bad { number, offset } => return Parsed::Fault { number, offset },
+            Entry::Field {
+                type_id,
+                name: _,
+                name_end: _,
+                next,
+            } => {
+                let value = value_past(s, at, type_id);
+                match value {
+                    Parsed::Fault { number, offset } => return Parsed::Fault { number, offset },
+                    Parsed::Next(end) => {
+                        at = end;
+                        field = next;
+                    }
+                }
+            }
+        }
+    }
+}
+
+// The end of a block whose id starts at `at`, under the prototype at the offset `prototype`.
+pub fn block_past(s: &[u8], prototype: usize, at: usize) -> Parsed
+    ensures { λ r. ⌜ BlockPast (now (s .entry)) prototype at r ⌝ }
+{
+    let fields = fields_at(s, prototype);
+    match fields {
+        Parsed::Fault { number, offset } => Parsed::Fault { number, offset },
+        Parsed::Next(first) => {
+            let id = id_past(s, at);
+            match id {
+                Parsed::Fault { number, offset } => Parsed::Fault { number, offset },
+                Parsed::Next(next) => values_past(s, first, next),
+            }
+        }
+    }
+}
+
+fn word(x: usize) -> u32
+    requires { ⌜ x ≤ 16_777_216 ⌝ }
+    ensures { λ r. ⌜ r ≡ x ⌝ }
+{
+    x as u32
+}
+
+// A prototype is in force from here on.
+fn prototype_again(s: &[u8], at: usize, table: &mut [u32], rows: usize, id: u32) -> Met
+    requires { ⌜ (length (now s) ≤ 16_777_216) × (at ≤ length (now s)) × Rows (now table) rows ⌝ }
+    ensures { λ r. ⌜ PrototypeAgain (now (s .entry)) at (now (table .entry)) rows id r (now (table .exit)) ⌝ }
+{
+    let fields = fields_at(s, at);
+    match fields {
+        Parsed::Fault { number: _, offset: _ } => return Met::Nothing,
+        Parsed::Next(first) => {
+            let list = fields_past(s, first);
+            match list {
+                Counted::Fault { number: _, offset: _ } => return Met::Nothing,
+                Counted::Fields { count: _, next } => {
+                    enter(table, rows, id, word(at));
+                    return Met::Prototype(next);
+                }
+            }
+        }
+    }
+}
+
+fn block_again(s: &[u8], id_at: usize, table: &[u32], rows: usize, id: u32) -> Met
+    requires { ⌜ Rows (now table) rows ⌝ }
+    ensures { λ r. ⌜ BlockAgain (now (s .entry)) «id_at» (now (table .entry)) rows id r ⌝ }
+{
+    let found = find(table, rows, id);
+    match found {
+        Found::Nothing => return Met::Nothing,
+        Found::At { in_force, last } => {
+            let prototype = size(in_force);
+            let other = size(last);
+            let end = block_past(s, prototype, id_at);
+            match end {
+                Parsed::Fault { number: _, offset: _ } => return Met::Nothing,
+                Parsed::Next(next) => return Met::Block {
+                    id_at,
+                    in_force: prototype,
+                    last: other,
+                    next,
+                },
+            }
+        }
+    }
+}
+
+pub fn record_again(s: &[u8], at: usize, table: &mut [u32], rows: usize) -> Met
+    requires { ⌜ (length (now s) ≤ 16_777_216) × (at ≤ length (now s)) × Rows (now table) rows ⌝ }
+    ensures { λ r. ⌜ RecordAgain (now (s .entry)) at (now (table .entry)) rows r (now (table .exit)) ⌝ }
+{
+    let kind = kind_at(s, at);
+    match kind {
+        Kind::Ends => return Met::Nothing,
+        Kind::Defines(id) => return prototype_again(s, at, table, rows, id),
+        Kind::Carries { id, next } => return block_again(s, next, table, rows, id),
+    }
+}
