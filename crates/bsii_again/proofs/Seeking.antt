@@ -10,7 +10,7 @@ use Rattle.bsii_format.specs.Reader.{Result, ok, fault, same}
 use Rattle.bsii_format.specs.Prototypes.{Prototype}
 use Rattle.bsii_format.specs.Blocks.{DataBlock, getPrototype, dataValuesParser}
 use Rattle.bsii_format.specs.Strings.{idParser}
-use Rattle.bsii_format.specs.File.{Record, prototype, block, Step, end, more, recordParser, recordBytes, define, hasRoom, Records, defineAll}
+use Rattle.bsii_format.specs.File.{Record, prototype, block, carrying, headParser, Step, end, more, recordParser, recordBytes, define, hasRoom, Records, defineAll}
 use Rattle.bsii_format.specs.Calls.{Placed, placed, blocksIn, consBlock, isNamed}
 use Rattle.bsii_format.proofs.Readers.{fault≢ok, ok-val, ok-at, ok-rest}
 use Rattle.bsii_format.proofs.Positions.{Moved, moved}
@@ -225,6 +225,7 @@ module _ (s : List ℕ) (p : Place) (t : List ℕ) (rows : ℕ) (any : Bool) (na
         inForce = subst (λ (k : ℕ). Stands s k p₀) v (x .under);
         named = subst (λ (k : ℕ). Stands s k q) w (x .named);
         lastIs = g;
+        head = subst (λ (k : ℕ). headParser (p .at) (drop (p .at) s) ≡ ok (carrying (b .prototypeId)) k (drop k s)) e (c .head);
         idPlace = sym e;
         id = subst (λ (k : ℕ). idParser k (drop k s) ≡ ok (b .id .value) (k + length (b .id .raw)) (drop (k + length (b .id .raw)) s)) e (c .id);
         values = subst (λ (k : ℕ). dataValuesParser (p₀ .fields) (i + length (b .id .raw)) (drop (i + length (b .id .raw)) s) ≡ ok (b .values) k (drop k s)) d

@@ -9,7 +9,7 @@ use Rattle.bsii_format.specs.Reader.{ok, same}
 use Rattle.bsii_format.specs.Strings.{idParser}
 use Rattle.bsii_format.specs.Prototypes.{Prototype}
 use Rattle.bsii_format.specs.Blocks.{DataBlock, getPrototype, dataValuesParser}
-use Rattle.bsii_format.specs.File.{Record, recordBytes, define, defineAll}
+use Rattle.bsii_format.specs.File.{Record, carrying, headParser, recordBytes, define, defineAll}
 use Rattle.bsii_format.specs.Calls.{Placed, placed, blocksIn, isNamed}
 use Rattle.bsii_table.specs.Rows.{Rows}
 use Rattle.bsii_table.specs.Relation.{Entered}
@@ -54,6 +54,7 @@ pub record BlockIs (s : List ℕ) (last : List Prototype) (b : Block) (x : Place
   pub inForce : Stands s (b .under) p
   pub named : Stands s (b .last) q
   pub lastIs : getPrototype (x .it .prototypeId) last ≡ some q
+  pub head : headParser (b .at) (drop (b .at) s) ≡ ok (carrying (x .it .prototypeId)) (b .id) (drop (b .id) s)
   pub idPlace : b .id ≡ x .offset + length (x .it .head)
   pub id : idParser (b .id) (drop (b .id) s) ≡ ok (x .it .id .value) (b .id + length (x .it .id .raw)) (drop (b .id + length (x .it .id .raw)) s)
   pub values : dataValuesParser (p .fields) (b .id + length (x .it .id .raw)) (drop (b .id + length (x .it .id .raw)) s) ≡ ok (x .it .values) (b .next) (drop (b .next) s)

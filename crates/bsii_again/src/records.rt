@@ -59,7 +59,7 @@ fn mark_at(s: &[u8], at: usize) -> Kind
     }
 }
 
-fn kind_at(s: &[u8], at: usize) -> Kind
+pub fn kind_at(s: &[u8], at: usize) -> Kind
     ensures { λ r. ⌜ KindAt (now (s .entry)) at r ⌝ }
 {
     let number = le_u32(s, at);

@@ -1,0 +1,41 @@
+use mathlib.Core.Path.{sym, _∙_}
+use lib.ListN.{drop}
+use denote.Ref.{now}
+use Rattle.bsii_format.specs.Reader.{_<$>_}
+use Rattle.bsii_format.specs.Strings.{idParser}
+use Rattle.bsii_format.specs.Values.{ident, elementParser}
+use Rattle.bsii_value.proofs.Ends.{mapped}
+use Rattle.bsii_element.proofs.Call.{id-next, id-decoded, decoded-fault}
+use borrow.Author.Needs.{needs}
+use Rattle.bsii_element.proofs.elements.id.Statement.{statement}
+use Rattle.bsii_element.proofs.elements.id.Tie as tie
+
+id-parser-requires : tie.Need-id-parser-requires
+id-parser-requires c κs = search needs
+
+enum-known-end : tie.Need-enum-known-end
+enum-known-end c = search needs
+
+sub-t8 : tie.Need-sub-t8
+sub-t8 c =
+    let a = c .before .before .before .before .before .args in
+    id-next (now (a .s)) (a .at) (sym (c .before .end .given .1) ∙ c .before .before .before .id-parser .ensures)
+
+enum-known-end-2 : tie.Need-enum-known-end-2
+enum-known-end-2 c = search needs
+
+returns : tie.Need-returns
+returns c =
+    let a = c .before .before .before .before .before .args in
+    id-decoded (now (a .s)) (a .at) (sym (c .before .end .given .1) ∙ c .before .before .before .id-parser .ensures)
+
+returns-2 : tie.Need-returns-2
+unfolding elementParser
+returns-2 c =
+    let a = c .before .before .before .before .before .args in
+    decoded-fault (a .at) ((ident <$> idParser) (a .at) (drop (a .at) (now (a .s)))) (sym (c .before .end2 .given .1) ∙ c .before .before .before .id-parser .ensures ∙ sym (mapped ident idParser (a .at) (drop (a .at) (now (a .s)))))
+
+pub id-spec : {M : Type 1} → statement M
+id-spec =
+    tie.close
+    (tie.spec id-parser-requires enum-known-end sub-t8 enum-known-end-2 returns returns-2)

@@ -1,0 +1,52 @@
+use mathlib.Core.Path.{sym, ap, _∙_}
+use Prim.Native.Nat.{ℕ}
+use mathlib.Core.Option.{some}
+use denote.Ref.{now}
+use Rattle.bsii_format.specs.Types.{one}
+use Rattle.bsii_format.specs.Values.{shapeParser}
+use Rattle.bsii_format.specs.Calls.{ofValue}
+use Rattle.bsii_value.specs.Kinds.{kindIs}
+use Rattle.bsii_value.proofs.Elements.{one-end}
+use Rattle.bsii_element.proofs.Call.{value-fault, single-first, single-other}
+use borrow.Author.Needs.{needs}
+use Rattle.bsii_element.proofs.elements.single.Statement.{statement}
+use Rattle.bsii_element.proofs.elements.single.Tie as tie
+
+decode-requires : tie.Need-decode-requires
+decode-requires c κs = search needs
+
+returns : tie.Need-returns
+returns c =
+    let a = c .before .before .before .args in
+    c .decode .ensures ∙ single-first (kindIs (a .kind)) (now (a .part)) ∙ ap (λ (i : ℕ). ofValue i (shapeParser (some (one (kindIs (a .kind)))) 0 (now (a .part)))) (sym (c .before .if1 .taken))
+
+element-parser-requires : tie.Need-element-parser-requires
+element-parser-requires c κs = search needs
+
+enum-told : tie.Need-enum-told
+enum-told c = search needs
+
+enum-known-end : tie.Need-enum-known-end
+enum-known-end c = search needs
+
+returns-2 : tie.Need-returns-2
+returns-2 c =
+    let a = c .before .before .before .before .before .args in
+    single-other (kindIs (a .kind)) (now (a .part)) (a .index) (c .before .before .before .if1 .left) (sym (c .enum-told .given .1) ∙ c .before .before .element-parser .ensures)
+
+returns-3 : tie.Need-returns-3
+returns-3 c =
+    let a = c .before .before .before .before .before .before .args in
+    value-fault (a .index) (shapeParser (some (one (kindIs (a .kind)))) 0 (now (a .part))) (sym (c .before .end .given .1) ∙ c .before .before .before .element-parser .ensures ∙ sym (one-end (kindIs (a .kind)) 0 (now (a .part))))
+
+pub single-spec : {M : Type 1} → statement M
+single-spec =
+    tie.close
+    (tie.spec
+    decode-requires
+    returns
+    element-parser-requires
+    enum-told
+    enum-known-end
+    returns-2
+    returns-3)

@@ -1,0 +1,63 @@
+use mathlib.Core.Path.{sym, _∙_}
+use native.Mathlib.Omega.{arith}
+use lib.ListN.{drop}
+use denote.Ref.{now}
+use Rattle.bsii_format.specs.Strings.{strParser}
+use Rattle.bsii_format.specs.Types.{string}
+use Rattle.bsii_format.specs.Values.{str, elementParser}
+use Rattle.bsii_value.proofs.Ends.{mapped}
+use Rattle.bsii_element.proofs.Call.{string-next, string-decoded, decoded-fault}
+use borrow.Author.Needs.{needs}
+use Rattle.bsii_element.proofs.elements.text.Statement.{statement}
+use Rattle.bsii_element.proofs.elements.text.Tie as tie
+
+element-parser-requires : tie.Need-element-parser-requires
+element-parser-requires c κs = search needs
+
+enum-known-end : tie.Need-enum-known-end
+enum-known-end c = search needs
+
+add-t9 : tie.Need-add-t9
+unfolding elementParser
+add-t9 c =
+    let a = c .before .before .before .before .before .args in
+    omega (arith, string-next (now (a .s)) (a .at) (sym (c .before .end .given .1) ∙ c .before .before .before .element-parser .ensures ∙ mapped str strParser (a .at) (drop (a .at) (now (a .s)))))
+
+sub-t10 : tie.Need-sub-t10
+unfolding elementParser
+sub-t10 c =
+    let a = c .before .before .before .before .before .args in
+    omega (arith, string-next (now (a .s)) (a .at) (sym (c .before .end .given .1) ∙ c .before .before .before .element-parser .ensures ∙ mapped str strParser (a .at) (drop (a .at) (now (a .s)))))
+
+sub-t11 : tie.Need-sub-t11
+unfolding elementParser
+sub-t11 c =
+    let a = c .before .before .before .before .before .args in
+    omega (arith, string-next (now (a .s)) (a .at) (sym (c .before .end .given .1) ∙ c .before .before .before .element-parser .ensures ∙ mapped str strParser (a .at) (drop (a .at) (now (a .s)))))
+
+enum-known-end-2 : tie.Need-enum-known-end-2
+enum-known-end-2 c = search needs
+
+returns : tie.Need-returns
+unfolding elementParser
+returns c =
+    let a = c .before .before .before .before .before .args in
+    string-decoded (now (a .s)) (a .at) (sym (c .before .end .given .1) ∙ c .before .before .before .element-parser .ensures ∙ mapped str strParser (a .at) (drop (a .at) (now (a .s))))
+
+returns-2 : tie.Need-returns-2
+returns-2 c =
+    let a = c .before .before .before .before .before .args in
+    decoded-fault (a .at) (elementParser string (a .at) (drop (a .at) (now (a .s)))) (sym (c .before .end2 .given .1) ∙ c .before .before .before .element-parser .ensures)
+
+pub text-spec : {M : Type 1} → statement M
+text-spec =
+    tie.close
+    (tie.spec
+    element-parser-requires
+    enum-known-end
+    add-t9
+    sub-t10
+    sub-t11
+    enum-known-end-2
+    returns
+    returns-2)

@@ -1,0 +1,47 @@
+use native.Mathlib.Omega.{arith}
+use denote.Ref.{now}
+use Rattle.bsii_format.specs.Calls.{numericDatum}
+use Rattle.bsii_element.proofs.NumbersAt.{first-number, number-of}
+use borrow.Author.Needs.{needs}
+use Rattle.bsii_element.proofs.numeric.vec4_at.Statement.{statement}
+use Rattle.bsii_element.proofs.numeric.vec4_at.Tie as tie
+
+float-at-requires : tie.Need-float-at-requires
+float-at-requires c κs = search needs
+
+add-float-at : tie.Need-add-float-at
+add-float-at c = search needs
+
+float-at-requires-2 : tie.Need-float-at-requires-2
+float-at-requires-2 c κs = search needs
+
+add-float-at-2 : tie.Need-add-float-at-2
+add-float-at-2 c = search needs
+
+float-at-requires-3 : tie.Need-float-at-requires-3
+float-at-requires-3 c κs = search needs
+
+add-float-at-3 : tie.Need-add-float-at-3
+add-float-at-3 c = search needs
+
+float-at-requires-4 : tie.Need-float-at-requires-4
+float-at-requires-4 c κs = search needs
+
+returns : tie.Need-returns
+unfolding numericDatum
+returns c =
+    let a = c .before .before .before .before .before .args in
+    cc (first-number 3 4 (now (a .s)) (a .at), number-of 4 4 (now (a .s)) (a .at) 1 (omega arith), number-of 4 4 (now (a .s)) (a .at) 2 (omega arith), number-of 4 4 (now (a .s)) (a .at) 3 (omega arith))
+
+pub vec4-at-spec : {M : Type 1} → statement M
+vec4-at-spec =
+    tie.close
+    (tie.spec
+    float-at-requires
+    add-float-at
+    float-at-requires-2
+    add-float-at-2
+    float-at-requires-3
+    add-float-at-3
+    float-at-requires-4
+    returns)

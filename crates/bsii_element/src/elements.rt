@@ -1,0 +1,126 @@
+// One element of a value.
+use crate::answers::Element;
+use crate::numbers::u32_at;
+use crate::numeric::numeric;
+use crate::skips::start_of;
+use bsii_value::answers::Parsed;
+use bsii_value::answers::Word;
+use bsii_value::numbers::size;
+use bsii_value::strings::encoded_str_parser;
+use bsii_value::strings::id_parser;
+use bsii_value::types::Kind;
+use bsii_value::types::Shape;
+use bsii_value::types::shape_of;
+use bsii_value::values::element_parser;
+use bsii_value::values::value_parser;
+ghost use mathlib.Core.Path.{_≡_};
+ghost use mathlib.Core.Option.{some};
+ghost use lib.ListN.{drop};
+ghost use Rattle.bsii_format.specs.Types.{string, encodedString, id as idKind, one};
+ghost use Rattle.bsii_format.specs.Values.{elementParser, shapeParser};
+ghost use Rattle.bsii_format.specs.Calls.{ofValue, elementCall};
+ghost use Rattle.bsii_value.specs.Kinds.{kindIs};
+ghost use Rattle.bsii_element.specs.Cases.{elementIs};
+ghost use Rattle.bsii_element.specs.Rows.{decoded};
+ghost use Rattle.bsii_element.specs.Unchecked.{answersAt};
+
+fn text(s: &[u8], at: usize) -> Element
+    ensures { λ r. ⌜ elementIs r ≡ decoded at (elementParser string at (drop at (now (s .entry)))) ⌝ }
+{
+    let end = element_parser(s, at, Kind::String);
+    match end {
+        Parsed::Next(next) => Element::String {
+            offset: at + 4,
+            size: next - at - 4,
+        },
+        Parsed::Fault { number, offset } => Element::Refused { number, offset },
+    }
+}
+
+fn word(s: &[u8], at: usize) -> Element
+    ensures { λ r. ⌜ elementIs r ≡ decoded at (elementParser encodedString at (drop at (now (s .entry)))) ⌝ }
+{
+    let read = encoded_str_parser(s, at);
+    match read {
+        Word::Low63(low, _) => Element::EncodedString(low),
+        Word::CutWord(offset) => Element::Refused { number: 3, offset },
+        Word::ZeroDigit(offset) => Element::Refused { number: 5, offset },
+    }
+}
+
+fn id(s: &[u8], at: usize) -> Element
+    ensures { λ r. ⌜ elementIs r ≡ decoded at (elementParser idKind at (drop at (now (s .entry)))) ⌝ }
+{
+    let end = id_parser(s, at);
+    match end {
+        Parsed::Next(next) => Element::Id {
+            offset: at,
+            size: next - at,
+        },
+        Parsed::Fault { number, offset } => Element::Refused { number, offset },
+    }
+}
+
+// The element that starts at a position.
+fn decode(s: &[u8], at: usize, kind: Kind) -> Element
+    ensures { λ r. ⌜ elementIs r ≡ decoded at (elementParser (kindIs kind) at (drop at (now (s .entry)))) ⌝ }
+{
+    match kind {
+        Kind::Numbers(n) => numeric(s, at, n),
+        Kind::String => text(s, at),
+        Kind::EncodedString => word(s, at),
+        Kind::Id => id(s, at),
+    }
+}
+
+// A single value has index 0 only; its faults come before that.
+fn single(part: &[u8], kind: Kind, index: usize) -> Element
+    ensures { λ r. ⌜ elementIs r ≡ ofValue index (shapeParser (some (one (kindIs kind))) 0 (now (part .entry))) ⌝ }
+{
+    if index == 0 {
+        return decode(part, 0, kind);
+    }
+    let end = element_parser(part, 0, kind);
+    match end {
+        Parsed::Next(_) => Element::Refused {
+            number: 13,
+            offset: 0,
+        },
+        Parsed::Fault { number, offset } => Element::Refused { number, offset },
+    }
+}
+
+// An element of an array that was accepted.
+fn in_array(part: &[u8], kind: Kind, index: usize) -> Element
+    ensures { λ r. ⌜ answersAt (kindIs kind) (now (part .entry)) index (elementIs r) ⌝ }
+{
+    let count = size(u32_at(part, 0));
+    if count <= index {
+        return Element::Refused {
+            number: 13,
+            offset: 0,
+        };
+    }
+    decode(part, start_of(part, kind, index as u32), kind)
+}
+
+// The element at the index of the value that the slice starts with. The value is read whole before the index is looked at.
+pub fn element(type_id: u32, part: &[u8], index: usize) -> Element
+    ensures { λ r. ⌜ elementIs r ≡ elementCall «type_id» (now (part .entry)) index ⌝ }
+{
+    let shape = shape_of(type_id);
+    match shape {
+        Shape::One(kind) => single(part, kind, index),
+        Shape::Many(kind) => {
+            let whole = value_parser(part, 0, type_id);
+            match whole {
+                Parsed::Next(_) => in_array(part, kind, index),
+                Parsed::Fault { number, offset } => Element::Refused { number, offset },
+            }
+        }
+        Shape::Unlisted => Element::Refused {
+            number: 7,
+            offset: 0,
+        },
+    }
+}

@@ -1,0 +1,53 @@
+// Numbers by their values alone: 0 where the bytes run out, which callers rule out before.
+use bsii_value::answers::Num;
+use bsii_value::answers::Num64;
+use bsii_value::numbers::le_u8;
+use bsii_value::numbers::le_u16;
+use bsii_value::numbers::le_u32;
+use bsii_value::numbers::le_u64;
+ghost use mathlib.Core.Path.{_≡_};
+ghost use Rattle.bsii_format.specs.Calls.{nonzero as nonzeroOf};
+ghost use Rattle.bsii_element.specs.Rows.{numberAt, numIs};
+
+fn value_of(n: Num) -> u32
+    ensures { λ r. ⌜ r ≡ numIs n ⌝ }
+{
+    match n {
+        Num::Got(value, _) => value,
+        Num::Short(_) => 0,
+    }
+}
+
+pub fn u8_at(s: &[u8], at: usize) -> u32
+    ensures { λ r. ⌜ r ≡ numberAt 1 (now (s .entry)) at ⌝ }
+{
+    value_of(le_u8(s, at))
+}
+
+pub fn u16_at(s: &[u8], at: usize) -> u32
+    ensures { λ r. ⌜ r ≡ numberAt 2 (now (s .entry)) at ⌝ }
+{
+    value_of(le_u16(s, at))
+}
+
+pub fn u32_at(s: &[u8], at: usize) -> u32
+    ensures { λ r. ⌜ r ≡ numberAt 4 (now (s .entry)) at ⌝ }
+{
+    value_of(le_u32(s, at))
+}
+
+pub fn u64_at(s: &[u8], at: usize) -> u64
+    ensures { λ r. ⌜ r ≡ numberAt 8 (now (s .entry)) at ⌝ }
+{
+    let n = le_u64(s, at);
+    match n {
+        Num64::Got64(value, _) => value,
+        Num64::Short64(_) => 0,
+    }
+}
+
+pub fn nonzero(n: u32) -> bool
+    ensures { λ r. ⌜ r ≡ nonzeroOf n ⌝ }
+{
+    if n == 0 { false } else { true }
+}
