@@ -66,17 +66,18 @@ record IdAt (s : List ℕ) (next : ℕ) (h : Head) : Type 0 where
   pub is : h ≡ defining id name
 
 module _ (s : List ℕ) (at : ℕ) {q : Num} (e : numOf s q ≡ number 1 at (drop at s)) where
-
   pub mark-cut : {o : ℕ} → q ≡ Short o → (r : Kind) → MarkAt s at r
   mark-cut z r = record { is = λ h n t w. let m = marked at (drop at s) h n t w in fault≢ok (sym (cut-is s 1 at e z) ∙ m .read) }
 
   pub mark-zero : {v n : ℕ} → q ≡ Got v n → v ≡ 0 → MarkAt s at Ends
   unfolding markParser success
-  mark-zero {v} {n} z k = record { is = λ h i t w.
-      let m = marked at (drop at s) h i t w in
-      let is : m .mark ≡ 0 = sym (ok-val (sym (read-is s 1 at e z) ∙ m .read)) ∙ k in
-      let b : markParser 0 (m .next) (m .rest) ≡ ok h i t = ap (λ x. markParser x (m .next) (m .rest)) (sym is) ∙ m .behind in
-      ap (λ x. kindOf x i) (ok-val b) }
+  mark-zero {v} {n} z k = record {
+    is = λ h i t w.
+        let m = marked at (drop at s) h i t w in
+        let is : m .mark ≡ 0 = sym (ok-val (sym (read-is s 1 at e z) ∙ m .read)) ∙ k in
+        let b : markParser 0 (m .next) (m .rest) ≡ ok h i t = ap (λ x. markParser x (m .next) (m .rest)) (sym is) ∙ m .behind in
+        ap (λ x. kindOf x i) (ok-val b);
+  }
 
   module _ {v next : ℕ} (z : q ≡ Got v next) (k : v ≡ 0 → ⊥) where
     id-of : (h : Head) (n : ℕ) (t : List ℕ) → markedParser at (drop at s) ≡ ok h n t → IdAt s next h
@@ -91,32 +92,39 @@ module _ (s : List ℕ) (at : ℕ) {q : Num} (e : numOf s q ≡ number 1 at (dro
     mark-id-cut f y r = record { is = λ h n t w. fault≢ok (sym (cut-is s 4 next f y) ∙ id-of h n t w .read) }
 
     pub mark-id : {p : Num} {id after : ℕ} → numOf s p ≡ number 4 next (drop next s) → p ≡ Got id after → MarkAt s at (Defines id)
-    mark-id {id = id} f y = record { is = λ h n t w.
-        let x = id-of h n t w in
-        ap Defines (ok-val (sym (read-is s 4 next f y) ∙ x .read)) ∙ ap (λ g. kindOf g n) (sym (x .is)) }
+    mark-id {id = id} f y = record {
+      is = λ h n t w.
+          let x = id-of h n t w in
+          ap Defines (ok-val (sym (read-is s 4 next f y) ∙ x .read)) ∙ ap (λ g. kindOf g n) (sym (x .is));
+    }
 
 -- ---- the head
 
 module _ (s : List ℕ) (at : ℕ) {q : Num} (e : numOf s q ≡ number 4 at (drop at s)) where
-
   head-after : {v n : ℕ} → q ≡ Got v n → headParser at (drop at s) ≡ cond (eqb v 0) markedParser (success (carrying v)) n (drop n s)
   unfolding headParser _>>=_ after markedParser
   head-after z = rw (read-is s 4 at e z)
 
   pub kind-cut : {o : ℕ} → q ≡ Short o → (r : Kind) → KindAt s at r
   unfolding headParser _>>=_ after
-  kind-cut {o} z r = record { is = λ h n t w.
-      let f : headParser at (drop at s) ≡ faultAt malformed o = rw (cut-is s 4 at e z) in
-      fault≢ok (sym f ∙ w) }
+  kind-cut {o} z r = record {
+    is = λ h n t w.
+        let f : headParser at (drop at s) ≡ faultAt malformed o = rw (cut-is s 4 at e z) in
+        fault≢ok (sym f ∙ w);
+  }
 
   pub kind-block : {v n : ℕ} → q ≡ Got v n → (v ≡ 0 → ⊥) → KindAt s at (Carries v n)
   unfolding success
-  kind-block {v} {n} z k = record { is = λ h i t w.
-      let f : headParser at (drop at s) ≡ ok (carrying v) n (drop n s) = head-after z ∙ rw (ne-eqb v 0 k) in
-      let g = sym f ∙ w in
-      ap (λ m. Carries v m) (ok-at g) ∙ ap (λ x. kindOf x i) (ok-val g) }
+  kind-block {v} {n} z k = record {
+    is = λ h i t w.
+        let f : headParser at (drop at s) ≡ ok (carrying v) n (drop n s) = head-after z ∙ rw (ne-eqb v 0 k) in
+        let g = sym f ∙ w in
+        ap (λ m. Carries v m) (ok-at g) ∙ ap (λ x. kindOf x i) (ok-val g);
+  }
 
   pub kind-marked : {v n : ℕ} {r : Kind} → q ≡ Got v n → v ≡ 0 → MarkAt s n r → KindAt s at r
-  kind-marked {v} {n} z k m = record { is = λ h i t w.
-      let f : headParser at (drop at s) ≡ markedParser n (drop n s) = head-after z ∙ rw (eq-eqb v 0 k) in
-      m .is h i t (sym f ∙ w) }
+  kind-marked {v} {n} z k m = record {
+    is = λ h i t w.
+        let f : headParser at (drop at s) ≡ markedParser n (drop n s) = head-after z ∙ rw (eq-eqb v 0 k) in
+        m .is h i t (sym f ∙ w);
+  }

@@ -48,7 +48,6 @@ some-is e = cc
 -- ---- a prototype
 
 module _ (s : List ℕ) (at : ℕ) (t : List ℕ) (rows id : ℕ) {r : Parsed} (e : r ≡ endOf (uncheckedHead at (drop at s))) where
-
   fields-are : (p : Prototype) (h : Stands s at p) {first : ℕ} → r ≡ Next first → first ≡ h .fields
   fields-are p h z = next-is (sym z ∙ e ∙ head-next at (drop at s) (h .head))
 
@@ -56,12 +55,11 @@ module _ (s : List ℕ) (at : ℕ) (t : List ℕ) (rows id : ℕ) {r : Parsed} (
   again-head-fault z = record { meets = λ env last n p h i. next≢fault (sym (e ∙ head-next at (drop at s) (h .head)) ∙ z); size = refl }
 
   module _ {first : ℕ} (z : r ≡ Next first) {c : Counted} (f : c ≡ countOf (fieldsWith uncheckedStr first (drop first s))) where
-
     counted : (p : Prototype) (h : Stands s at p) → c ≡ CountedFields (length (p .fields)) (h .next)
     unfolding countOf
     counted p h =
         let l : fieldsParser first (drop first s) ≡ ok (record { fields = p .fields; terminator = p .terminator }) (h .next) (drop (h .next) s) =
-          ap (λ n. fieldsParser n (drop n s)) (fields-are p h z) ∙ h .list in
+        ap (λ n. fieldsParser n (drop n s)) (fields-are p h z) ∙ h .list in
         f ∙ fields-again first (drop first s) l ∙ ap countOf l
 
     pub again-fields-fault : {k o : ℕ} → c ≡ CountedFault k o → PrototypeAgain s at t rows id Nothing t
@@ -72,10 +70,12 @@ module _ (s : List ℕ) (at : ℕ) (t : List ℕ) (rows id : ℕ) {r : Parsed} (
 
     pub again-entered : {n m w : ℕ} {t′ : List ℕ} → c ≡ CountedFields n m → w ≡ at → Enters t rows id w t′ → PrototypeAgain s at t rows id (MetPrototype m) t′
     again-entered {n} {m} {w} {t′} y o x = record {
-        meets = λ env last k p h i. record {
-          met = ap MetPrototype (end-is (sym y ∙ counted p h));
-          entered = enter-entered (Stands s) k p at i h (subst (λ a. Enters t rows id a t′) o x) };
-        size = x .size }
+      meets = λ env last k p h i. record {
+        met = ap MetPrototype (end-is (sym y ∙ counted p h));
+        entered = enter-entered (Stands s) k p at i h (subst (λ a. Enters t rows id a t′) o x);
+      };
+      size = x .size;
+    }
       where
         end-is : {a b i j : ℕ} → _≡_ {A = Counted} (CountedFields a b) (CountedFields i j) → b ≡ j
         end-is w = cc
@@ -83,12 +83,10 @@ module _ (s : List ℕ) (at : ℕ) (t : List ℕ) (rows id : ℕ) {r : Parsed} (
 -- ---- a block
 
 module _ (s : List ℕ) (idAt : ℕ) (t : List ℕ) (rows id : ℕ) {f : Found} (e : foundRow f ≡ lookup t rows id) where
-
   pub again-unknown : f ≡ NotFound → BlockAgain s idAt t rows id Nothing
   again-unknown z = record { meets = λ env last k p q i j v n u b. none≢some (sym (entered-nothing (Stands s) k id z e) ∙ j) }
 
   module _ {a b : ℕ} (z : f ≡ At a b) {x y : ℕ} (i : x ≡ a) (j : y ≡ b) {r : Parsed} (w : BlockPast s x idAt r) where
-
     under : (env last : List Prototype) → Entered (Stands s) t rows env last → (p q : Prototype) → getPrototype id env ≡ some p → getPrototype id last ≡ some q → Stands s x p × Stands s y q
     under env last k p q g h =
         let o = entered-at (Stands s) k id z e in
@@ -98,9 +96,11 @@ module _ (s : List ℕ) (idAt : ℕ) (t : List ℕ) (rows id : ℕ) {f : Found} 
     again-block-fault g = record { meets = λ env last k p q d h v n u c. next≢fault (sym (w .ends p (under env last k p q d h .0) v n u c) ∙ g) }
 
     pub again-block : {n : ℕ} → r ≡ Next n → BlockAgain s idAt t rows id (MetBlock idAt x y n)
-    again-block {n} g = record { meets = λ env last k p q d h v m u c.
-        let o = under env last k p q d h in
-        record { inForce = x; last = y; met = ap (MetBlock idAt x y) (next-is (sym g ∙ w .ends p (o .0) v m u c)); under = o .0; named = o .1 } }
+    again-block {n} g = record {
+      meets = λ env last k p q d h v m u c.
+          let o = under env last k p q d h in
+          record { inForce = x; last = y; met = ap (MetBlock idAt x y) (next-is (sym g ∙ w .ends p (o .0) v m u c)); under = o .0; named = o .1 };
+    }
 
 -- ---- any record
 
@@ -123,7 +123,6 @@ carries-next : {a b c d : ℕ} → _≡_ {A = Kind} (Carries a b) (Carries c d) 
 carries-next e = cc
 
 module _ (s : List ℕ) (at : ℕ) (t : List ℕ) (rows : ℕ) {k : Kind} (e : KindAt s at k) where
-
   is-prototype : (env : List Prototype) (p : Prototype) (n : ℕ) → recordParser env at (drop at s) ≡ ok (more (prototype p)) n (drop n s) → k ≡ Defines (p .id)
   is-prototype env p n h = let x = stands env s at n p h in e .is _ _ _ (x .0 .head)
 
@@ -145,24 +144,24 @@ module _ (s : List ℕ) (at : ℕ) (t : List ℕ) (rows : ℕ) {k : Kind} (e : K
     where
       go : (env last : List Prototype) (n : ℕ) → Entered (Stands s) t rows env last → (i : Record) → recordParser env at (drop at s) ≡ ok (more i) n (drop n s) → Meets s at rows env last n i r t′
       go env last n w (prototype p) h =
-        let y = stands env s at n p h in
-        let m = x .meets env last w p (y .0) (sym (defines-is (sym z ∙ is-prototype env p n h))) in
-        a-prototype p (subst (λ j. PrototypeMet s t′ rows env last p j r) (y .1) m)
+          let y = stands env s at n p h in
+          let m = x .meets env last w p (y .0) (sym (defines-is (sym z ∙ is-prototype env p n h))) in
+          a-prototype p (subst (λ j. PrototypeMet s t′ rows env last p j r) (y .1) m)
       go env last n w (block b) h = defines≢carries (sym z ∙ is-block env b n h)
 
   pub again-carries : {id next : ℕ} {r : Met} → k ≡ Carries id next → BlockAgain s next t rows id r → RecordAgain s at t rows r t
   again-carries {id} {next} {r} z x = record { meets = λ env last w i n h d. go env last n w d i h; ends = λ env l n u h. ends≢carries (sym (is-end env l n u h) ∙ z); size = refl }
     where
       go : (env last : List Prototype) (n : ℕ) → Entered (Stands s) t rows env last
-        → ((id : ℕ) (p : Prototype) → getPrototype id env ≡ some p → (q : Prototype) × (getPrototype id last ≡ some q))
-        → (i : Record) → recordParser env at (drop at s) ≡ ok (more i) n (drop n s) → Meets s at rows env last n i r t
+          → ((id : ℕ) (p : Prototype) → getPrototype id env ≡ some p → (q : Prototype) × (getPrototype id last ≡ some q))
+          → (i : Record) → recordParser env at (drop at s) ≡ ok (more i) n (drop n s) → Meets s at rows env last n i r t
       go env last n w d (prototype p) h = defines≢carries (sym (is-prototype env p n h) ∙ z)
       go env last n w d (block b) h =
-        let y = block-parts env s at n b h in
-        let c = sym z ∙ is-block env b n h in
-        let q = d (b .prototypeId) (y .by) (y .found) in
-        let i : id ≡ b .prototypeId = carries-id c in
-        let j : next ≡ at + length (b .head) = carries-next c in
-        let m = x .meets env last w (y .by) (q .0) (ap (λ v. getPrototype v env) i ∙ y .found) (ap (λ v. getPrototype v last) i ∙ q .1) (b .values) n (drop n s)
+          let y = block-parts env s at n b h in
+          let c = sym z ∙ is-block env b n h in
+          let q = d (b .prototypeId) (y .by) (y .found) in
+          let i : id ≡ b .prototypeId = carries-id c in
+          let j : next ≡ at + length (b .head) = carries-next c in
+          let m = x .meets env last w (y .by) (q .0) (ap (λ v. getPrototype v env) i ∙ y .found) (ap (λ v. getPrototype v last) i ∙ q .1) (b .values) n (drop n s)
           (ap (λ v. (idParser >>= (λ i. dataValuesParser (y .by .fields))) v (drop v s)) j ∙ block-body env s at n b y) in
-        a-block b (y .by) (q .0) (y .found) (q .1) (subst (λ v. BlockMet s v n (y .by) (q .0) r) j m) w
+          a-block b (y .by) (q .0) (y .found) (q .1) (subst (λ v. BlockMet s v n (y .by) (q .0) r) j m) w

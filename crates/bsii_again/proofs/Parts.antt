@@ -26,7 +26,6 @@ at-place {A} {R} x {v} {c} f s at t e =
     (z ∙ ap (ok v (at + length c)) m, m)
 
 module _ (env : List Prototype) (s : List ℕ) (at n : ℕ) where
-
   -- a prototype stands where it was read
   pub stands : (p : Prototype) → recordParser env at (drop at s) ≡ ok (more (prototype p)) n (drop n s) → (h : Stands s at p) × (h .next ≡ n)
   unfolding stepBytes recordBytes
@@ -60,9 +59,11 @@ module _ (env : List Prototype) (s : List ℕ) (at n : ℕ) where
       record { by = w .by; found = w .found; head = a .0; id = i .0; values = v .0 ∙ ap (λ x. ok (b .values) x (drop x s)) z }
     where
       values-exact : (fs : List (Consumed _)) → Exact (List DataValue) (dataValuesParser fs)
-      values-exact fs = record { took = λ at s l at′ r e.
-        let g = values-good fs at s l at′ r e in
-        (_, record { front = g .front; place = g .place; fits = values-fits (g .good) }) }
+      values-exact fs = record {
+        took = λ at s l at′ r e.
+            let g = values-good fs at s l at′ r e in
+            (_, record { front = g .front; place = g .place; fits = values-fits (g .good) });
+      }
 
   -- the id and the values as one
   pub block-body : (b : DataBlock) (p : BlockParts b) → (idParser >>= (λ i. dataValuesParser (p .by .fields))) (at + length (b .head)) (drop (at + length (b .head)) s) ≡ ok (b .values) n (drop n s)

@@ -42,18 +42,18 @@ pub past-start : (s : List ℕ) (fields start : ℕ) → InPast s fields start f
 past-start s fields start = record { rest = λ l n t e v m u f. (l, e, v, f) }
 
 module _ (s : List ℕ) (fields start field at : ℕ) (i : InPast s fields start field at) where
-
   pub past-last : {n : ℕ} → Last n ≡ entryOf (field + 8) (entryWith uncheckedStr field (drop field s)) → ValuesPast s fields start (Next at)
-  past-last e = record { ends = λ l n t h v m u f.
-      let x = i .rest l n t h v m u f in
-      let none : dataValuesParser [] at (drop at s) ≡ ok (x .2) m u = ap (λ fs. dataValuesParser fs at (drop at s)) (sym (turn-last s field (x .1) e .0)) ∙ x .3 in
-      ap Next (sym (done none .1)) }
+  past-last e = record {
+    ends = λ l n t h v m u f.
+        let x = i .rest l n t h v m u f in
+        let none : dataValuesParser [] at (drop at s) ≡ ok (x .2) m u = ap (λ fs. dataValuesParser fs at (drop at s)) (sym (turn-last s field (x .1) e .0)) ∙ x .3 in
+        ap Next (sym (done none .1));
+  }
 
   pub past-bad : {k o : ℕ} → Bad k o ≡ entryOf (field + 8) (entryWith uncheckedStr field (drop field s)) → (r : Parsed) → ValuesPast s fields start r
   past-bad e r = record { ends = λ l n t h v m u f. turn-bad s field (i .rest l n t h v m u f .1) e }
 
   module _ {type a b next : ℕ} (e : Field type a b next ≡ entryOf (field + 8) (entryWith uncheckedStr field (drop field s))) where
-
     record Both (l : Fields) (n : ℕ) (t : List ℕ) (m : ℕ) (u : List ℕ) : Type 0 where
       pub rest : Fields
       pub more : fieldsParser next (drop next s) ≡ ok rest n t
@@ -69,7 +69,7 @@ module _ (s : List ℕ) (fields start field at : ℕ) (i : InPast s fields start
         let x = i .rest l n t h v m u f in
         let y = turn-field s field (x .1) e in
         let z : dataValuesParser (with (y .field) (take (next - field) (drop field s)) ∷ y .rest .fields) at (drop at s) ≡ ok (x .2) m u =
-          ap (λ (k : Fields). dataValuesParser (k .fields) at (drop at s)) (sym (y .list)) ∙ x .3 in
+        ap (λ (k : Fields). dataValuesParser (k .fields) at (drop at s)) (sym (y .list)) ∙ x .3 in
         let w = turn (with (y .field) (take (next - field) (drop field s))) (y .rest .fields) s at z in
         record { rest = y .rest; more = y .more; end = w .end; past = ap (λ k. endOf (uncheckedValue k at (drop at s))) (y .typed) ∙ w .past; values = w .values; others = w .others }
 
@@ -77,15 +77,16 @@ module _ (s : List ℕ) (fields start field at : ℕ) (i : InPast s fields start
     past-fault v r = record { ends = λ l n t h w m u f. next≢fault (sym (both l n t h w m u f .past) ∙ sym v) }
 
     pub past-next : {end : ℕ} → Next end ≡ endOf (uncheckedValue type at (drop at s)) → InPast s fields start next end
-    past-next {end} v = record { rest = λ l n t h w m u f.
-        let x = both l n t h w m u f in
-        let k : x .end ≡ end = next-is (sym (x .past) ∙ sym v) in
-        (x .rest, x .more, x .values, ap (λ y. dataValuesParser (x .rest .fields) y (drop y s)) (sym k) ∙ x .others) }
+    past-next {end} v = record {
+      rest = λ l n t h w m u f.
+          let x = both l n t h w m u f in
+          let k : x .end ≡ end = next-is (sym (x .past) ∙ sym v) in
+          (x .rest, x .more, x .values, ap (λ y. dataValuesParser (x .rest .fields) y (drop y s)) (sym k) ∙ x .others);
+    }
 
 -- ---- a block
 
 module _ (s : List ℕ) (o at : ℕ) {r : Parsed} (e : r ≡ endOf (uncheckedHead o (drop o s))) where
-
   head-is : (p : Prototype) (h : Stands s o p) → r ≡ Next (h .fields)
   head-is p h = e ∙ head-next o (drop o s) (h .head)
 
@@ -93,7 +94,6 @@ module _ (s : List ℕ) (o at : ℕ) {r : Parsed} (e : r ≡ endOf (uncheckedHea
   block-head-fault z v = record { ends = λ p h w m u f. next≢fault (sym (head-is p h) ∙ z) }
 
   module _ {first : ℕ} (z : r ≡ Next first) {i : Parsed} (d : i ≡ endOf (uncheckedId at (drop at s))) where
-
     -- the id's end, and the values behind it
     split : (p : Prototype) → (w : List DataValue) (m : ℕ) (u : List ℕ) → (idParser >>= (λ i. dataValuesParser (p .fields))) at (drop at s) ≡ ok w m u
         → (k : ℕ) × (i ≡ Next k) × (dataValuesParser (p .fields) k (drop k s) ≡ ok w m u)
@@ -106,8 +106,10 @@ module _ (s : List ℕ) (o at : ℕ) {r : Parsed} (e : r ≡ endOf (uncheckedHea
     block-id-fault y v = record { ends = λ p h w m u f. next≢fault (sym (split p w m u f .1) ∙ y) }
 
     pub block-values : {next : ℕ} {v : Parsed} → i ≡ Next next → ValuesPast s first next v → BlockPast s o at v
-    block-values {next} y x = record { ends = λ p h w m u f.
-        let q = split p w m u f in
-        let a : first ≡ h .fields = next-is (sym z ∙ head-is p h) in
-        let b : next ≡ q .0 = next-is (sym y ∙ q .1) in
-        x .ends _ _ _ (ap (λ n. fieldsParser n (drop n s)) a ∙ h .list) w m u (ap (λ n. dataValuesParser (p .fields) n (drop n s)) b ∙ q .2) }
+    block-values {next} y x = record {
+      ends = λ p h w m u f.
+          let q = split p w m u f in
+          let a : first ≡ h .fields = next-is (sym z ∙ head-is p h) in
+          let b : next ≡ q .0 = next-is (sym y ∙ q .1) in
+          x .ends _ _ _ (ap (λ n. fieldsParser n (drop n s)) a ∙ h .list) w m u (ap (λ n. dataValuesParser (p .fields) n (drop n s)) b ∙ q .2);
+    }

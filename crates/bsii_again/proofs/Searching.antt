@@ -25,7 +25,6 @@ pub record Here (s : List ℕ) (rooms rows : ℕ) (last : List Prototype) (any :
   pub equal : o ≡ seekIn last any name (p .number) (p .left) (blocksFrom (p .at) rest)
 
 module _ (s : List ℕ) (start : ℕ) (t₀ : List ℕ) (rows : ℕ) (any : Bool) (name : List ℕ) (k : ℕ) where
-
   pub record Seeking (p : Place) (t : List ℕ) : Type 0 where
     pub counted : p .number ≤ p .at
     pub inside : p .at ≤ length s
@@ -37,7 +36,6 @@ module _ (s : List ℕ) (start : ℕ) (t₀ : List ℕ) (rows : ℕ) (any : Bool
   seeking-start h = record { counted = omega arith; inside = h; size = refl; here = λ rooms last rest w. record { env = []; rest = rest; standing = w; equal = refl } }
 
   module _ (p : Place) (t : List ℕ) (i : Seeking p t) where
-
     pub seeking-ready : Readable s start t₀ rows → Ready s p t rows
     seeking-ready w = record {
       short = w .short;
@@ -47,7 +45,6 @@ module _ (s : List ℕ) (start : ℕ) (t₀ : List ℕ) (rows : ℕ) (any : Bool
     }
 
     module _ {r : Turn} {t′ : List ℕ} (h : Turns s p t rows any name r t′) where
-
       -- the turn, for records that the search started from
       turned : (rooms : ℕ) (last : List Prototype) (rest : List Record) (w : Standing s rooms rows last t₀ start [] rest)
           → let x = i .here rooms last rest w in Turned s rooms rows last any name p (x .env) (x .rest) r t′
@@ -57,7 +54,7 @@ module _ (s : List ℕ) (start : ℕ) (t₀ : List ℕ) (rows : ℕ) (any : Bool
       seeking-end z = record { seeks = λ rooms last rest w. let x = i .here rooms last rest w in missed (x .equal ∙ none-is (turned rooms last rest w) z) }
         where
           none-is : {rooms : ℕ} {last env : List Prototype} {rest : List Record} {r : Turn} {t′ : List ℕ} → Turned s rooms rows last any name p env rest r t′ → r ≡ End
-            → seekIn last any name (p .number) (p .left) (blocksFrom (p .at) rest) ≡ none
+              → seekIn last any name (p .number) (p .left) (blocksFrom (p .at) rest) ≡ none
           none-is (further j l x a b c e) z = let y : _≡_ {A = ℕ} 0 1 = cc in let f : ⊥ = omega arith in absurd f
           none-is (seek.found x b e) z = let y : _≡_ {A = ℕ} 0 1 = cc in let f : ⊥ = omega arith in absurd f
           none-is (ended e) z = e
@@ -66,7 +63,7 @@ module _ (s : List ℕ) (start : ℕ) (t₀ : List ℕ) (rows : ℕ) (any : Bool
       seeking-found {b} z = record { seeks = λ rooms last rest w. let x = i .here rooms last rest w in some-is (x .equal) (turned rooms last rest w) z }
         where
           some-is : {rooms : ℕ} {last env : List Prototype} {rest : List Record} {r : Turn} {t′ : List ℕ} {o : Option seek.Numbered}
-            → o ≡ seekIn last any name (p .number) (p .left) (blocksFrom (p .at) rest) → Turned s rooms rows last any name p env rest r t′ → r ≡ Found b → Sought s last o (ABlock b)
+              → o ≡ seekIn last any name (p .number) (p .left) (blocksFrom (p .at) rest) → Turned s rooms rows last any name p env rest r t′ → r ≡ Found b → Sought s last o (ABlock b)
           some-is d (further j l x a b c e) z = let y : _≡_ {A = ℕ} 0 1 = cc in let f : ⊥ = omega arith in absurd f
           some-is {last = last} {o = o} d (seek.found {b = c} x g e) z = let y : c ≡ b = cc in subst (λ v. Sought s last o (ABlock v)) y (sought x g (d ∙ e))
           some-is d (ended e) z = let y : _≡_ {A = ℕ} 0 1 = cc in let f : ⊥ = omega arith in absurd f
@@ -82,10 +79,10 @@ module _ (s : List ℕ) (start : ℕ) (t₀ : List ℕ) (rows : ℕ) (any : Bool
       goes q z rooms last rest w = let x = i .here rooms last rest w in go (x .equal) (turned rooms last rest w) z
         where
           go : {env : List Prototype} {rest₁ : List Record} {r : Turn} → seekIn last any name 0 k (blocksFrom start rest) ≡ seekIn last any name (p .number) (p .left) (blocksFrom (p .at) rest₁)
-            → Turned s rooms rows last any name p env rest₁ r t′ → r ≡ Go q → On rooms last rest q
+              → Turned s rooms rows last any name p env rest₁ r t′ → r ≡ Go q → On rooms last rest q
           go {env = env} d (further j l {q = c} x a b n e) z =
-            let y : c ≡ q = cc in
-            subst (On rooms last rest) y (record { on = a; inside = b; counted = n; here = record { env = define j env; rest = l; standing = x; equal = d ∙ e } })
+              let y : c ≡ q = cc in
+              subst (On rooms last rest) y (record { on = a; inside = b; counted = n; here = record { env = define j env; rest = l; standing = x; equal = d ∙ e } })
           go d (seek.found x g e) z = let y : _≡_ {A = ℕ} 0 1 = cc in let f : ⊥ = omega arith in absurd f
           go d (ended e) z = let y : _≡_ {A = ℕ} 0 1 = cc in let f : ⊥ = omega arith in absurd f
 
@@ -94,5 +91,5 @@ module _ (s : List ℕ) (start : ℕ) (t₀ : List ℕ) (rows : ℕ) (any : Bool
 
       pub seeking-on : (q : Place) → r ≡ Go q → Readable s start t₀ rows → Seeking q t′
       seeking-on q z w =
-        let o = goes q z (w .rooms) (w .last) (w .rest) (w .standing) in
-        record { counted = o .counted; inside = o .inside; size = h .size ∙ i .size; here = λ rooms last rest x. goes q z rooms last rest x .here }
+          let o = goes q z (w .rooms) (w .last) (w .rest) (w .standing) in
+          record { counted = o .counted; inside = o .inside; size = h .size ∙ i .size; here = λ rooms last rest x. goes q z rooms last rest x .here }

@@ -44,7 +44,6 @@ pub data Accepted (rooms : ℕ) (env : List Prototype) (at : ℕ) (s : List ℕ)
   a-record : (i : Record) (m : ℕ) (l : List Record) → Passed env s at m i → recordsAt rooms (define i env) m s ≡ ok (record { records = l; end = e }) n (drop n s) → Accepted rooms env at s n e (i ∷ l)
 
 module _ (rooms : ℕ) (env : List Prototype) (at : ℕ) (s : List ℕ) (n : ℕ) (e : List ℕ) where
-
   passed : (i : Record) (m : ℕ) (r : List ℕ) → recordParser env at (drop at s) ≡ ok (more i) m r → Passed env s at m i
   unfolding stepBytes recordBytes
   passed i m r h =
@@ -61,14 +60,14 @@ module _ (rooms : ℕ) (env : List Prototype) (at : ℕ) (s : List ℕ) (n : ℕ
   accepted rest h = go (recordParser env at (drop at s)) refl
     where
       tail : (i : Record) (m : ℕ) → Passed env s at m i → (q : Result Records) → recordsAt rooms (define i env) m s ≡ q
-        → behind (i ∷ []) q ≡ ok (record { records = rest; end = e }) n (drop n s) → Accepted rooms env at s n e rest
+          → behind (i ∷ []) q ≡ ok (record { records = rest; end = e }) n (drop n s) → Accepted rooms env at s n e rest
       tail i m p (ok q k r) d b =
-        let v = ok-val b in
-        let c : i ∷ q .records ≡ rest = ap (λ (z : Records). z .records) v in
-        let f : q .end ≡ e = ap (λ (z : Records). z .end) v in
-        subst (Accepted rooms env at s n e) c
-        (a-record i m (q .records) p
-        (d ∙ ap (λ z. ok (record { records = q .records; end = z }) k r) f ∙ ap₂ (λ (j : ℕ) (z : List ℕ). ok (record { records = q .records; end = e }) j z) (ok-at b) (ok-rest b)))
+          let v = ok-val b in
+          let c : i ∷ q .records ≡ rest = ap (λ (z : Records). z .records) v in
+          let f : q .end ≡ e = ap (λ (z : Records). z .end) v in
+          subst (Accepted rooms env at s n e) c
+          (a-record i m (q .records) p
+          (d ∙ ap (λ z. ok (record { records = q .records; end = z }) k r) f ∙ ap₂ (λ (j : ℕ) (z : List ℕ). ok (record { records = q .records; end = e }) j z) (ok-at b) (ok-rest b)))
       tail i m p (fault f) d b = fault≢ok b
 
       room : (i : Record) (m : ℕ) → Passed env s at m i → (b : Bool) → hasRoom rooms env i ≡ b → Accepted rooms env at s n e rest
@@ -78,14 +77,13 @@ module _ (rooms : ℕ) (env : List Prototype) (at : ℕ) (s : List ℕ) (n : ℕ
       go : (q : Result Step) → recordParser env at (drop at s) ≡ q → Accepted rooms env at s n e rest
       go (fault f) q = fault≢ok (sym (records-fault rooms env at s q) ∙ h)
       go (ok (end l) m r) q =
-        let c : [] ≡ rest = ap (λ (z : Records). z .records) (ok-val (sym (records-end rooms env at s q) ∙ h)) in
-        subst (Accepted rooms env at s n e) c (the-end q)
+          let c : [] ≡ rest = ap (λ (z : Records). z .records) (ok-val (sym (records-end rooms env at s q) ∙ h)) in
+          subst (Accepted rooms env at s n e) c (the-end q)
       go (ok (more i) m r) q = let p = passed i m r q in room i m p (hasRoom rooms env i) refl
 
 -- ---- the search among blocks
 
 module _ (last : List Prototype) (any : Bool) (name : List ℕ) (k : ℕ) (x : Placed DataBlock) (l : List (Placed DataBlock)) where
-
   pub unwanted : (left : ℕ) → isWanted last any name (x .it) ≡ false → seekIn last any name k left (x ∷ l) ≡ seekIn last any name (k + 1) left l
   unfolding seekIn
   unwanted left e = rw e (ap (λ (n : ℕ). seekIn last any name n left l) (omega arith))
@@ -111,7 +109,6 @@ pub wants-named : (s : List ℕ) (o : ℕ) {any : Bool} (name : List ℕ) {r : B
 wants-named s o name z h = record { is = λ q x. h .is q x ∙ sym (ap (λ b. b || same name (q .name)) z) }
 
 module _ (s : List ℕ) (p : Place) (b : Block) (any : Bool) (name : List ℕ) {w : Bool} (h : Wants s (b .last) any name w) where
-
   wants-is : (last : List Prototype) (x : Placed DataBlock) → BlockIs s last b x → isWanted last any name (x .it) ≡ w
   unfolding isNamed
   wants-is last x i = ap (λ o. any || isNamed name o) (i .lastIs) ∙ sym (h .is (i .q) (i .named))
@@ -160,7 +157,6 @@ unfolding placed blocksIn consBlock
 from-prototype at p l e = ap (λ (n : ℕ). blocksFrom n l) (sym e)
 
 module _ (s : List ℕ) (p : Place) (t : List ℕ) (rows : ℕ) (any : Bool) (name : List ℕ) {m : Met} {t′ : List ℕ} (a : RecordAgain s (p .at) t rows m t′) where
-
   -- what the record is, under the definitions so far
   meets : {rooms : ℕ} {last env : List Prototype} {rest : List Record} (w : Standing s rooms rows last t (p .at) env rest) (i : Record) (n : ℕ) (l : List Record) → rest ≡ i ∷ l
       → Passed env s (p .at) n i → Meets s (p .at) rows env last n i m t′
@@ -179,7 +175,7 @@ module _ (s : List ℕ) (p : Place) (t : List ℕ) (rows : ℕ) (any : Bool) (na
   step-end z = record { turns = λ rooms last env rest w. go rooms last env rest w refl (accepted rooms env (p .at) s (w .n) (w .end) rest (w .reads)); size = a .size }
     where
       go : (rooms : ℕ) (last env : List Prototype) (rest : List Record) (w : Standing s rooms rows last t (p .at) env rest) {l : List Record} → rest ≡ l → Accepted rooms env (p .at) s (w .n) (w .end) l
-        → Turned s rooms rows last any name p env rest End t′
+          → Turned s rooms rows last any name p env rest End t′
       go rooms last env rest w e (the-end h) = ended (ap (λ r. seekIn last any name (p .number) (p .left) (blocksFrom (p .at) r)) e)
       go rooms last env rest w e (a-record i n l h d) = no (meets w i n l e h)
         where
@@ -192,18 +188,18 @@ module _ (s : List ℕ) (p : Place) (t : List ℕ) (rows : ℕ) (any : Bool) (na
   step-prototype {n} c k z = record { turns = λ rooms last env rest w. go rooms last env rest w refl (accepted rooms env (p .at) s (w .n) (w .end) rest (w .reads)); size = a .size }
     where
       go : (rooms : ℕ) (last env : List Prototype) (rest : List Record) (w : Standing s rooms rows last t (p .at) env rest) {l : List Record} → rest ≡ l → Accepted rooms env (p .at) s (w .n) (w .end) l
-        → Turned s rooms rows last any name p env rest (Go (record { at = n; number = p .number; left = p .left })) t′
+          → Turned s rooms rows last any name p env rest (Go (record { at = n; number = p .number; left = p .left })) t′
       go rooms last env rest w e (the-end h) = nothing≢prototype (sym (a .ends env _ _ _ h) ∙ z)
       go rooms last env rest w e (a-record i j l h d) = on h (meets w i j l e h) e d
         where
           on : {i : Record} → Passed env s (p .at) j i → Meets s (p .at) rows env last j i m t′ → rest ≡ i ∷ l
-            → recordsAt rooms (define i env) j s ≡ ok (record { records = l; end = w .end }) (w .n) (drop (w .n) s)
-            → Turned s rooms rows last any name p env rest (Go (record { at = n; number = p .number; left = p .left })) t′
+              → recordsAt rooms (define i env) j s ≡ ok (record { records = l; end = w .end }) (w .n) (drop (w .n) s)
+              → Turned s rooms rows last any name p env rest (Go (record { at = n; number = p .number; left = p .left })) t′
           on h (a-prototype q x) e d =
-            let o : j ≡ n = prototype-is (sym (x .met) ∙ z) in
-            subst (λ (y : ℕ). Turned s rooms rows last any name p env rest (Go (record { at = y; number = p .number; left = p .left })) t′) o
-            (further (prototype q) l (stands-on w (prototype q) j l e d (x .entered)) (h .later) (h .inside k) (omega (arith, h .later))
-            (ap (seekIn last any name (p .number) (p .left)) (ap (blocksFrom (p .at)) e ∙ from-prototype (p .at) q l (h .place))))
+              let o : j ≡ n = prototype-is (sym (x .met) ∙ z) in
+              subst (λ (y : ℕ). Turned s rooms rows last any name p env rest (Go (record { at = y; number = p .number; left = p .left })) t′) o
+              (further (prototype q) l (stands-on w (prototype q) j l e d (x .entered)) (h .later) (h .inside k) (omega (arith, h .later))
+              (ap (seekIn last any name (p .number) (p .left)) (ap (blocksFrom (p .at)) e ∙ from-prototype (p .at) q l (h .place))))
           on h (a-block b q y f g x v) e d = prototype≢block (sym z ∙ x .met)
 
   -- a block in its parts
@@ -217,23 +213,25 @@ module _ (s : List ℕ) (p : Place) (t : List ℕ) (rows : ℕ) (any : Bool) (na
       let e : p .at + length (b .head) ≡ i = cc in
       let d : n ≡ j = cc in
       let v : x .inForce ≡ u = cc in
-      let w : x .last ≡ l = cc in
-      (d, record {
-        place = refl;
-        p = p₀;
-        q = q;
-        inForce = subst (λ (k : ℕ). Stands s k p₀) v (x .under);
-        named = subst (λ (k : ℕ). Stands s k q) w (x .named);
-        lastIs = g;
-        head = subst (λ (k : ℕ). headParser (p .at) (drop (p .at) s) ≡ ok (carrying (b .prototypeId)) k (drop k s)) e (c .head);
-        idPlace = sym e;
-        id = subst (λ (k : ℕ). idParser k (drop k s) ≡ ok (b .id .value) (k + length (b .id .raw)) (drop (k + length (b .id .raw)) s)) e (c .id);
-        values = subst (λ (k : ℕ). dataValuesParser (p₀ .fields) (i + length (b .id .raw)) (drop (i + length (b .id .raw)) s) ≡ ok (b .values) k (drop k s)) d
-          (subst (λ (k : ℕ). dataValuesParser (p₀ .fields) (k + length (b .id .raw)) (drop (k + length (b .id .raw)) s) ≡ ok (b .values) n (drop n s)) e
-          (subst (λ (r : Prototype). dataValuesParser (r .fields) (p .at + length (b .head) + length (b .id .raw)) (drop (p .at + length (b .head) + length (b .id .raw)) s) ≡ ok (b .values) n (drop n s)) o (c .values))) })
+      let w : x .last ≡ l = cc in (
+        d,
+        record {
+          place = refl;
+          p = p₀;
+          q = q;
+          inForce = subst (λ (k : ℕ). Stands s k p₀) v (x .under);
+          named = subst (λ (k : ℕ). Stands s k q) w (x .named);
+          lastIs = g;
+          head = subst (λ (k : ℕ). headParser (p .at) (drop (p .at) s) ≡ ok (carrying (b .prototypeId)) k (drop k s)) e (c .head);
+          idPlace = sym e;
+          id = subst (λ (k : ℕ). idParser k (drop k s) ≡ ok (b .id .value) (k + length (b .id .raw)) (drop (k + length (b .id .raw)) s)) e (c .id);
+          values = subst (λ (k : ℕ). dataValuesParser (p₀ .fields) (i + length (b .id .raw)) (drop (i + length (b .id .raw)) s) ≡ ok (b .values) k (drop k s)) d
+              (subst (λ (k : ℕ). dataValuesParser (p₀ .fields) (k + length (b .id .raw)) (drop (k + length (b .id .raw)) s) ≡ ok (b .values) n (drop n s)) e
+              (subst (λ (r : Prototype). dataValuesParser (r .fields) (p .at + length (b .head) + length (b .id .raw)) (drop (p .at + length (b .head) + length (b .id .raw)) s) ≡ ok (b .values) n (drop n s)) o (c .values)));
+        },
+      )
 
   module _ {i u v j : ℕ} (c : p .number ≤ p .at) (k : p .at ≤ length s) (z : m ≡ MetBlock i u v j) where
-
     -- what the block's turn says, said of the records
     turned : {rooms : ℕ} {last env : List Prototype} {rest : List Record} (w : Standing s rooms rows last t (p .at) env rest) (x : DataBlock) (l : List Record) → rest ≡ block x ∷ l
         → Standing s rooms rows last t′ j (define (block x) env) l → p .at < j → j ≤ length s → blocksFrom (p .at) rest ≡ record { offset = p .at; it = x } ∷ blocksFrom j l
@@ -247,15 +245,15 @@ module _ (s : List ℕ) (p : Place) (t : List ℕ) (rows : ℕ) (any : Bool) (na
     step-block {r} bt = record { turns = λ rooms last env rest w. go rooms last env rest w refl (accepted rooms env (p .at) s (w .n) (w .end) rest (w .reads)); size = a .size }
       where
         go : (rooms : ℕ) (last env : List Prototype) (rest : List Record) (w : Standing s rooms rows last t (p .at) env rest) {l : List Record} → rest ≡ l
-          → Accepted rooms env (p .at) s (w .n) (w .end) l → Turned s rooms rows last any name p env rest r t′
+            → Accepted rooms env (p .at) s (w .n) (w .end) l → Turned s rooms rows last any name p env rest r t′
         go rooms last env rest w e (the-end h) = nothing≢block (sym (a .ends env _ _ _ h) ∙ z)
         go rooms last env rest w e (a-record i n l h d) = on h (meets w i n l e h) e d
           where
             on : {i : Record} → Passed env s (p .at) n i → Meets s (p .at) rows env last n i m t′ → rest ≡ i ∷ l
-              → recordsAt rooms (define i env) n s ≡ ok (record { records = l; end = w .end }) (w .n) (drop (w .n) s) → Turned s rooms rows last any name p env rest r t′
+                → recordsAt rooms (define i env) n s ≡ ok (record { records = l; end = w .end }) (w .n) (drop (w .n) s) → Turned s rooms rows last any name p env rest r t′
             on h (a-prototype q x) e d = prototype≢block (sym (x .met) ∙ z)
             on h (a-block b q y f g x en) e d =
-              let is = block-is last env f g (h .reads) x z in
-              let st = subst (λ (o : ℕ). Standing s rooms rows last t′ o (define (block b) env) l) (is .0) (stands-on w (block b) n l e d en) in
-              let o = is .0 in
-              turned w b l e st (omega (arith, h .later, o)) (omega (arith, h .inside k, o)) (ap (blocksFrom (p .at)) e ∙ from-block (p .at) b l (sym o ∙ h .place)) (bt .turns last (record { offset = p .at; it = b }) (is .1) (blocksFrom j l))
+                let is = block-is last env f g (h .reads) x z in
+                let st = subst (λ (o : ℕ). Standing s rooms rows last t′ o (define (block b) env) l) (is .0) (stands-on w (block b) n l e d en) in
+                let o = is .0 in
+                turned w b l e st (omega (arith, h .later, o)) (omega (arith, h .inside k, o)) (ap (blocksFrom (p .at)) e ∙ from-block (p .at) b l (sym o ∙ h .place)) (bt .turns last (record { offset = p .at; it = b }) (is .1) (blocksFrom j l))

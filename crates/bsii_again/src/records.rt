@@ -11,8 +11,8 @@ use bsii_table::enter;
 use bsii_table::find;
 use bsii_value::answers::Num;
 use bsii_value::answers::Parsed;
-use bsii_value::numbers::le_u32;
 use bsii_value::numbers::le_u8;
+use bsii_value::numbers::le_u32;
 use bsii_value::numbers::size;
 ghost use mathlib.Core.Path.{_≡_};
 ghost use Prim.Native.Nat.{_≤_};
@@ -135,11 +135,17 @@ fn prototype_again(s: &[u8], at: usize, table: &mut [u32], rows: usize, id: u32)
 {
     let fields = fields_at(s, at);
     match fields {
-        Parsed::Fault { number: _, offset: _ } => return Met::Nothing,
+        Parsed::Fault {
+            number: _,
+            offset: _,
+        } => return Met::Nothing,
         Parsed::Next(first) => {
             let list = fields_past(s, first);
             match list {
-                Counted::Fault { number: _, offset: _ } => return Met::Nothing,
+                Counted::Fault {
+                    number: _,
+                    offset: _,
+                } => return Met::Nothing,
                 Counted::Fields { count: _, next } => {
                     enter(table, rows, id, word(at));
                     return Met::Prototype(next);
@@ -161,7 +167,10 @@ fn block_again(s: &[u8], id_at: usize, table: &[u32], rows: usize, id: u32) -> M
             let other = size(last);
             let end = block_past(s, prototype, id_at);
             match end {
-                Parsed::Fault { number: _, offset: _ } => return Met::Nothing,
+                Parsed::Fault {
+                    number: _,
+                    offset: _,
+                } => return Met::Nothing,
                 Parsed::Next(next) => return Met::Block {
                     id_at,
                     in_force: prototype,

@@ -104,7 +104,15 @@ fn seek_step(s: &[u8], p: Place, table: &mut [u32], rows: usize, any: bool, name
 }
 
 // The wanted block number k, counted from the record at `start`.
-pub fn seek(s: &[u8], start: usize, table: &mut [u32], rows: usize, any: bool, name: &[u8], k: usize) -> BlockAt
+pub fn seek(
+    s: &[u8],
+    start: usize,
+    table: &mut [u32],
+    rows: usize,
+    any: bool,
+    name: &[u8],
+    k: usize,
+) -> BlockAt
     requires { ⌜ Readable (now s) start (now table) rows ⌝ }
     ensures { λ r. ⌜ Seeks (now (s .entry)) start (now (table .entry)) rows any (now (name .entry)) k r ⌝ }
 {

@@ -5,12 +5,10 @@ use native.Mathlib.Omega.{arith}
 use mathlib.Core.Option.{Option, Option·map}
 use mathlib.Core.List.{List, []}
 use lib.ListN.{length, drop}
-use Rattle.bsii_format.specs.Reader.{ok, bytes, _>>=_}
+use Rattle.bsii_format.specs.Reader.{ok}
 use Rattle.bsii_format.specs.Prototypes.{Prototype}
 use Rattle.bsii_format.specs.Calls.{Placed, prototypeAnswer, prototypesIn, placedRecords, prototypeOf, prototypeCall, orAbsent}
 use Rattle.bsii_format.specs.BlockText.{orRefuse}
-use Rattle.bsii_format.proofs.Readers.{after-ok, bytes-exact}
-use Rattle.bsii_format.proofs.Positions.{moved}
 use Rattle.bsii_value.specs.Answers.{endOf, uncheckedStr}
 use Rattle.bsii_value.specs.declared.answers.Parsed.{Parsed}
 use Rattle.bsii_value.specs.declared.answers.Parsed.the-variants.{Next, Fault}
@@ -20,8 +18,6 @@ use Rattle.bsii_prototype.specs.declared.answers.Counted.{Counted}
 use Rattle.bsii_prototype.specs.declared.answers.Counted.the-variants as counted
 use Rattle.bsii_prototype.proofs.Agrees.{fields-agree}
 use Rattle.bsii_prototype.proofs.Beginnings.{head-past}
-use Rattle.bsii_prototype.proofs.Entries.{next-is}
-use Rattle.bsii_prototype.proofs.Names.{bytes-front, unchecked, named}
 use Rattle.bsii_table.specs.Rows.{lookup}
 use Rattle.bsii_table.specs.Table.{foundRow}
 use Rattle.bsii_table.specs.declared.Found.{Found}
@@ -29,6 +25,7 @@ use Rattle.bsii_table.specs.declared.Found.the-variants.{At, Nothing}
 use Rattle.bsii_parse.specs.Walks.{Stands, ReadFile}
 use Rattle.bsii_parse.specs.declared.walk.Walked.{Walked}
 use Rattle.bsii_parse.specs.declared.walk.Walked.the-variants.{Done, Fault as Stopped}
+use Rattle.bsii_again.proofs.Naming.{head-ends, standing}
 use Rattle.bsii_file.specs.Answers.{prototypeIs}
 use Rattle.bsii_file.specs.Lookups.{PrototypeAt, LastPrototype}
 use Rattle.bsii_file.specs.declared.prototypes.PrototypeReply.{PrototypeReply}
@@ -37,40 +34,19 @@ use Rattle.bsii_file.proofs.Lookups.{was-read, read-answers, unread-ref
 
 -- ---- at an offset
 
--- a prototype's head, read without checks, ends behind its name
-pub name-end : (s : List ℕ) (o : ℕ) {v : List ℕ} {n : ℕ} {r : List ℕ} → uncheckedHead o (drop o s) ≡ ok v n r → (n ≡ o + 13 + length v) × (n ≤ length s)
-unfolding uncheckedHead _>>=_
-name-end s o e =
-    let q = after-ok (bytes 9 o (drop o s)) (λ h. uncheckedStr) e in
-    let f = bytes-front 9 o (drop o s) (q .3) in
-    let m = moved (bytes-exact 9) s o (q .3) in
-    let w = named unchecked s (q .1) (ap (uncheckedStr (q .1)) (sym (m .rest)) ∙ q .4) in
-    (omega (arith, f .next, w .end), w .inside)
-
 module _ (s : List ℕ) (o : ℕ) {h : Parsed} (e : h ≡ endOf (uncheckedHead o (drop o s))) where
-  -- the name's place is in the file, also where nobody knows that a prototype stands there
-  pub name-inside : {n : ℕ} → h ≡ Next n → (o + 13 ≤ n) × (n ≤ length s)
-  name-inside z =
-      let q = next-is (uncheckedHead o (drop o s)) (sym z ∙ e) in
-      let w = name-end s o (q .2) in
-      (omega (arith, w .0), w .1)
-
-  standing : (p : Prototype) (x : Stands s o p) → h ≡ Next (x .fields)
-  unfolding endOf
-  standing p x = e ∙ ap endOf (head-past o (drop o s) (x .head))
-
   next≢fault : {P : Type 0} {n k i : ℕ} → _≡_ {A = Parsed} (Next n) (Fault k i) → P
   next≢fault z = let y : _≡_ {A = ℕ} 0 1 = cc in let f : ⊥ = omega arith in absurd f
 
   -- what was accepted is not refused
   pub head-fault : {k i : ℕ} → h ≡ Fault k i → (v : PrototypeReply) → PrototypeAt s o v
-  head-fault z v = record { answers = λ p x. next≢fault (sym (standing p x) ∙ z) }
+  head-fault z v = record { answers = λ p x. next≢fault (sym (standing s o e p x) ∙ z) }
 
   module _ {first : ℕ} (z : h ≡ Next first) {l : Counted} (d : l ≡ countOf (fieldsWith uncheckedStr first (drop first s))) where
     counts : (p : Prototype) (x : Stands s o p) → (first ≡ x .fields) × (l ≡ counted.Fields (length (p .fields)) (x .next))
     unfolding countOf
     counts p x =
-        let i : first ≡ x .fields = at-is (sym z ∙ standing p x) in
+        let i : first ≡ x .fields = at-is (sym z ∙ standing s o e p x) in
         (i, d ∙ ap (λ (n : ℕ). countOf (fieldsWith uncheckedStr n (drop n s))) i ∙ ap countOf (fields-agree .reads (x .fields) (drop (x .fields) s) (x .list)))
       where
         at-is : {a b : ℕ} → _≡_ {A = Parsed} (Next a) (Next b) → a ≡ b
@@ -86,8 +62,8 @@ module _ (s : List ℕ) (o : ℕ) {h : Parsed} (e : h ≡ endOf (uncheckedHead o
     prototype-here {count} {n} y = record {
       answers = λ p x.
           let c = counts p x in
-          let w = name-end s o (head-past o (drop o s) (x .head)) in
-          ap₂ (λ (a b : ℕ). reply.Prototype (o + 13) a b) (omega (arith, c .0, w .0)) (count-is (sym y ∙ c .1));
+          let w = head-ends s o (head-past o (drop o s) (x .head)) in
+          ap₂ (λ (a b : ℕ). reply.Prototype (o + 13) a b) (omega (arith, c .0, w .end)) (count-is (sym y ∙ c .1));
     }
       where
         count-is : {a b m k : ℕ} → _≡_ {A = Counted} (counted.Fields a m) (counted.Fields b k) → a ≡ b

@@ -1,2 +1,5 @@
 pub mod Lookups
 pub mod Definitions
+pub mod Rereading
+pub mod BlockCalls
+pub mod FieldCalls

@@ -5,10 +5,14 @@ use mathlib.Core.Option.{Option, Option·map}
 use mathlib.Core.List.{List}
 use lib.ListN.{length}
 use Rattle.bsii_format.specs.Prototypes.{Prototype}
-use Rattle.bsii_format.specs.Blocks.{findBy}
-use Rattle.bsii_format.specs.Calls.{Placed, prototypeAnswer, orAbsent}
+use Rattle.bsii_format.specs.Replies.{gives}
+use Rattle.bsii_format.specs.Blocks.{DataBlock, findBy}
+use Rattle.bsii_format.specs.Calls.{Placed, prototypeAnswer, blockAnswer, orAbsent}
 use Rattle.bsii_parse.specs.Walks.{Stands, Kept}
-use Rattle.bsii_file.specs.Answers.{prototypeIs}
+use Rattle.bsii_again.specs.Seek.{BlockIs}
+use Rattle.bsii_again.specs.declared.seek.Block.{Block}
+use Rattle.bsii_file.specs.Answers.{prototypeIs, blockIs}
+use Rattle.bsii_file.specs.declared.blocks.BlockReply.{BlockReply}
 use Rattle.bsii_file.specs.declared.prototypes.PrototypeReply.{PrototypeReply}
 use Rattle.bsii_file.specs.declared.prototypes.PrototypeReply.the-variants as reply
 
@@ -23,3 +27,7 @@ pub record PrototypeAt (s : List ℕ) (o : ℕ) (r : PrototypeReply) : Type 0 wh
 -- of any definitions that the table holds: what the prototype call answers for the last one of the id
 pub record LastPrototype (s t : List ℕ) (rows id : ℕ) (r : PrototypeReply) : Type 0 where
   pub answers : (env : List (Placed Prototype)) → Kept s t rows env → prototypeIs r ≡ orAbsent (Option·map prototypeAnswer (lastDefinition id env))
+
+-- of a block that the search found: what the block call answers for it
+pub record BlockAnswered (s : List ℕ) (b : Block) (r : BlockReply) : Type 0 where
+  pub answers : (last : List Prototype) (x : Placed DataBlock) → BlockIs s last b x → blockIs r ≡ gives (blockAnswer x)

@@ -1,6 +1,7 @@
 use denote.Ref.{now}
 use native.Mathlib.Omega.{arith}
-use Rattle.bsii_file.proofs.Definitions.{name-inside, head-fault, list-fault, prototype-here}
+use Rattle.bsii_again.proofs.Naming.{name-inside}
+use Rattle.bsii_file.proofs.Definitions.{head-fault, list-fault, prototype-here}
 use borrow.Author.Needs.{needs}
 use Rattle.bsii_file.proofs.prototypes.prototype_at.Statement.{statement}
 use Rattle.bsii_file.proofs.prototypes.prototype_at.Tie as tie

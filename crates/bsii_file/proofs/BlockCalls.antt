@@ -1,0 +1,188 @@
+-- A block by its number, and by its number under a prototype name.
+use mathlib.Core.Path.{_≡_, refl, sym, ap, ap₂, _∙_, subst}
+use Prim.Native.Nat.{ℕ, zero, suc, _+_, _-_, _≤_}
+use native.Mathlib.Omega.{arith}
+use mathlib.Core.Bool.{Bool, true, false, cond}
+use mathlib.Core.Option.{Option, none, some, Option·map}
+use mathlib.Core.List.{List, [], _∷_}
+use lib.ListN.{length, drop, getElem?}
+use Rattle.bsii_format.specs.Replies.{gives, refusal}
+use Rattle.bsii_format.specs.Reader.{ok}
+use Rattle.bsii_format.specs.Prototypes.{Prototype}
+use Rattle.bsii_format.specs.Blocks.{DataBlock, getPrototype}
+use Rattle.bsii_format.specs.File.{prototypesOf, BsiiFile}
+use Rattle.bsii_format.specs.Calls.{Placed, BlockAnswer, blockAnswer, blocksOf, blockCall, isNamed, numbersNamed, blocksByPrototypeName, namedBlockCall, orAbsent}
+use Rattle.bsii_format.specs.BlockText.{orRefuse}
+use Rattle.bsii_format.proofs.Positions.{moved}
+use Rattle.bsii_value.specs.Answers.{endOf}
+use Rattle.bsii_value.specs.declared.answers.Parsed.{Parsed}
+use Rattle.bsii_value.specs.declared.answers.Parsed.the-variants.{Next, Fault}
+use Rattle.bsii_prototype.proofs.Entries.{next-is}
+use Rattle.bsii_past.specs.Unchecked.{uncheckedId}
+use Rattle.bsii_past.proofs.Exact.{unchecked-id-exact}
+use Rattle.bsii_past.proofs.Values.{id-same}
+use Rattle.bsii_parse.specs.Walks.{ReadFile}
+use Rattle.bsii_parse.specs.declared.walk.Walked.{Walked}
+use Rattle.bsii_parse.specs.declared.walk.Walked.the-variants.{Done, Fault as Stopped}
+use Rattle.bsii_again.specs.Again.{KindAt}
+use Rattle.bsii_again.specs.Seek.{Numbered, passOver, seekIn, BlockIs, blocksFrom, Sought, sought, missed, Seeks}
+use Rattle.bsii_again.specs.declared.records.Kind.{Kind}
+use Rattle.bsii_again.specs.declared.records.Kind.the-variants.{Ends, Defines, Carries}
+use Rattle.bsii_again.specs.declared.seek.Block.{Block}
+use Rattle.bsii_again.specs.declared.seek.BlockAt.{BlockAt}
+use Rattle.bsii_again.specs.declared.seek.BlockAt.the-variants.{Block as ABlock, NoBlock}
+use Rattle.bsii_file.specs.Answers.{blockIs, numberIs}
+use Rattle.bsii_file.specs.Lookups.{BlockAnswered}
+use Rattle.bsii_file.specs.declared.blocks.BlockReply.{BlockReply}
+use Rattle.bsii_file.specs.declared.blocks.BlockReply.the-variants as block
+use Rattle.bsii_file.specs.declared.blocks.NumberReply.{NumberReply}
+use Rattle.bsii_file.specs.declared.blocks.NumberReply.the-variants as number
+use Rattle.bsii_file.proofs.Lookups.{WasRead, was-read, read-answers, unread-refuses}
+use Rattle.bsii_file.proofs.Rereading.{standing-first, blocks-are}
+
+-- ---- the search is the definitions' own
+
+pub seek-any : (last : List Prototype) (name : List ℕ) (j k : ℕ) (l : List (Placed DataBlock)) → Option·map (λ (x : Numbered). x .of) (seekIn last true name j k l) ≡ getElem? l k
+unfolding seekIn passOver
+seek-any last name j k [] = refl
+seek-any last name j zero (b ∷ l) = refl
+seek-any last name j (suc k) (b ∷ l) = seek-any last name (suc j) k l
+
+pub seek-named : (last : List Prototype) (name : List ℕ) (j k : ℕ) (l : List (Placed DataBlock))
+    → Option·map (λ (x : Numbered). x .number) (seekIn last false name j k l) ≡ getElem? (numbersNamed last name j l) k
+unfolding seekIn passOver numbersNamed
+seek-named last name j k [] = refl
+seek-named last name j k (b ∷ l) = go (isNamed name (getPrototype (b .it .prototypeId) last)) k (λ m. seek-named last name (suc j) m l)
+  where
+    go : (w : Bool) (k : ℕ) → ((m : ℕ) → Option·map (λ (x : Numbered). x .number) (seekIn last false name (suc j) m l) ≡ getElem? (numbersNamed last name (suc j) l) m)
+        → Option·map (λ (x : Numbered). x .number)
+        (cond w (passOver k (some (record { number = j; of = b })) (λ m. seekIn last false name (suc j) m l)) (seekIn last false name (suc j) k l))
+        ≡ getElem? (cond w (j ∷ numbersNamed last name (suc j) l) (numbersNamed last name (suc j) l)) k
+    go true zero h = refl
+    go true (suc k) h = h k
+    go false k h = h k
+
+-- ---- what it found
+
+pub record WasFound (s : List ℕ) (last : List Prototype) (o : Option Numbered) (b : Block) : Type 0 where
+  pub block : Placed DataBlock
+  pub parts : BlockIs s last b block
+  pub found : o ≡ some (record { number = b .number; of = block })
+
+was-found : {s : List ℕ} {last : List Prototype} {o : Option Numbered} {r : BlockAt} → Sought s last o r → (b : Block) → r ≡ ABlock b → WasFound s last o b
+was-found {s} {last} {o} (sought {b = c} x i e) b z = let y : c ≡ b = cc in subst (WasFound s last o) y (record { block = x; parts = i; found = e })
+was-found (missed e) b z = let y : _≡_ {A = ℕ} 0 1 = cc in let f : ⊥ = omega arith in absurd f
+
+was-missed : {s : List ℕ} {last : List Prototype} {o : Option Numbered} {r : BlockAt} → Sought s last o r → r ≡ NoBlock → o ≡ none
+was-missed (sought x i e) z = let y : _≡_ {A = ℕ} 0 1 = cc in let f : ⊥ = omega arith in absurd f
+was-missed (missed e) z = e
+
+module _ {s t : List ℕ} {rows blocks n : ℕ} {t′ : List ℕ} (w : WasRead s t rows blocks n t′) {any : Bool} {name : List ℕ} {k : ℕ} {r : BlockAt} (h : Seeks s 8 t′ rows any name k r) where
+  here : Sought s (prototypesOf (w .file .records)) (seekIn (prototypesOf (w .file .records)) any name 0 k (blocksOf (w .file))) r
+  here = subst (λ l. Sought s (prototypesOf (w .file .records)) (seekIn (prototypesOf (w .file .records)) any name 0 k l) r) (blocks-are w) (h .seeks _ _ _ (standing-first w))
+
+  pub block-found : {b : Block} → r ≡ ABlock b → WasFound s (prototypesOf (w .file .records)) (seekIn (prototypesOf (w .file .records)) any name 0 k (blocksOf (w .file))) b
+  block-found {b} z = was-found here b z
+
+  pub block-missed : r ≡ NoBlock → seekIn (prototypesOf (w .file .records)) any name 0 k (blocksOf (w .file)) ≡ none
+  block-missed z = was-missed here z
+
+-- ---- the parts of a block that was found
+
+module _ (s : List ℕ) (b : Block) {k : Kind} (h : KindAt s (b .at) k) where
+  carries : (last : List Prototype) (x : Placed DataBlock) → BlockIs s last b x → k ≡ Carries (x .it .prototypeId) (b .id)
+  carries last x i = h .is _ _ _ (i .head)
+
+  pub answered-end : k ≡ Ends → (v : BlockReply) → BlockAnswered s b v
+  answered-end z v = record { answers = λ last x i. no (sym z ∙ carries last x i) }
+    where
+      no : {P : Type 0} {a c : ℕ} → _≡_ {A = Kind} Ends (Carries a c) → P
+      no e = let y : _≡_ {A = ℕ} 0 1 = cc in let f : ⊥ = omega arith in absurd f
+
+  pub answered-defines : {id : ℕ} → k ≡ Defines id → (v : BlockReply) → BlockAnswered s b v
+  answered-defines z v = record { answers = λ last x i. no (sym z ∙ carries last x i) }
+    where
+      no : {P : Type 0} {d a c : ℕ} → _≡_ {A = Kind} (Defines d) (Carries a c) → P
+      no e = let y : _≡_ {A = ℕ} 0 1 = cc in let f : ⊥ = omega arith in absurd f
+
+  module _ {id next : ℕ} (z : k ≡ Carries id next) {q : Parsed} (e : q ≡ endOf (uncheckedId next (drop next s))) where
+    parts : (last : List Prototype) (x : Placed DataBlock) → BlockIs s last b x → (id ≡ x .it .prototypeId) × (next ≡ b .id) × (q ≡ Next (b .id + length (x .it .id .raw)))
+    parts last x i =
+        let y = sym z ∙ carries last x i in
+        let j : next ≡ b .id = cc in
+        let l : id ≡ x .it .prototypeId = cc in
+        (l, j, e ∙ ap (λ (m : ℕ). endOf (uncheckedId m (drop m s))) j ∙ id-same (b .id) (drop (b .id) s) (i .id))
+
+    pub answered-fault : {m o : ℕ} → q ≡ Fault m o → (v : BlockReply) → BlockAnswered s b v
+    answered-fault y v = record { answers = λ last x i. no (sym (parts last x i .2) ∙ y) }
+      where
+        no : {P : Type 0} {a c d : ℕ} → _≡_ {A = Parsed} (Next a) (Fault c d) → P
+        no e = let y : _≡_ {A = ℕ} 0 1 = cc in let f : ⊥ = omega arith in absurd f
+
+    -- also where nobody knows that an id stands there
+    pub id-later : {m : ℕ} → q ≡ Next m → next ≤ m
+    id-later y = let r = next-is (uncheckedId next (drop next s)) (sym y ∙ e) in moved unchecked-id-exact s next (r .2) .later
+
+    pub answered : {m : ℕ} → q ≡ Next m → BlockAnswered s b (block.Block id next (m - next))
+    unfolding blockAnswer
+    answered {m} y = record {
+      answers = λ last x i.
+          let p = parts last x i in
+          let j : m ≡ b .id + length (x .it .id .raw) = at-is (sym y ∙ p .2) in
+          let o : next ≡ x .offset + length (x .it .head) = p .1 ∙ i .idPlace in
+          let l : m - next ≡ length (x .it .id .raw) = omega (arith, j, p .1) in
+          ap gives (made (p .0) o l);
+    }
+      where
+        at-is : {a c : ℕ} → _≡_ {A = Parsed} (Next a) (Next c) → a ≡ c
+        at-is e = cc
+
+        made : {a a′ c c′ d d′ : ℕ} → a ≡ a′ → c ≡ c′ → d ≡ d′
+            → _≡_ {A = BlockAnswer} (record { prototypeId = a; id = record { offset = c; size = d } }) (record { prototypeId = a′; id = record { offset = c′; size = d′ } })
+        made e f g = cc
+
+-- ---- the calls
+
+module _ (s t : List ℕ) (k : ℕ) {r : Walked} {t′ : List ℕ} (h : ReadFile s t r t′) where
+  pub block-refused : {m o : ℕ} → r ≡ Stopped m o → blockIs (block.Refused m o) ≡ blockCall (length t) s k
+  unfolding blockCall
+  block-refused q = sym (unread-refuses (λ f at. orAbsent (Option·map blockAnswer (getElem? (blocksOf f) k))) h q)
+
+  module _ {rows blocks n : ℕ} (q : r ≡ Done rows blocks n) {name : List ℕ} {p : BlockAt} (x : Seeks s 8 t′ rows true name k p) where
+    is-block : {o : Option Numbered} → seekIn (prototypesOf (was-read h q .file .records)) true name 0 k (blocksOf (was-read h q .file)) ≡ o
+        → blockCall (length t) s k ≡ orAbsent (Option·map blockAnswer (Option·map (λ (y : Numbered). y .of) o))
+    unfolding blockCall
+    is-block e =
+        let w = was-read h q in
+        read-answers (λ f at. orAbsent (Option·map blockAnswer (getElem? (blocksOf f) k))) w
+        ∙ ap (λ o. orAbsent (Option·map blockAnswer o)) (sym (seek-any (prototypesOf (w .file .records)) name 0 k (blocksOf (w .file))) ∙ ap (Option·map (λ (y : Numbered). y .of)) e)
+
+    pub block-absent : p ≡ NoBlock → blockIs (block.Refused 13 0) ≡ blockCall (length t) s k
+    unfolding orRefuse
+    block-absent z = sym (is-block (block-missed (was-read h q) x z))
+
+    pub block-answers : {b : Block} → p ≡ ABlock b → {v : BlockReply} → BlockAnswered s b v → blockIs v ≡ blockCall (length t) s k
+    unfolding orRefuse
+    block-answers z a = let f = block-found (was-read h q) x z in a .answers _ (f .block) (f .parts) ∙ sym (is-block (f .found))
+
+module _ (s t name : List ℕ) (k : ℕ) {r : Walked} {t′ : List ℕ} (h : ReadFile s t r t′) where
+  pub number-refused : {m o : ℕ} → r ≡ Stopped m o → numberIs (number.Refused m o) ≡ namedBlockCall (length t) s name k
+  unfolding namedBlockCall
+  number-refused q = sym (unread-refuses (λ f at. orAbsent (getElem? (blocksByPrototypeName name f) k)) h q)
+
+  module _ {rows blocks n : ℕ} (q : r ≡ Done rows blocks n) {p : BlockAt} (x : Seeks s 8 t′ rows false name k p) where
+    is-number : {o : Option Numbered} → seekIn (prototypesOf (was-read h q .file .records)) false name 0 k (blocksOf (was-read h q .file)) ≡ o
+        → namedBlockCall (length t) s name k ≡ orAbsent (Option·map (λ (y : Numbered). y .number) o)
+    unfolding namedBlockCall blocksByPrototypeName
+    is-number e =
+        let w = was-read h q in
+        read-answers (λ f at. orAbsent (getElem? (blocksByPrototypeName name f) k)) w
+        ∙ ap orAbsent (sym (seek-named (prototypesOf (w .file .records)) name 0 k (blocksOf (w .file))) ∙ ap (Option·map (λ (y : Numbered). y .number)) e)
+
+    pub number-absent : p ≡ NoBlock → numberIs (number.Refused 13 0) ≡ namedBlockCall (length t) s name k
+    unfolding orRefuse
+    number-absent z = sym (is-number (block-missed (was-read h q) x z))
+
+    pub number-answers : {b : Block} → p ≡ ABlock b → numberIs (number.Number (b .number)) ≡ namedBlockCall (length t) s name k
+    unfolding orRefuse
+    number-answers z = let f = block-found (was-read h q) x z in sym (is-number (f .found))

@@ -1,0 +1,132 @@
+// A block by its number, and by its number among those under a prototype name.
+use bsii_again::records::Kind;
+use bsii_again::records::kind_at;
+use bsii_again::seek::Block;
+use bsii_again::seek::BlockAt;
+use bsii_again::seek::seek;
+use bsii_parse::reading::read_file;
+use bsii_parse::walk::Walked;
+use bsii_past::id_past;
+use bsii_table::clear;
+use bsii_value::answers::Parsed;
+ghost use mathlib.Core.Path.{_≡_};
+ghost use lib.ListN.{length};
+ghost use Rattle.bsii_format.specs.Calls.{blockCall, namedBlockCall, tableAfter};
+ghost use Rattle.bsii_file.specs.Answers.{blockIs, numberIs};
+ghost use Rattle.bsii_file.specs.Lookups.{BlockAnswered};
+
+// The prototype id, and the id's bytes, their first one included.
+pub enum BlockReply {
+    Block {
+        prototype_id: u32,
+        id: usize,
+        id_size: usize,
+    },
+    Refused {
+        number: u32,
+        offset: usize,
+    },
+}
+
+pub enum NumberReply {
+    Number(usize),
+    Refused { number: u32, offset: usize },
+}
+
+// A block that was found.
+fn block_found(s: &[u8], b: Block) -> BlockReply
+    ensures { λ r. ⌜ BlockAnswered (now (s .entry)) b r ⌝ }
+{
+    let kind = kind_at(s, b.at);
+    match kind {
+        Kind::Ends => BlockReply::Refused {
+            number: 13,
+            offset: 0,
+        },
+        Kind::Defines(_) => BlockReply::Refused {
+            number: 13,
+            offset: 0,
+        },
+        Kind::Carries { id, next } => {
+            let end = id_past(s, next);
+            match end {
+                Parsed::Fault { number, offset } => BlockReply::Refused { number, offset },
+                Parsed::Next(behind) => BlockReply::Block {
+                    prototype_id: id,
+                    id: next,
+                    id_size: behind - next,
+                },
+            }
+        }
+    }
+}
+
+// The answer, with the table as it was left by the search.
+fn read_block(file: &[u8], table: &mut [u32], k: usize) -> BlockReply
+    ensures { λ r. ⌜ blockIs r ≡ blockCall (length (now (table .entry))) (now (file .entry)) k ⌝ }
+{
+    let walked = read_file(file, table);
+    match walked {
+        Walked::Fault { number, offset } => return BlockReply::Refused { number, offset },
+        Walked::Done {
+            rows,
+            blocks: _,
+            next: _,
+        } => {
+            let place = seek(file, 8, table, rows, true, file, k);
+            match place {
+                BlockAt::NoBlock => return BlockReply::Refused {
+                    number: 13,
+                    offset: 0,
+                },
+                BlockAt::Block(b) => return block_found(file, b),
+            }
+        }
+    }
+}
+
+pub fn block_at(file: &[u8], table: &mut [u32], k: usize) -> BlockReply
+    ensures reply { λ r. ⌜ blockIs r ≡ blockCall (length (now (table .entry))) (now (file .entry)) k ⌝ }
+    ensures zeros { λ r. ⌜ now (table .exit) ≡ tableAfter (now (table .entry)) ⌝ }
+{
+    let reply = read_block(file, table, k);
+    clear(table);
+    reply
+}
+
+fn read_named(file: &[u8], table: &mut [u32], name: &[u8], n: usize) -> NumberReply
+    ensures { λ r. ⌜ numberIs r ≡ namedBlockCall (length (now (table .entry))) (now (file .entry)) (now (name .entry)) n ⌝ }
+{
+    let walked = read_file(file, table);
+    match walked {
+        Walked::Fault { number, offset } => return NumberReply::Refused { number, offset },
+        Walked::Done {
+            rows,
+            blocks: _,
+            next: _,
+        } => {
+            let place = seek(file, 8, table, rows, false, name, n);
+            match place {
+                BlockAt::NoBlock => return NumberReply::Refused {
+                    number: 13,
+                    offset: 0,
+                },
+                BlockAt::Block(b) => return NumberReply::Number(b.number),
+            }
+        }
+    }
+}
+
+pub fn blocks_by_prototype_name(
+    file: &[u8],
+    table: &mut [u32],
+    name: &[u8],
+    n: usize,
+) -> NumberReply
+    ensures reply { λ r. ⌜ numberIs r ≡ namedBlockCall (length (now (table .entry))) (now (file .entry)) (now (name .entry)) n ⌝ }
+    ensures zeros { λ r. ⌜ now (table .exit) ≡ tableAfter (now (table .entry)) ⌝ }
+{
+    let reply = read_named(file, table, name, n);
+    clear(table);
+    reply
+}
