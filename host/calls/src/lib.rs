@@ -149,6 +149,16 @@ pub fn parts_of(kind: u32) -> usize {
     }
 }
 
+/// A float's bits; those of a NaN as one pattern, since 01 keeps floats as floats, without a NaN's
+/// sign and payload.
+pub fn one_nan(bits: u32) -> u32 {
+    if f32::from_bits(bits).is_nan() {
+        f32::NAN.to_bits()
+    } else {
+        bits
+    }
+}
+
 impl Element {
     pub fn refused(number: u32, offset: u64) -> Self {
         Element {
@@ -169,6 +179,9 @@ impl Element {
         };
         let used = parts_of(self.kind);
         known.parts[..used].copy_from_slice(&self.parts[..used]);
+        if self.kind != kind::THREE_I32 {
+            known.parts = known.parts.map(one_nan);
+        }
         if matches!(self.kind, kind::STRING | kind::ID) {
             known.place_offset = self.place_offset;
             known.place_len = self.place_len;

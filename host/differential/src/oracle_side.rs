@@ -3,7 +3,7 @@
 use crate::plan::{indices, Plan, TEXT_MEMORY};
 use crate::report::{differ, Check, Exception, Label, Note, Tally};
 use crate::side::Side;
-use calls::{kind, Element, LENGTH_LIMIT};
+use calls::{kind, one_nan, Element, LENGTH_LIMIT};
 use model::{word_text, Model, Place};
 use oracle::{BsiiFile, DataValue, Fault, Id};
 
@@ -316,7 +316,7 @@ fn expected_element<'a>(value: &'a DataValue<'_>, index: u64) -> Expected<'a> {
     let bits = |floats: &[f32]| {
         let mut parts = [0; 8];
         for (part, float) in parts.iter_mut().zip(floats) {
-            *part = float.to_bits();
+            *part = one_nan(float.to_bits());
         }
         parts
     };
