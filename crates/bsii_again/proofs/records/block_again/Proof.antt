@@ -4,53 +4,37 @@ use Rattle.bsii_again.proofs.Meeting.{again-unknown, again-block-fault,
 use borrow.Author.Needs.{needs}
 use Rattle.bsii_again.proofs.records.block_again.Statement.{statement}
 use Rattle.bsii_again.proofs.records.block_again.Tie as tie
-use Rattle.bsii_again.proofs.records.block_again.Reads as reads
-use Rattle.bsii_again.proofs.records.block_again.Lts as lts
-use Rattle.bsii_again.proofs.records.block_past.Reads as block-past-reads
-use Rattle.bsii_table.proofs.find.Reads as find-reads
-use Rattle.bsii_value.proofs.numbers.size.Reads as size-reads
 
--- src/records.rt:156:9
 find-requires : tie.Need-find-requires
 find-requires c κs = search needs
 
--- src/records.rt:158:27
 enum-told : tie.Need-enum-told
 enum-told c = search needs
 
--- src/records.rt:158:27
 returns : tie.Need-returns
 returns c = let a = c .before .before .before .before .before .args in again-unknown (now (a .s)) (a .id-at) (now (a .table)) (a .rows) (a .id) (c .before .before .find .ensures) (c .enum-told .given .1)
 
--- src/records.rt:159:21
 enum-known-found : tie.Need-enum-known-found
 enum-known-found c = search needs
 
--- src/records.rt:160:17
 size-requires : tie.Need-size-requires
 size-requires c κs = search needs
 
--- src/records.rt:161:17
 size-requires-2 : tie.Need-size-requires-2
 size-requires-2 c κs = search needs
 
--- src/records.rt:162:17
 block-past-requires : tie.Need-block-past-requires
 block-past-requires c κs = search needs
 
--- src/records.rt:164:59
 enum-told-2 : tie.Need-enum-told-2
 enum-told-2 c = search needs
 
--- src/records.rt:164:59
 returns-2 : tie.Need-returns-2
 returns-2 c = let a = c .before .before .before .before .before .before .before .before .before .before .before .args in again-block-fault (now (a .s)) (a .id-at) (now (a .table)) (a .rows) (a .id) (c .before .before .before .before .before .before .before .before .find .ensures) (c .before .before .before .before .before .before .found .given .1) (c .before .before .before .before .size .ensures) (c .before .before .before .size2 .ensures) (c .before .before .block-past .ensures) (c .enum-told2 .given .1)
 
--- src/records.rt:165:30
 enum-known-end : tie.Need-enum-known-end
 enum-known-end c = search needs
 
--- src/records.rt:165:39
 returns-3 : tie.Need-returns-3
 returns-3 c = let a = c .before .before .before .before .before .before .before .before .before .before .before .before .args in again-block (now (a .s)) (a .id-at) (now (a .table)) (a .rows) (a .id) (c .before .before .before .before .before .before .before .before .before .find .ensures) (c .before .before .before .before .before .before .before .found .given .1) (c .before .before .before .before .before .size .ensures) (c .before .before .before .before .size2 .ensures) (c .before .before .before .block-past .ensures) (c .before .end .given .1)
 

@@ -4,49 +4,34 @@ use Rattle.bsii_again.proofs.Past.{block-head-fault, block-id-fault, bl
 use borrow.Author.Needs.{needs}
 use Rattle.bsii_again.proofs.records.block_past.Statement.{statement}
 use Rattle.bsii_again.proofs.records.block_past.Tie as tie
-use Rattle.bsii_again.proofs.records.block_past.Reads as reads
-use Rattle.bsii_again.proofs.records.block_past.Lts as lts
-use Rattle.bsii_again.proofs.records.values_past.Reads as values-past-reads
-use Rattle.bsii_past.proofs.id_past.Reads as id-past-reads
-use Rattle.bsii_prototype.proofs.past.fields_at.Reads as fields-at-reads
 
--- src/records.rt:111:9
 fields-at-requires : tie.Need-fields-at-requires
 fields-at-requires c κs = search needs
 
--- src/records.rt:113:25
 enum-known-fields : tie.Need-enum-known-fields
 enum-known-fields c = search needs
 
--- src/records.rt:114:22
 enum-known-fields-2 : tie.Need-enum-known-fields-2
 enum-known-fields-2 c = search needs
 
--- src/records.rt:115:17
 id-past-requires : tie.Need-id-past-requires
 id-past-requires c κs = search needs
 
--- src/records.rt:117:33
 enum-known-id : tie.Need-enum-known-id
 enum-known-id c = search needs
 
--- src/records.rt:118:30
 enum-known-id-2 : tie.Need-enum-known-id-2
 enum-known-id-2 c = search needs
 
--- src/records.rt:118:39
 values-past-requires : tie.Need-values-past-requires
 values-past-requires c κs = search needs
 
--- src/records.rt:108:1
 returns : tie.Need-returns
 returns c = let a = c .before .before .before .before .before .args in block-head-fault (now (a .s)) (a .prototype) (a .at) (c .before .before .before .fields-at .ensures) (c .before .fields .given .1) _
 
--- src/records.rt:108:1
 returns-2 : tie.Need-returns-2
 returns-2 c = let a = c .before .before .before .before .before .before .before .before .before .args in block-id-fault (now (a .s)) (a .prototype) (a .at) (c .before .before .before .before .before .before .before .fields-at .ensures) (c .before .before .before .before .before .fields2 .given .1) (c .before .before .before .id-past .ensures) (c .before .id .given .1) _
 
--- src/records.rt:108:1
 returns-3 : tie.Need-returns-3
 returns-3 c = let a = c .before .before .before .before .before .before .before .before .before .before .args in block-values (now (a .s)) (a .prototype) (a .at) (c .before .before .before .before .before .before .before .before .fields-at .ensures) (c .before .before .before .before .before .before .fields2 .given .1) (c .before .before .before .before .id-past .ensures) (c .before .before .id2 .given .1) (c .values-past .ensures)
 

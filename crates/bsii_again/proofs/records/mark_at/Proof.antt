@@ -4,48 +4,34 @@ use Rattle.bsii_again.proofs.HeadKinds.{mark-cut, mark-zero, mark-id-cu
 use borrow.Author.Needs.{needs}
 use Rattle.bsii_again.proofs.records.mark_at.Statement.{statement}
 use Rattle.bsii_again.proofs.records.mark_at.Tie as tie
-use Rattle.bsii_again.proofs.records.mark_at.Reads as reads
-use Rattle.bsii_again.proofs.records.mark_at.Lts as lts
-use Rattle.bsii_value.proofs.numbers.le_u32.Reads as le-u32-reads
-use Rattle.bsii_value.proofs.numbers.le_u8.Reads as le-u8-reads
 
--- src/records.rt:46:9
 le-u8-requires : tie.Need-le-u8-requires
 le-u8-requires c κs = search needs
 
--- src/records.rt:48:26
 enum-told : tie.Need-enum-told
 enum-told c = search needs
 
--- src/records.rt:49:18
 enum-known-mark : tie.Need-enum-known-mark
 enum-known-mark c = search needs
 
--- src/records.rt:51:17
 returns : tie.Need-returns
 returns c = let a = c .before .before .before .before .before .before .args in mark-zero (now (a .s)) (a .at) (c .before .before .before .before .le-u8 .ensures) (c .before .before .mark .given .1) (c .if1 .taken)
 
--- src/records.rt:53:17
 le-u32-requires : tie.Need-le-u32-requires
 le-u32-requires c κs = search needs
 
--- src/records.rt:55:34
 enum-told-2 : tie.Need-enum-told-2
 enum-told-2 c = search needs
 
--- src/records.rt:56:26
 enum-known-number : tie.Need-enum-known-number
 enum-known-number c = search needs
 
--- src/records.rt:43:1
 returns-2 : tie.Need-returns-2
 returns-2 c = let a = c .before .before .before .before .args in mark-cut (now (a .s)) (a .at) (c .before .before .le-u8 .ensures) (c .enum-told .given .1) _
 
--- src/records.rt:43:1
 returns-3 : tie.Need-returns-3
 returns-3 c = let a = c .before .before .before .before .before .before .before .before .before .args in mark-id-cut (now (a .s)) (a .at) (c .before .before .before .before .before .before .before .le-u8 .ensures) (c .before .before .before .before .before .mark .given .1) (c .before .before .before .if1 .left) (c .before .before .le-u32 .ensures) (c .enum-told2 .given .1) _
 
--- src/records.rt:43:1
 returns-4 : tie.Need-returns-4
 returns-4 c = let a = c .before .before .before .before .before .before .before .before .before .before .args in mark-id (now (a .s)) (a .at) (c .before .before .before .before .before .before .before .before .le-u8 .ensures) (c .before .before .before .before .before .before .mark .given .1) (c .before .before .before .before .if1 .left) (c .before .before .before .le-u32 .ensures) (c .before .number .given .1)
 

@@ -10,10 +10,6 @@ use Rattle.bsii_prototype.proofs.Lists.{count-later}
 use Rattle.bsii_again.proofs.Past.{InPast, past-start, past-last, past-bad, past-fault, past-next}
 use Rattle.bsii_again.proofs.records.values_past.Statement.{statement}
 use Rattle.bsii_again.proofs.records.values_past.Tie as tie
-use Rattle.bsii_again.proofs.records.values_past.Reads as reads
-use Rattle.bsii_again.proofs.records.values_past.Lts as lts
-use Rattle.bsii_past.proofs.value_past.Reads as value-past-reads
-use Rattle.bsii_prototype.proofs.past.value_prototype_past.Reads as value-prototype-past-reads
 
 abbrev Inv-loop : tie.InvT-loop
 Inv-loop s fields start field₀ at₀ field at = InPast s fields start field at
@@ -21,65 +17,52 @@ Inv-loop s fields start field₀ at₀ field at = InPast s fields start field at
 abbrev μ-loop : tie.MeasureT-loop
 μ-loop s fields start field₀ at₀ field at = length s - field
 
--- src/records.rt:83:5
 loop-holds : tie.Need-loop-holds Inv-loop μ-loop
 loop-holds c = let a = c .before .args in past-start (now (a .s)) (a .fields) (a .start)
 
--- src/records.rt:84:13
 value-prototype-past-requires : tie.Need-value-prototype-past-requires Inv-loop μ-loop
 value-prototype-past-requires c κs = search needs
 
--- src/records.rt:86:31
 enum-told : tie.Need-enum-told Inv-loop μ-loop
 enum-told c = search needs
 
--- src/records.rt:86:31
 returns : tie.Need-returns Inv-loop μ-loop
 returns c = let l = c .before .before .before in
     let a = l .before .before .args in
     past-last (now (a .s)) (a .fields) (a .start) (l .loop .field) (l .loop .at) (l .loop .inv) (sym (c .enum-told .given .1) ∙ c .before .before .value-prototype-past .ensures)
 
--- src/records.rt:87:26
 enum-known-entry : tie.Need-enum-known-entry Inv-loop μ-loop
 enum-known-entry c = search needs
 
--- src/records.rt:87:46
 returns-2 : tie.Need-returns-2 Inv-loop μ-loop
 returns-2 c = let l = c .before .before .before .before in
     let a = l .before .before .args in
     past-bad (now (a .s)) (a .fields) (a .start) (l .loop .field) (l .loop .at) (l .loop .inv) (sym (c .before .entry .given .1) ∙ c .before .before .before .value-prototype-past .ensures) _
 
--- src/records.rt:89:17
 enum-known-entry-2 : tie.Need-enum-known-entry-2 Inv-loop μ-loop
 enum-known-entry-2 c = search needs
 
--- src/records.rt:94:21
 value-past-requires : tie.Need-value-past-requires Inv-loop μ-loop
 value-past-requires c κs = search needs
 
--- src/records.rt:96:37
 enum-known-value : tie.Need-enum-known-value Inv-loop μ-loop
 enum-known-value c = search needs
 
--- src/records.rt:96:57
 returns-3 : tie.Need-returns-3 Inv-loop μ-loop
 returns-3 c = let l = c .before .before .before .before .before .before .before .before in
     let a = l .before .before .args in
     let e = sym (c .before .before .before .before .before .entry2 .given .1) ∙ c .before .before .before .before .before .before .before .value-prototype-past .ensures in
     past-fault (now (a .s)) (a .fields) (a .start) (l .loop .field) (l .loop .at) (l .loop .inv) e (sym (c .before .value .given .1) ∙ c .before .before .before .value-past .ensures) _
 
--- src/records.rt:97:34
 enum-known-value-2 : tie.Need-enum-known-value-2 Inv-loop μ-loop
 enum-known-value-2 c = search needs
 
--- src/records.rt:83:5
 loop-less : tie.Need-loop-less Inv-loop μ-loop
 loop-less c = let l = c .before .before .before .before .before .before .before .before in
     let a = l .before .before .args in
     let e = sym (c .before .before .before .before .before .entry2 .given .1) ∙ c .before .before .before .before .before .before .before .value-prototype-past .ensures in
     omega (arith, count-later uncheckedStr (unchecked .exact) (now (a .s)) (l .loop .field) e)
 
--- src/records.rt:83:5
 loop-again : tie.Need-loop-again Inv-loop μ-loop
 loop-again c = let l = c .before .before .before .before .before .before .before .before in
     let a = l .before .before .args in

@@ -4,35 +4,25 @@ use native.Mathlib.Omega.{arith}
 use Rattle.bsii_again.proofs.Seeking.{block-unwanted, block-found, block-passed}
 use Rattle.bsii_again.proofs.seek.block_step.Statement.{statement}
 use Rattle.bsii_again.proofs.seek.block_step.Tie as tie
-use Rattle.bsii_again.proofs.seek.block_step.Reads as reads
-use Rattle.bsii_again.proofs.seek.block_step.Lts as lts
-use Rattle.bsii_again.proofs.seek.wants.Reads as wants-reads
 
--- src/seek.rt:54:9
 wants-requires : tie.Need-wants-requires
 wants-requires c κs = search needs
 
--- src/seek.rt:57:21
 add-t11 : tie.Need-add-t11
 add-t11 c = omega (arith, c .before .before .before .before .pre)
 
--- src/seek.rt:55:9
 returns : tie.Need-returns
 returns c = let k = c .before in let a = k .before .before .before .args in block-unwanted (now (a .s)) (a .p) (a .b) (a .any) (now (a .name)) (k .wants .ensures) (c .if1 .taken)
 
--- src/seek.rt:62:9
 returns-2 : tie.Need-returns-2
 returns-2 c = let k = c .before .before in let a = k .before .before .before .args in block-found (now (a .s)) (a .p) (a .b) (a .any) (now (a .name)) (k .wants .ensures) (c .before .if1 .left) (c .if2 .taken)
 
--- src/seek.rt:66:17
 add-t13 : tie.Need-add-t13
 add-t13 c = omega (arith, c .before .before .before .before .before .pre)
 
--- src/seek.rt:67:15
 sub-t14 : tie.Need-sub-t14
 sub-t14 c = search needs
 
--- src/seek.rt:47:1
 returns-3 : tie.Need-returns-3
 returns-3 c = let k = c .before .before in let a = k .before .before .before .args in block-passed (now (a .s)) (a .p) (a .b) (a .any) (now (a .name)) (k .wants .ensures) (c .before .if1 .left) (c .if2 .left)
 

@@ -6,9 +6,6 @@ use lib.ListN.{length}
 use Rattle.bsii_again.proofs.Searching.{Seeking, seeking-start, seeking-ready, seeking-end, seeking-found, seeking-later, seeking-on}
 use Rattle.bsii_again.proofs.seek.seek.Statement.{statement}
 use Rattle.bsii_again.proofs.seek.seek.Tie as tie
-use Rattle.bsii_again.proofs.seek.seek.Reads as reads
-use Rattle.bsii_again.proofs.seek.seek.Lts as lts
-use Rattle.bsii_again.proofs.seek.seek_step.Reads as seek-step-reads
 
 abbrev Inv-loop : tie.InvT-loop
 Inv-loop s start table₀ rows any name k p₀ table p = Seeking s start table₀ rows any name k p table
@@ -16,47 +13,36 @@ Inv-loop s start table₀ rows any name k p₀ table p = Seeking s start table�
 abbrev μ-loop : tie.MeasureT-loop
 μ-loop s start table₀ rows any name k p₀ table p = length s - p .at
 
--- src/seek.rt:116:5
 loop-holds : tie.Need-loop-holds Inv-loop μ-loop
 loop-holds c = let b = c .before .before .before in let a = b .args in seeking-start (now (a .s)) (a .start) (now (a .table)) (a .rows) (a .any) (now (a .name)) (a .k) (b .pre .inside)
 
--- src/seek.rt:117:13
 seek-step-requires : tie.Need-seek-step-requires Inv-loop μ-loop
 seek-step-requires c κs = let l = c .before in let b = l .before .before .before .before in let a = b .args in seeking-ready (now (a .s)) (a .start) (now (a .table)) (a .rows) (a .any) (now (a .name)) (a .k) (l .loop .p) (l .loop .table) (l .loop .inv) (b .pre)
 
--- src/seek.rt:119:26
 enum-told : tie.Need-enum-told Inv-loop μ-loop
 enum-told c = search needs
 
--- src/seek.rt:119:26
 same-length : tie.Need-same-length Inv-loop μ-loop
 same-length c = search needs
 
--- src/seek.rt:119:26
 returns : tie.Need-returns Inv-loop μ-loop
 returns c = let k = c .before .before .before .before in let l = k .before .before in let b = l .before .before .before .before in let a = b .args in seeking-end (now (a .s)) (a .start) (now (a .table)) (a .rows) (a .any) (now (a .name)) (a .k) (l .loop .p) (l .loop .table) (l .loop .inv) (k .seek-step .ensures) (c .enum-told .given .1)
 
--- src/seek.rt:120:25
 enum-known-step : tie.Need-enum-known-step Inv-loop μ-loop
 enum-known-step c = search needs
 
--- src/seek.rt:120:31
 same-length-2 : tie.Need-same-length-2 Inv-loop μ-loop
 same-length-2 c = search needs
 
--- src/seek.rt:120:31
 returns-2 : tie.Need-returns-2 Inv-loop μ-loop
 returns-2 c = let k = c .before .before .before .before .before in let l = k .before .before in let b = l .before .before .before .before in let a = b .args in seeking-found (now (a .s)) (a .start) (now (a .table)) (a .rows) (a .any) (now (a .name)) (a .k) (l .loop .p) (l .loop .table) (l .loop .inv) (k .seek-step .ensures) (c .before .step .given .1)
 
--- src/seek.rt:121:22
 enum-known-step-2 : tie.Need-enum-known-step-2 Inv-loop μ-loop
 enum-known-step-2 c = search needs
 
--- src/seek.rt:116:5
 loop-less : tie.Need-loop-less Inv-loop μ-loop
 loop-less c = let k = c .before .before .before .before .before in let l = k .before .before in let b = l .before .before .before .before in let a = b .args in let f = seeking-later (now (a .s)) (a .start) (now (a .table)) (a .rows) (a .any) (now (a .name)) (a .k) (l .loop .p) (l .loop .table) (l .loop .inv) (k .seek-step .ensures) _ (c .before .step2 .given .1) (b .pre) in let g = seeking-on (now (a .s)) (a .start) (now (a .table)) (a .rows) (a .any) (now (a .name)) (a .k) (l .loop .p) (l .loop .table) (l .loop .inv) (k .seek-step .ensures) _ (c .before .step2 .given .1) (b .pre) in omega (arith, f, g .inside)
 
--- src/seek.rt:116:5
 loop-again : tie.Need-loop-again Inv-loop μ-loop
 loop-again c = let k = c .before .before .before .before .before in let l = k .before .before in let b = l .before .before .before .before in let a = b .args in seeking-on (now (a .s)) (a .start) (now (a .table)) (a .rows) (a .any) (now (a .name)) (a .k) (l .loop .p) (l .loop .table) (l .loop .inv) (k .seek-step .ensures) _ (c .before .step2 .given .1) (b .pre)
 

@@ -4,24 +4,16 @@ use denote.Ref.{now}
 use borrow.Author.Needs.{needs}
 use Rattle.bsii_file.proofs.blocks.block_at.Statement.{statement}
 use Rattle.bsii_file.proofs.blocks.block_at.Tie as tie
-use Rattle.bsii_file.proofs.blocks.block_at.Reads as reads
-use Rattle.bsii_file.proofs.blocks.block_at.Lts as lts
-use Rattle.bsii_file.proofs.blocks.read_block.Reads as read-block-reads
-use Rattle.bsii_table.proofs.clear.Reads as clear-reads
 
--- src/blocks.rt:92:9
 read-block-requires : tie.Need-read-block-requires
 read-block-requires c κs = search needs
 
--- src/blocks.rt:93:5
 clear-requires : tie.Need-clear-requires
 clear-requires c κs = search needs
 
--- src/blocks.rt:88:1
 same-length : tie.Need-same-length
 same-length c = search needs
 
--- src/blocks.rt:88:1
 returns : tie.Need-returns
 returns c = let a = c .before .before .before .before .before .before .before .before .before .before .args in let l : length (c .before .before .before .before .before .before .read-block .last .1 .0) ≡ length (now (a .table)) = search needs in (c .before .before .before .before .before .before .read-block .ensures, c .before .before .clear .ensures ∙ ap (λ n. replicate n 0) l)
 

@@ -3,56 +3,40 @@ use Rattle.bsii_file.proofs.BlockCalls.{answered-end, answered-defines,
 use borrow.Author.Needs.{needs}
 use Rattle.bsii_file.proofs.blocks.block_found.Statement.{statement}
 use Rattle.bsii_file.proofs.blocks.block_found.Tie as tie
-use Rattle.bsii_file.proofs.blocks.block_found.Reads as reads
-use Rattle.bsii_file.proofs.blocks.block_found.Lts as lts
-use Rattle.bsii_again.proofs.records.kind_at.Reads as kind-at-reads
-use Rattle.bsii_past.proofs.id_past.Reads as id-past-reads
 
--- src/blocks.rt:40:9
 kind-at-requires : tie.Need-kind-at-requires
 kind-at-requires c κs = search needs
 
--- src/blocks.rt:42:23
 enum-told : tie.Need-enum-told
 enum-told c = search needs
 
--- src/blocks.rt:46:29
 enum-told-2 : tie.Need-enum-told-2
 enum-told-2 c = search needs
 
--- src/blocks.rt:50:25
 enum-known-kind : tie.Need-enum-known-kind
 enum-known-kind c = search needs
 
--- src/blocks.rt:51:17
 id-past-requires : tie.Need-id-past-requires
 id-past-requires c κs = search needs
 
--- src/blocks.rt:53:33
 enum-known-end : tie.Need-enum-known-end
 enum-known-end c = search needs
 
--- src/blocks.rt:54:30
 enum-known-end-2 : tie.Need-enum-known-end-2
 enum-known-end-2 c = search needs
 
--- src/blocks.rt:57:30
 sub-t12 : tie.Need-sub-t12
 sub-t12 c = let k = c .before .before .before .before .before .before .before in let a = k .before .before .args in id-later (now (a .s)) (a .b) (k .kind-at .ensures) (c .before .before .before .before .before .kind .given .1) (c .before .before .before .id-past .ensures) (c .before .end2 .given .1)
 
--- src/blocks.rt:37:1
 returns : tie.Need-returns
 returns c = let k = c .before .before in let a = k .before .before .args in answered-end (now (a .s)) (a .b) (k .kind-at .ensures) (c .enum-told .given .1) _
 
--- src/blocks.rt:37:1
 returns-2 : tie.Need-returns-2
 returns-2 c = let k = c .before .before in let a = k .before .before .args in answered-defines (now (a .s)) (a .b) (k .kind-at .ensures) (c .enum-told2 .given .1) _
 
--- src/blocks.rt:37:1
 returns-3 : tie.Need-returns-3
 returns-3 c = let k = c .before .before .before .before .before .before .before in let a = k .before .before .args in answered-fault (now (a .s)) (a .b) (k .kind-at .ensures) (c .before .before .before .before .before .kind .given .1) (c .before .before .before .id-past .ensures) (c .before .end .given .1) _
 
--- src/blocks.rt:37:1
 returns-4 : tie.Need-returns-4
 returns-4 c = let k = c .before .before .before .before .before .before .before in let a = k .before .before .args in answered (now (a .s)) (a .b) (k .kind-at .ensures) (c .before .before .before .before .before .kind .given .1) (c .before .before .before .id-past .ensures) (c .before .end2 .given .1)
 

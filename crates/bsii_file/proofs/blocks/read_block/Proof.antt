@@ -5,61 +5,43 @@ use Rattle.bsii_file.proofs.BlockCalls.{block-refused, block-absent, bl
 use borrow.Author.Needs.{needs}
 use Rattle.bsii_file.proofs.blocks.read_block.Statement.{statement}
 use Rattle.bsii_file.proofs.blocks.read_block.Tie as tie
-use Rattle.bsii_file.proofs.blocks.read_block.Reads as reads
-use Rattle.bsii_file.proofs.blocks.read_block.Lts as lts
-use Rattle.bsii_again.proofs.seek.seek.Reads as seek-reads
-use Rattle.bsii_file.proofs.blocks.block_found.Reads as block-found-reads
-use Rattle.bsii_parse.proofs.reading.read_file.Reads as read-file-reads
 
--- src/blocks.rt:68:9
 read-file-requires : tie.Need-read-file-requires
 read-file-requires c κs = search needs
 
--- src/blocks.rt:70:25
 enum-known-walked : tie.Need-enum-known-walked
 enum-known-walked c = search needs
 
--- src/blocks.rt:70:45
 same-length : tie.Need-same-length
 same-length c = search needs
 
--- src/blocks.rt:70:45
 returns : tie.Need-returns
 returns c = let k = c .before .before .before .before .before in let a = k .before .before .before .before .args in block-refused (now (a .file)) (now (a .table)) (a .k) (k .read-file .ensures) (c .before .walked .given .1)
 
--- src/blocks.rt:72:13
 enum-known-walked-2 : tie.Need-enum-known-walked-2
 enum-known-walked-2 c = search needs
 
--- src/blocks.rt:76:17
 seek-requires : tie.Need-seek-requires
 seek-requires c κs = let k = c .before .before .before .before .before .before in readable (was-read (k .read-file .ensures) (c .before .before .walked2 .given .1))
 
--- src/blocks.rt:78:37
 enum-told : tie.Need-enum-told
 enum-told c = search needs
 
--- src/blocks.rt:78:37
 same-length-2 : tie.Need-same-length-2
 same-length-2 c = search needs
 
--- src/blocks.rt:78:37
 returns-2 : tie.Need-returns-2
 returns-2 c = let j = c .before .before .before .before in let k = j .before .before .before .before .before .before .before in let a = k .before .before .before .before .args in block-absent (now (a .file)) (now (a .table)) (a .k) (k .read-file .ensures) (j .before .before .before .walked2 .given .1) (j .seek .ensures) (c .enum-told .given .1)
 
--- src/blocks.rt:82:32
 enum-known-place : tie.Need-enum-known-place
 enum-known-place c = search needs
 
--- src/blocks.rt:82:38
 block-found-requires : tie.Need-block-found-requires
 block-found-requires c κs = search needs
 
--- src/blocks.rt:82:38
 same-length-3 : tie.Need-same-length-3
 same-length-3 c = search needs
 
--- src/blocks.rt:82:38
 returns-3 : tie.Need-returns-3
 returns-3 c = let j = c .before .before .before .before .before .before in let k = j .before .before .before .before .before .before .before in let a = k .before .before .before .before .args in block-answers (now (a .file)) (now (a .table)) (a .k) (k .read-file .ensures) (j .before .before .before .walked2 .given .1) (j .seek .ensures) (c .before .before .place .given .1) (c .block-found .ensures)
 

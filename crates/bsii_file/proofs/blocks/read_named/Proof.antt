@@ -5,56 +5,40 @@ use Rattle.bsii_file.proofs.BlockCalls.{number-refused, number-absent, 
 use borrow.Author.Needs.{needs}
 use Rattle.bsii_file.proofs.blocks.read_named.Statement.{statement}
 use Rattle.bsii_file.proofs.blocks.read_named.Tie as tie
-use Rattle.bsii_file.proofs.blocks.read_named.Reads as reads
-use Rattle.bsii_file.proofs.blocks.read_named.Lts as lts
-use Rattle.bsii_again.proofs.seek.seek.Reads as seek-reads
-use Rattle.bsii_parse.proofs.reading.read_file.Reads as read-file-reads
 
--- src/blocks.rt:100:9
 read-file-requires : tie.Need-read-file-requires
 read-file-requires c κs = search needs
 
--- src/blocks.rt:102:25
 enum-known-walked : tie.Need-enum-known-walked
 enum-known-walked c = search needs
 
--- src/blocks.rt:102:45
 same-length : tie.Need-same-length
 same-length c = search needs
 
--- src/blocks.rt:102:45
 returns : tie.Need-returns
 returns c = let k = c .before .before .before .before .before in let a = k .before .before .before .before .before .args in number-refused (now (a .file)) (now (a .table)) (now (a .name)) (a .n) (k .read-file .ensures) (c .before .walked .given .1)
 
--- src/blocks.rt:104:13
 enum-known-walked-2 : tie.Need-enum-known-walked-2
 enum-known-walked-2 c = search needs
 
--- src/blocks.rt:108:17
 seek-requires : tie.Need-seek-requires
 seek-requires c κs = let k = c .before .before .before .before .before .before in readable (was-read (k .read-file .ensures) (c .before .before .walked2 .given .1))
 
--- src/blocks.rt:110:37
 enum-told : tie.Need-enum-told
 enum-told c = search needs
 
--- src/blocks.rt:110:37
 same-length-2 : tie.Need-same-length-2
 same-length-2 c = search needs
 
--- src/blocks.rt:110:37
 returns-2 : tie.Need-returns-2
 returns-2 c = let j = c .before .before .before .before in let k = j .before .before .before .before .before .before .before in let a = k .before .before .before .before .before .args in number-absent (now (a .file)) (now (a .table)) (now (a .name)) (a .n) (k .read-file .ensures) (j .before .before .before .walked2 .given .1) (j .seek .ensures) (c .enum-told .given .1)
 
--- src/blocks.rt:114:32
 enum-known-place : tie.Need-enum-known-place
 enum-known-place c = search needs
 
--- src/blocks.rt:114:38
 same-length-3 : tie.Need-same-length-3
 same-length-3 c = search needs
 
--- src/blocks.rt:114:38
 returns-3 : tie.Need-returns-3
 returns-3 c = let j = c .before .before .before .before .before in let k = j .before .before .before .before .before .before .before in let a = k .before .before .before .before .before .args in number-answers (now (a .file)) (now (a .table)) (now (a .name)) (a .n) (k .read-file .ensures) (j .before .before .before .walked2 .given .1) (j .seek .ensures) (c .before .place .given .1)
 

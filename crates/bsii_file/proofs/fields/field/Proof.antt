@@ -4,24 +4,16 @@ use denote.Ref.{now}
 use borrow.Author.Needs.{needs}
 use Rattle.bsii_file.proofs.fields.field.Statement.{statement}
 use Rattle.bsii_file.proofs.fields.field.Tie as tie
-use Rattle.bsii_file.proofs.fields.field.Reads as reads
-use Rattle.bsii_file.proofs.fields.field.Lts as lts
-use Rattle.bsii_file.proofs.fields.read_field.Reads as read-field-reads
-use Rattle.bsii_table.proofs.clear.Reads as clear-reads
 
--- src/fields.rt:105:9
 read-field-requires : tie.Need-read-field-requires
 read-field-requires c κs = search needs
 
--- src/fields.rt:106:5
 clear-requires : tie.Need-clear-requires
 clear-requires c κs = search needs
 
--- src/fields.rt:101:1
 same-length : tie.Need-same-length
 same-length c = search needs
 
--- src/fields.rt:101:1
 returns : tie.Need-returns
 returns c = let k = c in let a = k .before .before .before .before .before .before .before .before .before .before .before .args in let l : length (k .before .before .before .before .before .before .read-field .last .1 .0) ≡ length (now (a .table)) = search needs in (k .before .before .before .before .before .before .read-field .ensures .reply, k .before .before .clear .ensures ∙ ap (λ n. replicate n 0) l)
 

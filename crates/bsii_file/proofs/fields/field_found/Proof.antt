@@ -3,59 +3,40 @@ use Rattle.bsii_file.proofs.FieldCalls.{field-absent, field-value}
 use borrow.Author.Needs.{needs}
 use Rattle.bsii_file.proofs.fields.field_found.Statement.{statement}
 use Rattle.bsii_file.proofs.fields.field_found.Tie as tie
-use Rattle.bsii_file.proofs.fields.field_found.Reads as reads
-use Rattle.bsii_file.proofs.fields.field_found.Lts as lts
-use Rattle.bsii_field.proofs.field_index.Reads as field-index-reads
-use Rattle.bsii_field.proofs.value_at.Reads as value-at-reads
-use Rattle.bsii_file.proofs.fields.next_of.Reads as next-of-reads
-use Rattle.bsii_past.proofs.id_past.Reads as id-past-reads
-use Rattle.bsii_prototype.proofs.past.fields_at.Reads as fields-at-reads
 
--- src/fields.rt:48:25
 fields-at-requires : tie.Need-fields-at-requires
 fields-at-requires c κs = search needs
 
--- src/fields.rt:48:9
 next-of-requires : tie.Need-next-of-requires
 next-of-requires c κs = search needs
 
--- src/fields.rt:49:9
 field-index-requires : tie.Need-field-index-requires
 field-index-requires c κs = search needs
 
--- src/fields.rt:51:26
 enum-told : tie.Need-enum-told
 enum-told c = search needs
 
--- src/fields.rt:52:19
 enum-known-index : tie.Need-enum-known-index
 enum-known-index c = search needs
 
--- src/fields.rt:53:34
 fields-at-requires-2 : tie.Need-fields-at-requires-2
 fields-at-requires-2 c κs = search needs
 
--- src/fields.rt:53:17
 next-of-requires-2 : tie.Need-next-of-requires-2
 next-of-requires-2 c κs = search needs
 
--- src/fields.rt:54:33
 id-past-requires : tie.Need-id-past-requires
 id-past-requires c κs = search needs
 
--- src/fields.rt:54:17
 next-of-requires-3 : tie.Need-next-of-requires-3
 next-of-requires-3 c κs = search needs
 
--- src/fields.rt:55:13
 value-at-requires : tie.Need-value-at-requires
 value-at-requires c κs = search needs
 
--- src/fields.rt:45:1
 returns : tie.Need-returns
 returns c = let k = c .before .before in let a = k .before .before .before .before .before .args in field-absent (now (a .s)) (a .b) (now (a .name)) (k .before .before .fields-at .ensures) (k .before .next-of .ensures) (k .field-index .ensures) (c .enum-told .given .1)
 
--- src/fields.rt:45:1
 returns-2 : tie.Need-returns-2
 returns-2 c = let k = c .before .before .before .before .before .before .before .before in let a = k .before .before .before .before .before .args in field-value (now (a .s)) (a .b) (now (a .name)) (k .before .before .fields-at .ensures) (k .before .next-of .ensures) (k .field-index .ensures) (c .before .before .before .before .before .before .index .given .1) (c .before .before .before .before .fields-at2 .ensures) (c .before .before .before .next-of2 .ensures) (c .before .before .id-past .ensures) (c .before .next-of3 .ensures) (c .value-at .ensures)
 

@@ -2,22 +2,16 @@ use Rattle.bsii_file.proofs.FieldCalls.{next-there, next-nowhere}
 use borrow.Author.Needs.{needs}
 use Rattle.bsii_file.proofs.fields.next_of.Statement.{statement}
 use Rattle.bsii_file.proofs.fields.next_of.Tie as tie
-use Rattle.bsii_file.proofs.fields.next_of.Reads as reads
-use Rattle.bsii_file.proofs.fields.next_of.Lts as lts
 
--- src/fields.rt:39:22
 enum-known-end : tie.Need-enum-known-end
 enum-known-end c = search needs
 
--- src/fields.rt:40:36
 enum-known-end-2 : tie.Need-enum-known-end-2
 enum-known-end-2 c = search needs
 
--- src/fields.rt:35:1
 returns : tie.Need-returns
 returns c = next-there (c .before .end .given .1)
 
--- src/fields.rt:35:1
 returns-2 : tie.Need-returns-2
 returns-2 c = next-nowhere (c .before .end2 .given .1) _
 

@@ -3,31 +3,22 @@ use Rattle.bsii_file.proofs.FieldCalls.{placed-absent, placed-value, pl
 use borrow.Author.Needs.{needs}
 use Rattle.bsii_file.proofs.fields.placed.Statement.{statement}
 use Rattle.bsii_file.proofs.fields.placed.Tie as tie
-use Rattle.bsii_file.proofs.fields.placed.Reads as reads
-use Rattle.bsii_file.proofs.fields.placed.Lts as lts
-use Rattle.bsii_file.proofs.fields.field_found.Reads as field-found-reads
 
--- src/fields.rt:63:9
 field-found-requires : tie.Need-field-found-requires
 field-found-requires c κs = search needs
 
--- src/fields.rt:65:27
 enum-told : tie.Need-enum-told
 enum-told c = search needs
 
--- src/fields.rt:69:24
 enum-known-found : tie.Need-enum-known-found
 enum-known-found c = search needs
 
--- src/fields.rt:72:24
 sub-t9 : tie.Need-sub-t9
 sub-t9 c = let k = c .before .before .before in let a = k .before .before .before .args in placed-room (now (a .s)) (a .b) (now (a .name)) (k .field-found .ensures) (c .before .found .given .1)
 
--- src/fields.rt:60:1
 returns : tie.Need-returns
 returns c = let k = c .before .before in let a = k .before .before .before .args in placed-absent (now (a .s)) (a .b) (now (a .name)) (k .field-found .ensures) (c .enum-told .given .1)
 
--- src/fields.rt:60:1
 returns-2 : tie.Need-returns-2
 returns-2 c = let k = c .before .before .before in let a = k .before .before .before .args in placed-value (now (a .s)) (a .b) (now (a .name)) (k .field-found .ensures) (c .before .found .given .1)
 

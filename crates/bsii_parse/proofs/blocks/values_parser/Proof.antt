@@ -10,10 +10,6 @@ use Rattle.bsii_prototype.proofs.Lists.{count-later}
 use Rattle.bsii_parse.proofs.Values.{InStep, step-start, step-last, step-bad, step-fault, step-next}
 use Rattle.bsii_parse.proofs.blocks.values_parser.Statement.{statement}
 use Rattle.bsii_parse.proofs.blocks.values_parser.Tie as tie
-use Rattle.bsii_parse.proofs.blocks.values_parser.Reads as reads
-use Rattle.bsii_parse.proofs.blocks.values_parser.Lts as lts
-use Rattle.bsii_prototype.proofs.past.value_prototype_past.Reads as value-prototype-past-reads
-use Rattle.bsii_value.proofs.values.value_parser.Reads as value-parser-reads
 
 abbrev Inv-loop : tie.InvT-loop
 Inv-loop s fields start field₀ at₀ field at = InStep s fields start field at

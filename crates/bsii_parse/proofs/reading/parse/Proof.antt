@@ -6,32 +6,22 @@ use Rattle.bsii_parse.proofs.Whole.{reported, read-answer, read-size}
 use borrow.Author.Needs.{needs}
 use Rattle.bsii_parse.proofs.reading.parse.Statement.{statement}
 use Rattle.bsii_parse.proofs.reading.parse.Tie as tie
-use Rattle.bsii_parse.proofs.reading.parse.Reads as reads
-use Rattle.bsii_parse.proofs.reading.parse.Lts as lts
-use Rattle.bsii_parse.proofs.reading.read_file.Reads as read-file-reads
-use Rattle.bsii_table.proofs.clear.Reads as clear-reads
 
--- src/reading.rt:47:9
 read-file-requires : tie.Need-read-file-requires
 read-file-requires c κs = search needs
 
--- src/reading.rt:48:5
 clear-requires : tie.Need-clear-requires
 clear-requires c κs = search needs
 
--- src/reading.rt:50:24
 enum-known-walked : tie.Need-enum-known-walked
 enum-known-walked c = search needs
 
--- src/reading.rt:55:25
 enum-known-walked-2 : tie.Need-enum-known-walked-2
 enum-known-walked-2 c = search needs
 
--- src/reading.rt:43:1
 same-length : tie.Need-same-length
 same-length c = search needs
 
--- src/reading.rt:43:1
 returns : tie.Need-returns
 unfolding reported
 returns c =
@@ -39,11 +29,9 @@ returns c =
     let r = c .before .before .before .before .before .before .before .before .before .read-file .ensures in
     (ap (λ z. readingIs (reported z)) (sym (c .before .walked .given .1)) ∙ read-answer (now (a .file)) (now (a .table)) r, c .before .before .before .before .before .clear .ensures ∙ ap (λ n. replicate n 0) (read-size (now (a .file)) (now (a .table)) r))
 
--- src/reading.rt:43:1
 same-length-2 : tie.Need-same-length-2
 same-length-2 c = search needs
 
--- src/reading.rt:43:1
 returns-2 : tie.Need-returns-2
 unfolding reported
 returns-2 c =

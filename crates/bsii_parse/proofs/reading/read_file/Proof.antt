@@ -6,40 +6,28 @@ use Rattle.bsii_parse.proofs.Whole.{file-long, header-fault, header-lon
 use borrow.Author.Needs.{needs}
 use Rattle.bsii_parse.proofs.reading.read_file.Statement.{statement}
 use Rattle.bsii_parse.proofs.reading.read_file.Tie as tie
-use Rattle.bsii_parse.proofs.reading.read_file.Reads as reads
-use Rattle.bsii_parse.proofs.reading.read_file.Lts as lts
-use Rattle.bsii_parse.proofs.walk.walk.Reads as walk-reads
-use Rattle.bsii_prototype.proofs.heads.header_parser.Reads as header-parser-reads
 
--- src/reading.rt:31:9
 returns : tie.Need-returns
 returns c = let a = c .before .before .before .args in file-long (now (a .file)) (now (a .table)) (c .if1 .taken)
 
--- src/reading.rt:36:9
 header-parser-requires : tie.Need-header-parser-requires
 header-parser-requires c κs = search needs
 
--- src/reading.rt:38:29
 enum-known-header : tie.Need-enum-known-header
 enum-known-header c = search needs
 
--- src/reading.rt:38:49
 returns-2 : tie.Need-returns-2
 returns-2 c = let a = c .before .before .before .before .before .before .before .args in header-fault (now (a .file)) (now (a .table)) (omega (arith, c .before .before .before .before .if1 .left)) (sym (c .before .before .before .header-parser .ensures) ∙ ap (headerIs (now (a .file))) (c .before .header .given .1))
 
--- src/reading.rt:39:52
 enum-told : tie.Need-enum-told
 enum-told c = search needs
 
--- src/reading.rt:39:31
 walk-requires : tie.Need-walk-requires
 walk-requires c κs = let a = c .before .before .before .before .before .before .before .args in (omega (arith, c .before .before .before .before .if1 .left), header-long (now (a .file)) (now (a .table)) (omega (arith, c .before .before .before .before .if1 .left)) (sym (c .before .before .before .header-parser .ensures) ∙ ap (headerIs (now (a .file))) (c .before .enum-told .given .1)))
 
--- src/reading.rt:39:31
 same-length : tie.Need-same-length
 same-length c = search needs
 
--- src/reading.rt:39:31
 returns-3 : tie.Need-returns-3
 returns-3 c = let a = c .before .before .before .before .before .before .before .before .before .before .args in file-walked (now (a .file)) (now (a .table)) (omega (arith, c .before .before .before .before .before .before .before .if1 .left)) (sym (c .before .before .before .before .before .before .header-parser .ensures) ∙ ap (headerIs (now (a .file))) (c .before .before .before .before .enum-told .given .1)) (c .before .before .walk .ensures)
 

@@ -4,54 +4,38 @@ use Rattle.bsii_parse.proofs.Passing.{carrying-undefined, carrying-faul
 use borrow.Author.Needs.{needs}
 use Rattle.bsii_parse.proofs.walk.block_step.Statement.{statement}
 use Rattle.bsii_parse.proofs.walk.block_step.Tie as tie
-use Rattle.bsii_parse.proofs.walk.block_step.Reads as reads
-use Rattle.bsii_parse.proofs.walk.block_step.Lts as lts
-use Rattle.bsii_parse.proofs.walk.block_parser.Reads as block-parser-reads
-use Rattle.bsii_table.proofs.find.Reads as find-reads
-use Rattle.bsii_value.proofs.numbers.size.Reads as size-reads
 
--- src/walk.rt:100:9
 find-requires : tie.Need-find-requires
 find-requires c κs = search needs
 
--- src/walk.rt:102:27
 enum-told : tie.Need-enum-told
 enum-told c = search needs
 
--- src/walk.rt:102:27
 returns : tie.Need-returns
 returns c = let a = c .before .before .before .before .before .args in carrying-undefined (now (a .s)) (a .p) (now (a .table)) (a .id) (a .id-at) (c .before .before .find .ensures) (c .enum-told .given .1)
 
--- src/walk.rt:106:21
 enum-known-found : tie.Need-enum-known-found
 enum-known-found c = search needs
 
--- src/walk.rt:107:42
 size-requires : tie.Need-size-requires
 size-requires c κs = search needs
 
--- src/walk.rt:107:17
 block-parser-requires : tie.Need-block-parser-requires
 block-parser-requires c κs = search needs
 
--- src/walk.rt:109:33
 enum-known-parsed : tie.Need-enum-known-parsed
 enum-known-parsed c = search needs
 
--- src/walk.rt:109:53
 returns-2 : tie.Need-returns-2
 returns-2 c = let a = c .before .before .before .before .before .before .before .before .before .before .before .args in
     carrying-fault (now (a .s)) (a .p) (now (a .table)) (a .id) (a .id-at) (c .before .before .before .before .before .before .before .before .find .ensures) (c .before .before .before .before .before .before .found .given .1) (c .before .before .before .before .size .ensures) (c .before .before .before .block-parser .ensures) (c .before .parsed .given .1)
 
--- src/walk.rt:110:30
 enum-known-parsed-2 : tie.Need-enum-known-parsed-2
 enum-known-parsed-2 c = search needs
 
--- src/walk.rt:113:29
 add-t15 : tie.Need-add-t15
 add-t15 c = search needs
 
--- src/walk.rt:110:39
 returns-3 : tie.Need-returns-3
 returns-3 c = let a = c .before .before .before .before .before .before .before .before .before .before .before .before .args in
     carrying-passed (now (a .s)) (a .p) (now (a .table)) (a .id) (a .id-at) (c .before .before .before .before .before .before .before .before .before .find .ensures) (c .before .before .before .before .before .before .before .found .given .1) (c .before .before .before .before .before .size .ensures) (c .before .before .before .before .block-parser .ensures) (c .before .before .parsed2 .given .1)

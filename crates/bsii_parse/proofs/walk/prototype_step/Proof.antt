@@ -4,58 +4,41 @@ use Rattle.bsii_parse.proofs.Passing.{defining-fault, defining-full, de
 use borrow.Author.Needs.{needs}
 use Rattle.bsii_parse.proofs.walk.prototype_step.Statement.{statement}
 use Rattle.bsii_parse.proofs.walk.prototype_step.Tie as tie
-use Rattle.bsii_parse.proofs.walk.prototype_step.Reads as reads
-use Rattle.bsii_parse.proofs.walk.prototype_step.Lts as lts
-use Rattle.bsii_parse.proofs.walk.word.Reads as word-reads
-use Rattle.bsii_prototype.proofs.fields.fields_parser.Reads as fields-parser-reads
-use Rattle.bsii_table.proofs.define.Reads as define-reads
 
--- src/walk.rt:62:9
 fields-parser-requires : tie.Need-fields-parser-requires
 fields-parser-requires c κs = search needs
 
--- src/walk.rt:64:26
 enum-known-list : tie.Need-enum-known-list
 enum-known-list c = search needs
 
--- src/walk.rt:64:46
 returns : tie.Need-returns
 returns c = let a = c .before .before .before .before .before .before .args in defining-fault (now (a .s)) (a .p) (now (a .table)) (a .id) (a .fields) (sym (c .before .list .given .1) ∙ c .before .before .before .fields-parser .ensures)
 
--- src/walk.rt:65:37
 enum-known-list-2 : tie.Need-enum-known-list-2
 enum-known-list-2 c = search needs
 
--- src/walk.rt:66:51
 word-requires : tie.Need-word-requires
 word-requires c κs = search needs
 
--- src/walk.rt:66:17
 define-requires : tie.Need-define-requires
 define-requires c κs = search needs
 
--- src/walk.rt:68:34
 enum-told : tie.Need-enum-told
 enum-told c = search needs
 
--- src/walk.rt:68:34
 same-length : tie.Need-same-length
 same-length c = search needs
 
--- src/walk.rt:68:34
 returns-2 : tie.Need-returns-2
 returns-2 c = let a = c .before .before .before .before .before .before .before .before .before .before .before .before .before .args in
     defining-full (now (a .s)) (a .p) (now (a .table)) (a .id) (a .fields) (sym (c .before .before .before .before .before .before .before .before .list2 .given .1) ∙ c .before .before .before .before .before .before .before .before .before .before .fields-parser .ensures) (c .before .before .before .before .before .word .ensures) (c .before .before .before .before .define .ensures) (c .enum-told .given .1)
 
--- src/walk.rt:72:31
 enum-known-defined : tie.Need-enum-known-defined
 enum-known-defined c = search needs
 
--- src/walk.rt:72:40
 same-length-2 : tie.Need-same-length-2
 same-length-2 c = search needs
 
--- src/walk.rt:72:40
 returns-3 : tie.Need-returns-3
 returns-3 c = let a = c .before .before .before .before .before .before .before .before .before .before .before .before .before .before .args in
     defining-passed (now (a .s)) (a .p) (now (a .table)) (a .id) (a .fields) (sym (c .before .before .before .before .before .before .before .before .before .list2 .given .1) ∙ c .before .before .before .before .before .before .before .before .before .before .before .fields-parser .ensures) (c .before .before .before .before .before .before .word .ensures) (c .before .before .before .before .before .define .ensures) (c .before .defined .given .1)

@@ -7,9 +7,6 @@ use lib.ListN.{length}
 use Rattle.bsii_parse.proofs.Along.{Along, defsFrom, along-start, along-ready, along-step, along-end, along-stop}
 use Rattle.bsii_parse.proofs.walk.walk.Statement.{statement}
 use Rattle.bsii_parse.proofs.walk.walk.Tie as tie
-use Rattle.bsii_parse.proofs.walk.walk.Reads as reads
-use Rattle.bsii_parse.proofs.walk.walk.Lts as lts
-use Rattle.bsii_parse.proofs.walk.record_step.Reads as record-step-reads
 
 abbrev Inv-loop : tie.InvT-loop
 Inv-loop s start table₀ p₀ table p = Along s start table₀ p table
@@ -17,23 +14,18 @@ Inv-loop s start table₀ p₀ table p = Along s start table₀ p table
 abbrev μ-loop : tie.MeasureT-loop
 μ-loop s start table₀ p₀ table p = length s - p .at
 
--- src/walk.rt:143:5
 loop-holds : tie.Need-loop-holds Inv-loop μ-loop
 loop-holds c = let b = c .before .before in along-start (now (b .args .s)) (b .args .start) (now (b .args .table)) (b .pre .1)
 
--- src/walk.rt:144:13
 record-step-requires : tie.Need-record-step-requires Inv-loop μ-loop
 record-step-requires c κs = let l = c .before in let b = l .before .before .before in along-ready (now (b .args .s)) (b .args .start) (now (b .args .table)) (l .loop .p) (l .loop .table) (b .pre .0) (l .loop .inv)
 
--- src/walk.rt:146:23
 enum-known-step : tie.Need-enum-known-step Inv-loop μ-loop
 enum-known-step c = search needs
 
--- src/walk.rt:146:32
 same-length : tie.Need-same-length Inv-loop μ-loop
 same-length c = search needs
 
--- src/walk.rt:146:32
 returns : tie.Need-returns Inv-loop μ-loop
 returns c = let l = c .before .before .before .before .before .before .before in
     let a = l .before .before .before .args in
@@ -41,15 +33,12 @@ returns c = let l = c .before .before .before .before .before .before .before in
     let r = c .before .before .before .before .before .record-step in
     along-end (now (a .s)) (a .start) (now (a .table)) (l .loop .p) (l .loop .table) i (r .result) (r .last .1 .1 .0) (r .ensures .steps (defsFrom (a .start) (i .so)) (i .kept)) _ (c .before .step .given .1)
 
--- src/walk.rt:151:29
 enum-known-step-2 : tie.Need-enum-known-step-2 Inv-loop μ-loop
 enum-known-step-2 c = search needs
 
--- src/walk.rt:151:49
 same-length-2 : tie.Need-same-length-2 Inv-loop μ-loop
 same-length-2 c = search needs
 
--- src/walk.rt:151:49
 returns-2 : tie.Need-returns-2 Inv-loop μ-loop
 returns-2 c = let l = c .before .before .before .before .before .before .before in
     let a = l .before .before .before .args in
@@ -57,11 +46,9 @@ returns-2 c = let l = c .before .before .before .before .before .before .before 
     let r = c .before .before .before .before .before .record-step in
     along-stop (now (a .s)) (a .start) (now (a .table)) (l .loop .p) (l .loop .table) i (r .result) (r .last .1 .1 .0) (r .ensures .steps (defsFrom (a .start) (i .so)) (i .kept)) _ _ (c .before .step2 .given .1)
 
--- src/walk.rt:152:22
 enum-known-step-3 : tie.Need-enum-known-step-3 Inv-loop μ-loop
 enum-known-step-3 c = search needs
 
--- src/walk.rt:143:5
 loop-less : tie.Need-loop-less Inv-loop μ-loop
 loop-less c = let l = c .before .before .before .before .before .before .before in
     let a = l .before .before .before .args in
@@ -70,7 +57,6 @@ loop-less c = let l = c .before .before .before .before .before .before .before 
     let f = along-step (now (a .s)) (a .start) (now (a .table)) (l .loop .p) (l .loop .table) i (r .result) (r .last .1 .1 .0) (r .ensures .steps (defsFrom (a .start) (i .so)) (i .kept)) _ (c .before .step3 .given .1) in
     omega (arith, f .on, f .along .inside)
 
--- src/walk.rt:143:5
 loop-again : tie.Need-loop-again Inv-loop μ-loop
 loop-again c = let l = c .before .before .before .before .before .before .before in
     let a = l .before .before .before .args in

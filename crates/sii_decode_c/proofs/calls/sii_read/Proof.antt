@@ -1,0 +1,41 @@
+use mathlib.Core.Path.{sym, ap, _∙_}
+use Rattle.bsii_parse.specs.Answers.{readingIs}
+use Rattle.sii_decode_c.specs.Exports.{readingOut}
+use borrow.Author.Needs.{needs}
+use Rattle.sii_decode_c.proofs.calls.sii_read.Statement.{statement}
+use Rattle.sii_decode_c.proofs.calls.sii_read.Tie as tie
+
+parse-requires : tie.Need-parse-requires
+parse-requires c κs = search needs
+
+enum-known-reply : tie.Need-enum-known-reply
+enum-known-reply c = search needs
+
+enum-known-reply-2 : tie.Need-enum-known-reply-2
+enum-known-reply-2 c = search needs
+
+same-length : tie.Need-same-length
+same-length c = search needs
+
+returns : tie.Need-returns
+returns c =
+    (ap (λ z. readingOut (readingIs z)) (sym (c .before .reply .given .1)) ∙ ap readingOut (c .before .before .before .before .before .parse .ensures .0), c .before .before .before .before .before .parse .ensures .1)
+
+same-length-2 : tie.Need-same-length-2
+same-length-2 c = search needs
+
+returns-2 : tie.Need-returns-2
+returns-2 c =
+    (ap (λ z. readingOut (readingIs z)) (sym (c .before .reply2 .given .1)) ∙ ap readingOut (c .before .before .before .before .before .parse .ensures .0), c .before .before .before .before .before .parse .ensures .1)
+
+pub sii-read-spec : {M : Type 1} → statement M
+sii-read-spec =
+    tie.close
+    (tie.spec
+    parse-requires
+    enum-known-reply
+    enum-known-reply-2
+    same-length
+    returns
+    same-length-2
+    returns-2)

@@ -1,0 +1,3 @@
+-- What the exports hand out for each answer of the definitions.
+pub mod Exports
+pub mod Elements
