@@ -1,4 +1,4 @@
--- What every look-up has from `read_file`: the file and the call's answer, and from `find` the last definition of an id.
+-- What every look-up has from `bsii_parser`: the file and the call's answer, and from `find` the last definition of an id.
 use mathlib.Core.Path.{_≡_, refl, sym, ap, _∙_, subst}
 use Prim.Native.Nat.{ℕ}
 use native.Mathlib.Omega.{arith}

@@ -4,7 +4,7 @@ use bsii_again::records::kind_at;
 use bsii_again::seek::Block;
 use bsii_again::seek::BlockAt;
 use bsii_again::seek::seek;
-use bsii_parse::reading::read_file;
+use bsii_parse::reading::bsii_parser;
 use bsii_parse::walk::Walked;
 use bsii_past::id_past;
 use bsii_table::clear;
@@ -65,7 +65,7 @@ fn block_found(s: &[u8], b: Block) -> BlockReply
 fn read_block(file: &[u8], table: &mut [u32], k: usize) -> BlockReply
     ensures { λ r. ⌜ blockIs r ≡ blockCall (length (now (table .entry))) (now (file .entry)) k ⌝ }
 {
-    let walked = read_file(file, table);
+    let walked = bsii_parser(file, table);
     match walked {
         Walked::Fault { number, offset } => return BlockReply::Refused { number, offset },
         Walked::Done {
@@ -97,7 +97,7 @@ pub fn block_at(file: &[u8], table: &mut [u32], k: usize) -> BlockReply
 fn read_named(file: &[u8], table: &mut [u32], name: &[u8], n: usize) -> NumberReply
     ensures { λ r. ⌜ numberIs r ≡ namedBlockCall (length (now (table .entry))) (now (file .entry)) (now (name .entry)) n ⌝ }
 {
-    let walked = read_file(file, table);
+    let walked = bsii_parser(file, table);
     match walked {
         Walked::Fault { number, offset } => return NumberReply::Refused { number, offset },
         Walked::Done {

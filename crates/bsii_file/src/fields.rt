@@ -6,7 +6,7 @@ use bsii_field::Found;
 use bsii_field::Index;
 use bsii_field::field_index;
 use bsii_field::value_at;
-use bsii_parse::reading::read_file;
+use bsii_parse::reading::bsii_parser;
 use bsii_parse::walk::Walked;
 use bsii_past::id_past;
 use bsii_prototype::past::fields_at;
@@ -78,7 +78,7 @@ fn placed(s: &[u8], b: Block, name: &[u8]) -> FieldReply
 fn read_field(file: &[u8], table: &mut [u32], k: usize, name: &[u8]) -> FieldReply
     ensures { λ r. ⌜ FieldRead (length (now (table .entry))) (now (file .entry)) k (now (name .entry)) r ⌝ }
 {
-    let walked = read_file(file, table);
+    let walked = bsii_parser(file, table);
     match walked {
         Walked::Fault { number, offset } => return FieldReply::Refused { number, offset },
         Walked::Done {

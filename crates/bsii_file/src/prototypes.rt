@@ -1,5 +1,5 @@
 // A prototype by its id.
-use bsii_parse::reading::read_file;
+use bsii_parse::reading::bsii_parser;
 use bsii_parse::walk::Walked;
 use bsii_prototype::answers::Counted;
 use bsii_prototype::past::fields_at;
@@ -70,7 +70,7 @@ fn last_prototype(file: &[u8], table: &[u32], rows: usize, id: u32) -> Prototype
 fn read_prototype(file: &[u8], table: &mut [u32], id: u32) -> PrototypeReply
     ensures { λ r. ⌜ prototypeIs r ≡ prototypeCall (length (now (table .entry))) (now (file .entry)) id ⌝ }
 {
-    let walked = read_file(file, table);
+    let walked = bsii_parser(file, table);
     match walked {
         Walked::Fault { number, offset } => return PrototypeReply::Refused { number, offset },
         Walked::Done {

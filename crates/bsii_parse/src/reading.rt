@@ -24,7 +24,7 @@ pub enum Reading {
 }
 
 // The file, with the last definition of each id left in the table for a look-up: the caller clears it.
-pub fn read_file(file: &[u8], table: &mut [u32]) -> Walked
+pub fn bsii_parser(file: &[u8], table: &mut [u32]) -> Walked
     ensures { λ r. ⌜ ReadFile (now (file .entry)) (now (table .entry)) r (now (table .exit)) ⌝ }
 {
     if 16_777_216 < file.len() {
@@ -44,7 +44,7 @@ pub fn parse(file: &[u8], table: &mut [u32]) -> Reading
     ensures reply { λ r. ⌜ readingIs r ≡ readingCall (length (now (table .entry))) (now (file .entry)) ⌝ }
     ensures zeros { λ r. ⌜ now (table .exit) ≡ tableAfter (now (table .entry)) ⌝ }
 {
-    let walked = read_file(file, table);
+    let walked = bsii_parser(file, table);
     clear(table);
     match walked {
         Walked::Done { rows, blocks, next } => Reading::Read {

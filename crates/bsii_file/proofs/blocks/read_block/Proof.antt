@@ -6,8 +6,8 @@ use borrow.Author.Needs.{needs}
 use Rattle.bsii_file.proofs.blocks.read_block.Statement.{statement}
 use Rattle.bsii_file.proofs.blocks.read_block.Tie as tie
 
-read-file-requires : tie.Need-read-file-requires
-read-file-requires c κs = search needs
+bsii-parser-requires : tie.Need-bsii-parser-requires
+bsii-parser-requires c κs = search needs
 
 enum-known-walked : tie.Need-enum-known-walked
 enum-known-walked c = search needs
@@ -16,13 +16,13 @@ same-length : tie.Need-same-length
 same-length c = search needs
 
 returns : tie.Need-returns
-returns c = let k = c .before .before .before .before .before in let a = k .before .before .before .before .args in block-refused (now (a .file)) (now (a .table)) (a .k) (k .read-file .ensures) (c .before .walked .given .1)
+returns c = let k = c .before .before .before .before .before in let a = k .before .before .before .before .args in block-refused (now (a .file)) (now (a .table)) (a .k) (k .bsii-parser .ensures) (c .before .walked .given .1)
 
 enum-known-walked-2 : tie.Need-enum-known-walked-2
 enum-known-walked-2 c = search needs
 
 seek-requires : tie.Need-seek-requires
-seek-requires c κs = let k = c .before .before .before .before .before .before in readable (was-read (k .read-file .ensures) (c .before .before .walked2 .given .1))
+seek-requires c κs = let k = c .before .before .before .before .before .before in readable (was-read (k .bsii-parser .ensures) (c .before .before .walked2 .given .1))
 
 enum-told : tie.Need-enum-told
 enum-told c = search needs
@@ -31,7 +31,7 @@ same-length-2 : tie.Need-same-length-2
 same-length-2 c = search needs
 
 returns-2 : tie.Need-returns-2
-returns-2 c = let j = c .before .before .before .before in let k = j .before .before .before .before .before .before .before in let a = k .before .before .before .before .args in block-absent (now (a .file)) (now (a .table)) (a .k) (k .read-file .ensures) (j .before .before .before .walked2 .given .1) (j .seek .ensures) (c .enum-told .given .1)
+returns-2 c = let j = c .before .before .before .before in let k = j .before .before .before .before .before .before .before in let a = k .before .before .before .before .args in block-absent (now (a .file)) (now (a .table)) (a .k) (k .bsii-parser .ensures) (j .before .before .before .walked2 .given .1) (j .seek .ensures) (c .enum-told .given .1)
 
 enum-known-place : tie.Need-enum-known-place
 enum-known-place c = search needs
@@ -43,13 +43,13 @@ same-length-3 : tie.Need-same-length-3
 same-length-3 c = search needs
 
 returns-3 : tie.Need-returns-3
-returns-3 c = let j = c .before .before .before .before .before .before in let k = j .before .before .before .before .before .before .before in let a = k .before .before .before .before .args in block-answers (now (a .file)) (now (a .table)) (a .k) (k .read-file .ensures) (j .before .before .before .walked2 .given .1) (j .seek .ensures) (c .before .before .place .given .1) (c .block-found .ensures)
+returns-3 c = let j = c .before .before .before .before .before .before in let k = j .before .before .before .before .before .before .before in let a = k .before .before .before .before .args in block-answers (now (a .file)) (now (a .table)) (a .k) (k .bsii-parser .ensures) (j .before .before .before .walked2 .given .1) (j .seek .ensures) (c .before .before .place .given .1) (c .block-found .ensures)
 
 pub read-block-spec : {M : Type 1} → statement M
 read-block-spec =
     tie.close
     (tie.spec
-    read-file-requires
+    bsii-parser-requires
     enum-known-walked
     same-length
     returns

@@ -5,8 +5,8 @@ use borrow.Author.Needs.{needs}
 use Rattle.bsii_file.proofs.prototypes.read_prototype.Statement.{statement}
 use Rattle.bsii_file.proofs.prototypes.read_prototype.Tie as tie
 
-read-file-requires : tie.Need-read-file-requires
-read-file-requires c κs = search needs
+bsii-parser-requires : tie.Need-bsii-parser-requires
+bsii-parser-requires c κs = search needs
 
 enum-known-walked : tie.Need-enum-known-walked
 enum-known-walked c = search needs
@@ -17,13 +17,13 @@ same-length c = search needs
 returns : tie.Need-returns
 returns c =
     let a = c .before .before .before .before .before .before .before .before .before .args in
-    call-refused (now (a .file)) (now (a .table)) (a .id) (c .before .before .before .before .before .read-file .ensures) (c .before .walked .given .1)
+    call-refused (now (a .file)) (now (a .table)) (a .id) (c .before .before .before .before .before .bsii-parser .ensures) (c .before .walked .given .1)
 
 enum-known-walked-2 : tie.Need-enum-known-walked-2
 enum-known-walked-2 c = search needs
 
 last-prototype-requires : tie.Need-last-prototype-requires
-last-prototype-requires c κs = was-read (c .before .before .before .before .before .before .read-file .ensures) (c .before .before .walked2 .given .1) .kept .holds .valid
+last-prototype-requires c κs = was-read (c .before .before .before .before .before .before .bsii-parser .ensures) (c .before .before .walked2 .given .1) .kept .holds .valid
 
 same-length-2 : tie.Need-same-length-2
 same-length-2 c = search needs
@@ -31,13 +31,13 @@ same-length-2 c = search needs
 returns-2 : tie.Need-returns-2
 returns-2 c =
     let a = c .before .before .before .before .before .before .before .before .before .before .before .args in
-    call-answers (now (a .file)) (now (a .table)) (a .id) (c .before .before .before .before .before .before .before .read-file .ensures) (c .before .before .before .walked2 .given .1) (c .last-prototype .ensures)
+    call-answers (now (a .file)) (now (a .table)) (a .id) (c .before .before .before .before .before .before .before .bsii-parser .ensures) (c .before .before .before .walked2 .given .1) (c .last-prototype .ensures)
 
 pub read-prototype-spec : {M : Type 1} → statement M
 read-prototype-spec =
     tie.close
     (tie.spec
-    read-file-requires
+    bsii-parser-requires
     enum-known-walked
     same-length
     returns

@@ -7,8 +7,8 @@ use borrow.Author.Needs.{needs}
 use Rattle.bsii_parse.proofs.reading.parse.Statement.{statement}
 use Rattle.bsii_parse.proofs.reading.parse.Tie as tie
 
-read-file-requires : tie.Need-read-file-requires
-read-file-requires c κs = search needs
+bsii-parser-requires : tie.Need-bsii-parser-requires
+bsii-parser-requires c κs = search needs
 
 clear-requires : tie.Need-clear-requires
 clear-requires c κs = search needs
@@ -26,7 +26,7 @@ returns : tie.Need-returns
 unfolding reported
 returns c =
     let a = c .before .before .before .before .before .before .before .before .before .before .before .before .before .args in
-    let r = c .before .before .before .before .before .before .before .before .before .read-file .ensures in
+    let r = c .before .before .before .before .before .before .before .before .before .bsii-parser .ensures in
     (ap (λ z. readingIs (reported z)) (sym (c .before .walked .given .1)) ∙ read-answer (now (a .file)) (now (a .table)) r, c .before .before .before .before .before .clear .ensures ∙ ap (λ n. replicate n 0) (read-size (now (a .file)) (now (a .table)) r))
 
 same-length-2 : tie.Need-same-length-2
@@ -36,14 +36,14 @@ returns-2 : tie.Need-returns-2
 unfolding reported
 returns-2 c =
     let a = c .before .before .before .before .before .before .before .before .before .before .before .before .before .args in
-    let r = c .before .before .before .before .before .before .before .before .before .read-file .ensures in
+    let r = c .before .before .before .before .before .before .before .before .before .bsii-parser .ensures in
     (ap (λ z. readingIs (reported z)) (sym (c .before .walked2 .given .1)) ∙ read-answer (now (a .file)) (now (a .table)) r, c .before .before .before .before .before .clear .ensures ∙ ap (λ n. replicate n 0) (read-size (now (a .file)) (now (a .table)) r))
 
 pub parse-spec : {M : Type 1} → statement M
 parse-spec =
     tie.close
     (tie.spec
-    read-file-requires
+    bsii-parser-requires
     clear-requires
     enum-known-walked
     enum-known-walked-2

@@ -4,8 +4,8 @@ use native.Mathlib.Omega.{arith}
 use Rattle.bsii_prototype.specs.Answers.{headerIs}
 use Rattle.bsii_parse.proofs.Whole.{file-long, header-fault, header-long, file-walked}
 use borrow.Author.Needs.{needs}
-use Rattle.bsii_parse.proofs.reading.read_file.Statement.{statement}
-use Rattle.bsii_parse.proofs.reading.read_file.Tie as tie
+use Rattle.bsii_parse.proofs.reading.bsii_parser.Statement.{statement}
+use Rattle.bsii_parse.proofs.reading.bsii_parser.Tie as tie
 
 returns : tie.Need-returns
 returns c = let a = c .before .before .before .args in file-long (now (a .file)) (now (a .table)) (c .if1 .taken)
@@ -31,8 +31,8 @@ same-length c = search needs
 returns-3 : tie.Need-returns-3
 returns-3 c = let a = c .before .before .before .before .before .before .before .before .before .before .args in file-walked (now (a .file)) (now (a .table)) (omega (arith, c .before .before .before .before .before .before .before .if1 .left)) (sym (c .before .before .before .before .before .before .header-parser .ensures) ∙ ap (headerIs (now (a .file))) (c .before .before .before .before .enum-told .given .1)) (c .before .before .walk .ensures)
 
-pub read-file-spec : {M : Type 1} → statement M
-read-file-spec =
+pub bsii-parser-spec : {M : Type 1} → statement M
+bsii-parser-spec =
     tie.close
     (tie.spec
     returns
