@@ -168,6 +168,14 @@ impl Element {
         }
     }
 
+    /// The answer with every NaN as one pattern.
+    pub fn with_one_nan(mut self) -> Self {
+        if self.kind != kind::THREE_I32 {
+            self.parts = self.parts.map(one_nan);
+        }
+        self
+    }
+
     /// The answer with the fields that mean nothing set to zero.
     pub fn known(self) -> Self {
         if self.number != 0 {
@@ -179,9 +187,6 @@ impl Element {
         };
         let used = parts_of(self.kind);
         known.parts[..used].copy_from_slice(&self.parts[..used]);
-        if self.kind != kind::THREE_I32 {
-            known.parts = known.parts.map(one_nan);
-        }
         if matches!(self.kind, kind::STRING | kind::ID) {
             known.place_offset = self.place_offset;
             known.place_len = self.place_len;

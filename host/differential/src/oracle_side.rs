@@ -279,6 +279,11 @@ impl Lookups<'_, '_, '_> {
         for index in indices(count(value)) {
             let element = self.side.element(answer.type_id, bytes, index);
             let expected = expected_element(value, index);
+            // The library has one NaN; the model keeps each one's bits.
+            let (element, expected) = match self.side.name {
+                "model" => (element, expected),
+                _ => (element.with_one_nan(), expected.with_one_nan()),
+            };
             let ok = same_element(&element, bytes, &expected);
             let asked = || format!("{}, index {index}: {element:?}, Rust {value:?}", asked());
             let label = label(self.side, "element");
@@ -304,6 +309,17 @@ enum Expected<'a> {
     Value(u32, u64),
 }
 
+impl Expected<'_> {
+    fn with_one_nan(self) -> Self {
+        match self {
+            Expected::Parts(case, parts) if case != kind::THREE_I32 => {
+                Expected::Parts(case, parts.map(one_nan))
+            }
+            other => other,
+        }
+    }
+}
+
 fn count(value: &DataValue<'_>) -> u64 {
     value.get_array_length().map_or(1, |length| length as u64)
 }
@@ -316,7 +332,7 @@ fn expected_element<'a>(value: &'a DataValue<'_>, index: u64) -> Expected<'a> {
     let bits = |floats: &[f32]| {
         let mut parts = [0; 8];
         for (part, float) in parts.iter_mut().zip(floats) {
-            *part = one_nan(float.to_bits());
+            *part = float.to_bits();
         }
         parts
     };
