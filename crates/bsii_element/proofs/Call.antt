@@ -3,16 +3,16 @@ use mathlib.Core.Path.{_≡_, refl, sym, ap, ap₂, _∙_}
 use Prim.Native.Nat.{ℕ, zero, suc, _+_, _-_, _≤_, _<_}
 use native.Mathlib.Omega.{arith}
 use mathlib.Core.Option.{none, some}
-use mathlib.Core.List.{List}
+use mathlib.Core.List.{List, []}
 use lib.ListN.{length, take, drop, getElem?}
 use lib.Seq.{length-take-le}
 use lib.Dec.{leb, leb→le}
-use Rattle.bsii_format.specs.Replies.{Fault as Refusal, gives, refusal, absent, notUtf8}
-use Rattle.bsii_format.specs.Reader.{Result, ok, fault, bytes, verify, Consumed, consumed, repeat, _>>=_}
+use Rattle.bsii_format.specs.Replies.{Fault as Refusal, gives, refusal, malformed, absent, notUtf8}
+use Rattle.bsii_format.specs.Reader.{Result, ok, fault, faultAt, bytes, after, success, verify, Consumed, consumed, repeat, _>>=_, _<$>_}
 use Rattle.bsii_format.specs.Numbers.{number}
 use Rattle.bsii_format.specs.Utf8.{utf8}
 use Rattle.bsii_format.specs.Strings.{strParser, idParser}
-use Rattle.bsii_format.specs.Types.{Kind, Numeric, width, arity, numbers, string, id, one, many}
+use Rattle.bsii_format.specs.Types.{Kind, Numeric, float, floatVec2, floatVec3, floatVec4, floatVec8, int32, int32Vec3, uint32, uint16, int64, uint64, bool, enum, width, arity, numbers, string, id, one, many}
 use Rattle.bsii_format.specs.Values.{Element, nums, str, ident, Value, single, array, elementParser, shapeParser}
 use Rattle.bsii_format.specs.BlockText.{orRefuse}
 use Rattle.bsii_format.specs.Calls.{dString, dId, numericDatum, datumOf, datum, Placed, placed, elementsOf, ofValue}
@@ -23,10 +23,11 @@ use Rattle.bsii_value.specs.Answers.{endOf}
 use Rattle.bsii_value.specs.declared.answers.Parsed.the-variants.{Next, Fault}
 use Rattle.bsii_value.proofs.Ends.{answer}
 use Rattle.bsii_value.proofs.Elements.{one-end}
-use Rattle.bsii_element.specs.Rows.{numberAt, numbersAt, decoded}
+use Rattle.bsii_float.specs.NumbersAt.{numberAt, numbersAt}
+use Rattle.bsii_float.proofs.NumbersAt.{number-moves, number-is, numbers-are, row-length}
+use Rattle.bsii_element.specs.Decoded.{decoded}
 use Rattle.bsii_element.specs.Unchecked.{startsAt}
 use Rattle.bsii_element.proofs.Ended.{next-ok, fault-not}
-use Rattle.bsii_element.proofs.NumbersAt.{number-moves, number-is, numbers-are, numbers-refuse, row-length}
 use Rattle.bsii_element.proofs.Standing.{standing, step, absent-past, extent, at-offset}
 
 -- the faults of an element and of a value are the call's
@@ -50,6 +51,23 @@ numbers-decoded k s at {n} e =
     ap (λ (l : List ℕ). gives (numericDatum k l)) (numbers-are (arity k) (width k) s at (m .2))
     ∙ ap (λ (x : Element). gives (datumOf at (n - at) x)) (m .1)
     ∙ sym (ap (decoded at) (q .2))
+
+-- no element that is numbers is empty
+numbers-refuse : (k : Numeric) → elementParser (numbers k) 0 [] ≡ faultAt malformed 0
+unfolding elementParser repeat arity width number bytes after success _>>=_ _<$>_
+numbers-refuse float = refl
+numbers-refuse floatVec2 = refl
+numbers-refuse floatVec3 = refl
+numbers-refuse floatVec4 = refl
+numbers-refuse floatVec8 = refl
+numbers-refuse int32 = refl
+numbers-refuse int32Vec3 = refl
+numbers-refuse uint32 = refl
+numbers-refuse uint16 = refl
+numbers-refuse int64 = refl
+numbers-refuse uint64 = refl
+numbers-refuse bool = refl
+numbers-refuse enum = refl
 
 pub numbers-inside : (k : Numeric) (s : List ℕ) (at : ℕ) {n : ℕ} → Next n ≡ endOf (elementParser (numbers k) at (drop at s)) → at ≤ length s
 numbers-inside k s at e =

@@ -1,7 +1,5 @@
 -- The laws that the proofs share. Standing says where an array's elements stand, Unchecked how they are passed, Call what the call answers.
-pub mod Nan
 pub mod Ended
-pub mod NumbersAt
 pub mod Standing
 pub mod Unchecked
 pub mod Call

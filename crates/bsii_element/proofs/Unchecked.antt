@@ -21,7 +21,7 @@ use Rattle.bsii_value.specs.Answers.{endOf, uncheckedStr}
 use Rattle.bsii_value.specs.declared.answers.Parsed.{Parsed}
 use Rattle.bsii_value.specs.declared.answers.Parsed.the-variants.{Next}
 use Rattle.bsii_value.proofs.Ends.{answer, alike}
-use Rattle.bsii_element.proofs.NumbersAt.{split, numbers-move}
+use Rattle.bsii_float.proofs.NumbersAt.{split, numbers-move}
 use Rattle.bsii_element.proofs.Standing.{Standing}
 use Rattle.bsii_element.specs.Unchecked.{uncheckedId, reachedOf}
 use Rattle.bsii_element.proofs.Ended.{next-ok}

@@ -1,8 +1,8 @@
 // What the element call answers.
-use crate::floats::Placement;
-use crate::floats::Vec2;
-use crate::floats::Vec3;
-use crate::floats::Vec4;
+use bsii_float::floats::Placement;
+use bsii_float::floats::Vec2;
+use bsii_float::floats::Vec3;
+use bsii_float::floats::Vec4;
 
 // Three i32, each as its two's complement.
 pub struct Int3 {

@@ -1,8 +1,8 @@
 // One element of a value.
 use crate::answers::Element;
-use crate::numbers::u32_at;
 use crate::numeric::numeric;
 use crate::skips::start_of;
+use bsii_float::numbers::u32_at;
 use bsii_value::answers::Parsed;
 use bsii_value::answers::Word;
 use bsii_value::numbers::size;
@@ -21,7 +21,7 @@ ghost use Rattle.bsii_format.specs.Values.{elementParser, shapeParser};
 ghost use Rattle.bsii_format.specs.Calls.{ofValue, elementCall};
 ghost use Rattle.bsii_value.specs.Kinds.{kindIs};
 ghost use Rattle.bsii_element.specs.Cases.{elementIs};
-ghost use Rattle.bsii_element.specs.Rows.{decoded};
+ghost use Rattle.bsii_element.specs.Decoded.{decoded};
 ghost use Rattle.bsii_element.specs.Unchecked.{answersAt};
 
 fn text(s: &[u8], at: usize) -> Element

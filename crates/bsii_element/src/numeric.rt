@@ -1,16 +1,16 @@
 // Elements that are numbers of one width.
 use crate::answers::Element;
 use crate::answers::Int3;
-use crate::floats::Placement;
-use crate::floats::Vec2;
-use crate::floats::Vec3;
-use crate::floats::Vec4;
-use crate::floats::float_of;
-use crate::numbers::nonzero;
-use crate::numbers::u8_at;
-use crate::numbers::u16_at;
-use crate::numbers::u32_at;
-use crate::numbers::u64_at;
+use bsii_float::floats::Placement;
+use bsii_float::floats::Vec2;
+use bsii_float::floats::Vec3;
+use bsii_float::floats::Vec4;
+use bsii_float::floats::float_of;
+use bsii_float::numbers::nonzero;
+use bsii_float::numbers::u8_at;
+use bsii_float::numbers::u16_at;
+use bsii_float::numbers::u32_at;
+use bsii_float::numbers::u64_at;
 use bsii_value::answers::Parsed;
 use bsii_value::numbers::size;
 use bsii_value::types::Kind;
@@ -28,7 +28,8 @@ ghost use Rattle.bsii_format.specs.Values.{elementParser};
 ghost use Rattle.bsii_format.specs.Calls.{numericDatum};
 ghost use Rattle.bsii_value.specs.Kinds.{numericIs};
 ghost use Rattle.bsii_element.specs.Cases.{elementIs};
-ghost use Rattle.bsii_element.specs.Rows.{numberAt, numbersAt, decoded};
+ghost use Rattle.bsii_float.specs.NumbersAt.{numberAt, numbersAt};
+ghost use Rattle.bsii_element.specs.Decoded.{decoded};
 
 fn float_at(s: &[u8], at: usize) -> f32
     ensures { λ r. ⌜ r ≡ ofBits binary32 (numberAt 4 (now (s .entry)) at) ⌝ }

@@ -1,4 +1,3 @@
 -- The laws that the proofs share.
-pub mod Bits
 pub mod Twos
 pub mod Words

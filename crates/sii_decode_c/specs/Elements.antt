@@ -2,9 +2,10 @@
 use Prim.Native.Nat.{ℕ, suc, _-_}
 use mathlib.Core.Bool.{cond}
 use lib.IntN.{ℤ, pos, negsuc}
-use lib.Ieee.{Float, binary32, isNan, toBits}
+use lib.Ieee.{Float}
 use Rattle.bsii_format.specs.Replies.{Reply, gives, refuses}
 use Rattle.bsii_format.specs.Calls.{Place, Datum, dString, dEncodedString, dFloat, dFloatVec2, dFloatVec3, dFloatVec4, dFloatVec8, dInt32, dInt32Vec3, dUInt32, dUInt16, dInt64, dUInt64, dBool, dEnum, dId}
+use Rattle.bsii_float.specs.Bits.{bitsOf}
 use Rattle.sii_decode_c.specs.declared.elements.SiiElement.{SiiElement}
 
 -- two's complement: m is 2^32 or 2^64
@@ -20,7 +21,7 @@ twos64 = twos 0x1_0000_0000_0000_0000
 
 -- a float's bits, of every NaN the same ones: the definitions have one NaN
 abbrev pub word : Float → ℕ
-word x = cond (isNan x) 0x7fc0_0000 (toBits binary32 x)
+word x = bitsOf x 0x7fc0_0000
 
 abbrev pub placeOut : ℕ → ℕ → ℕ → SiiElement
 placeOut k at size = record { number = 0; offset = 0; kind = k; «place_offset» = at; «place_len» = size; value = 0; a = 0; b = 0; c = 0; d = 0; e = 0; f = 0; g = 0; h = 0 }

@@ -1,7 +1,8 @@
 // The element call. Floats go as their bits, all NaN as one; signed numbers as their two's complement.
 use bsii_element::answers::Element;
 use bsii_element::elements::element;
-use bsii_element::floats::Placement;
+use bsii_float::floats::Placement;
+use bsii_float::floats::bits_of;
 ghost use mathlib.Core.Path.{_≡_};
 ghost use mathlib.Core.Bool.{cond};
 ghost use Rattle.bsii_format.specs.Numbers.{signed};
@@ -27,14 +28,10 @@ pub struct SiiElement {
     pub h: u32,
 }
 
-// to_bits leaves a NaN's bits open.
 fn bits(x: f32) -> u32
     ensures { λ r. ⌜ r ≡ word x ⌝ }
 {
-    if x == x {
-        return f32::to_bits(x);
-    }
-    0x7fc0_0000
+    bits_of(x, 0x7fc0_0000)
 }
 
 fn number(kind: u32, value: u64) -> SiiElement

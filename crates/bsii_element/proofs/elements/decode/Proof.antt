@@ -8,7 +8,7 @@ use Rattle.bsii_format.specs.Values.{elementParser}
 use Rattle.bsii_format.specs.Calls.{Datum}
 use Rattle.bsii_value.specs.Kinds.{kindIs}
 use Rattle.bsii_value.specs.declared.types.Kind.{Kind}
-use Rattle.bsii_element.specs.Rows.{decoded}
+use Rattle.bsii_element.specs.Decoded.{decoded}
 use borrow.Author.Needs.{needs}
 use Rattle.bsii_element.proofs.elements.decode.Statement.{statement}
 use Rattle.bsii_element.proofs.elements.decode.Tie as tie

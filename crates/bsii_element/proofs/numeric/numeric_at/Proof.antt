@@ -10,7 +10,7 @@ use Rattle.bsii_format.specs.Types.{width, arity}
 use Rattle.bsii_format.specs.Calls.{Datum, dFloat, dInt32, dUInt32, dUInt16, dInt64, dUInt64, dBool, dEnum, nonzero, numericDatum}
 use Rattle.bsii_value.specs.Kinds.{numericIs}
 use Rattle.bsii_value.specs.declared.types.Numeric.{Numeric}
-use Rattle.bsii_element.specs.Rows.{numbersAt}
+use Rattle.bsii_float.specs.NumbersAt.{numbersAt}
 use borrow.Author.Needs.{needs}
 use Rattle.bsii_element.proofs.numeric.numeric_at.Statement.{statement}
 use Rattle.bsii_element.proofs.numeric.numeric_at.Tie as tie

@@ -1,7 +1,7 @@
 use native.Mathlib.Omega.{arith}
 use denote.Ref.{now}
 use Rattle.bsii_format.specs.Calls.{numericDatum}
-use Rattle.bsii_element.proofs.NumbersAt.{first-number, number-of}
+use Rattle.bsii_float.proofs.NumbersAt.{first-number, number-of}
 use borrow.Author.Needs.{needs}
 use Rattle.bsii_element.proofs.numeric.vec2_at.Statement.{statement}
 use Rattle.bsii_element.proofs.numeric.vec2_at.Tie as tie

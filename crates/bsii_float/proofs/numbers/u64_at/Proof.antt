@@ -1,10 +1,10 @@
 use mathlib.Core.Path.{sym, ap, _∙_}
 use denote.Ref.{now}
 use Rattle.bsii_value.specs.Answers.{numOf64}
-use Rattle.bsii_element.specs.Rows.{orZero, numberAt}
+use Rattle.bsii_float.specs.NumbersAt.{orZero, numberAt}
 use borrow.Author.Needs.{needs}
-use Rattle.bsii_element.proofs.numbers.u64_at.Statement.{statement}
-use Rattle.bsii_element.proofs.numbers.u64_at.Tie as tie
+use Rattle.bsii_float.proofs.numbers.u64_at.Statement.{statement}
+use Rattle.bsii_float.proofs.numbers.u64_at.Tie as tie
 
 le-u64-requires : tie.Need-le-u64-requires
 le-u64-requires c κs = search needs

@@ -7,7 +7,7 @@ use bsii_value::numbers::le_u32;
 use bsii_value::numbers::le_u64;
 ghost use mathlib.Core.Path.{_≡_};
 ghost use Rattle.bsii_format.specs.Calls.{nonzero as nonzeroOf};
-ghost use Rattle.bsii_element.specs.Rows.{numberAt, numIs};
+ghost use Rattle.bsii_float.specs.NumbersAt.{numberAt, numIs};
 
 fn value_of(n: Num) -> u32
     ensures { λ r. ⌜ r ≡ numIs n ⌝ }

@@ -4,21 +4,18 @@ use Prim.Native.Nat.{ℕ, zero, suc, _+_, _*_, _<_}
 use native.Mathlib.Nat.{zero-mul, suc-mul}
 use native.Mathlib.Omega.{arith}
 use mathlib.Core.Bool.{true}
-use mathlib.Core.List.{List, [], _∷_}
+use mathlib.Core.List.{List, _∷_}
 use lib.ListN.{length, take, drop, getD}
 use lib.Seq.{drop-drop}
 use lib.Dec.{leb}
-use Rattle.bsii_format.specs.Replies.{malformed}
-use Rattle.bsii_format.specs.Reader.{ok, faultAt, Reader, bytes, after, success, repeat, _>>=_, _<$>_}
+use Rattle.bsii_format.specs.Reader.{ok, Reader, bytes, success, repeat, _>>=_}
 use Rattle.bsii_format.specs.Numbers.{littleEndian, number}
-use Rattle.bsii_format.specs.Types.{Numeric, float, floatVec2, floatVec3, floatVec4, floatVec8, int32, int32Vec3, uint32, uint16, int64, uint64, bool, enum, width, arity, numbers}
-use Rattle.bsii_format.specs.Values.{elementParser}
 use Rattle.bsii_format.specs.Calls.{nonzero}
 use Rattle.bsii_format.proofs.Readers.{after-ok, map-ok, cond-ok, ok-val, ok-at, ok-rest}
 use Rattle.bsii_value.specs.Answers.{numOf}
 use Rattle.bsii_value.specs.declared.answers.Num.{Num}
 use Rattle.bsii_value.specs.declared.answers.Num.the-variants.{Got, Short}
-use Rattle.bsii_element.specs.Rows.{numIs, orZero, numberAt, numbersAt}
+use Rattle.bsii_float.specs.NumbersAt.{numIs, orZero, numberAt, numbersAt}
 
 pub value-of : (s : List ℕ) (n : Num) → numIs n ≡ orZero (numOf s n)
 unfolding orZero
@@ -110,22 +107,3 @@ number-of (suc n) w s at zero h = let z : at ≡ at + 0 * w = omega (arith, zero
 number-of (suc n) w s at (suc j) h =
     let z : at + w + j * w ≡ at + suc j * w = omega (arith, suc-mul j w) in
     number-of n w s (at + w) j (omega arith) ∙ ap (numberAt w s) z
-
--- ---- elements that are numbers
-
--- none is empty
-pub numbers-refuse : (k : Numeric) → elementParser (numbers k) 0 [] ≡ faultAt malformed 0
-unfolding elementParser repeat arity width number bytes after success _>>=_ _<$>_
-numbers-refuse float = refl
-numbers-refuse floatVec2 = refl
-numbers-refuse floatVec3 = refl
-numbers-refuse floatVec4 = refl
-numbers-refuse floatVec8 = refl
-numbers-refuse int32 = refl
-numbers-refuse int32Vec3 = refl
-numbers-refuse uint32 = refl
-numbers-refuse uint16 = refl
-numbers-refuse int64 = refl
-numbers-refuse uint64 = refl
-numbers-refuse bool = refl
-numbers-refuse enum = refl

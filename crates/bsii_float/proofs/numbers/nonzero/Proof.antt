@@ -1,8 +1,8 @@
 use mathlib.Core.Path.{sym, ap}
 use Rattle.bsii_format.specs.Calls.{nonzero}
-use Rattle.bsii_element.proofs.NumbersAt.{nonzero-not}
-use Rattle.bsii_element.proofs.numbers.nonzero.Statement.{statement}
-use Rattle.bsii_element.proofs.numbers.nonzero.Tie as tie
+use Rattle.bsii_float.proofs.NumbersAt.{nonzero-not}
+use Rattle.bsii_float.proofs.numbers.nonzero.Statement.{statement}
+use Rattle.bsii_float.proofs.numbers.nonzero.Tie as tie
 
 returns : tie.Need-returns
 unfolding nonzero

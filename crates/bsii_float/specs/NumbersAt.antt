@@ -1,12 +1,9 @@
--- Numbers at a position, and what the call makes of one element.
-use Prim.Native.Nat.{ℕ, zero, suc, _+_, _-_}
+-- Numbers at a position.
+use Prim.Native.Nat.{ℕ, zero, suc, _+_}
 use mathlib.Core.List.{List, [], _∷_}
 use lib.ListN.{drop}
-use Rattle.bsii_format.specs.Replies.{Reply, gives, refuses}
 use Rattle.bsii_format.specs.Reader.{Result, ok, fault}
 use Rattle.bsii_format.specs.Numbers.{number}
-use Rattle.bsii_format.specs.Values.{Element}
-use Rattle.bsii_format.specs.Calls.{Datum, datumOf}
 use Rattle.bsii_value.specs.declared.answers.Num.{Num}
 use Rattle.bsii_value.specs.declared.answers.Num.the-variants.{Got, Short}
 
@@ -27,8 +24,3 @@ numberAt w s at = orZero (number w at (drop at s))
 unfoldable pub numbersAt : ℕ → ℕ → List ℕ → ℕ → List ℕ
 numbersAt zero w s at = []
 numbersAt (suc n) w s at = numberAt w s at ∷ numbersAt n w s (at + w)
-
--- what the element call makes of the element that was read at a position, or of its fault
-unfoldable pub decoded : ℕ → Result Element → Reply Datum
-decoded at (ok e next r) = gives (datumOf at (next - at) e)
-decoded at (fault f) = refuses f

@@ -1,10 +1,10 @@
 use mathlib.Core.Path.{ap, _∙_}
 use denote.Ref.{now}
-use Rattle.bsii_element.specs.Rows.{orZero, numberAt}
-use Rattle.bsii_element.proofs.NumbersAt.{value-of}
+use Rattle.bsii_float.specs.NumbersAt.{orZero, numberAt}
+use Rattle.bsii_float.proofs.NumbersAt.{value-of}
 use borrow.Author.Needs.{needs}
-use Rattle.bsii_element.proofs.numbers.u16_at.Statement.{statement}
-use Rattle.bsii_element.proofs.numbers.u16_at.Tie as tie
+use Rattle.bsii_float.proofs.numbers.u16_at.Statement.{statement}
+use Rattle.bsii_float.proofs.numbers.u16_at.Tie as tie
 
 le-u16-requires : tie.Need-le-u16-requires
 le-u16-requires c κs = search needs

@@ -1,9 +1,9 @@
 use mathlib.Core.Path.{sym}
 use lib.Ieee.{div, ofBits}
-use Rattle.bsii_element.proofs.Nan.{nan-of, nan-no}
+use Rattle.bsii_float.proofs.Nan.{nan-of, nan-no}
 use borrow.Author.Needs.{needs}
-use Rattle.bsii_element.proofs.floats.float_of.Statement.{statement}
-use Rattle.bsii_element.proofs.floats.float_of.Tie as tie
+use Rattle.bsii_float.proofs.floats.float_of.Statement.{statement}
+use Rattle.bsii_float.proofs.floats.float_of.Tie as tie
 
 returns : tie.Need-returns
 unfolding div ofBits

@@ -1,0 +1,4 @@
+-- The laws that the proofs share.
+pub mod Nan
+pub mod Bits
+pub mod NumbersAt

@@ -1,0 +1,28 @@
+use borrow.Author.Needs.{needs}
+use Rattle.bsii_float.proofs.floats.vec4_of.Statement.{statement}
+use Rattle.bsii_float.proofs.floats.vec4_of.Tie as tie
+
+float-of-requires : tie.Need-float-of-requires
+float-of-requires c κs = search needs
+
+float-of-requires-2 : tie.Need-float-of-requires-2
+float-of-requires-2 c κs = search needs
+
+float-of-requires-3 : tie.Need-float-of-requires-3
+float-of-requires-3 c κs = search needs
+
+float-of-requires-4 : tie.Need-float-of-requires-4
+float-of-requires-4 c κs = search needs
+
+returns : tie.Need-returns
+returns c = cc
+
+pub vec4-of-spec : {M : Type 1} → statement M
+vec4-of-spec =
+    tie.close
+    (tie.spec
+    float-of-requires
+    float-of-requires-2
+    float-of-requires-3
+    float-of-requires-4
+    returns)

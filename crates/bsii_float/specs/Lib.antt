@@ -1,0 +1,3 @@
+-- What the numbers and floats at a position are, and what floats are in the text.
+pub mod NumbersAt
+pub mod Bits
