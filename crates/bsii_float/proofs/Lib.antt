@@ -2,4 +2,6 @@
 pub mod Nan
 pub mod Bits
 pub mod Sums
+pub mod Value
+pub mod FloatText
 pub mod NumbersAt

@@ -2,3 +2,4 @@
 pub mod floats;
 pub mod numbers;
 pub mod placement;
+pub mod whole;

@@ -1,0 +1,17 @@
+use mathlib.Core.Path.{_∙_}
+use Prim.Native.Nat.{_^_}
+use native.Mathlib.Nat.{one-mul}
+use native.Mathlib.Omega.{arith}
+use lib.Pow.{shl-exact}
+use borrow.Author.Needs.{needs}
+use Rattle.bsii_float.proofs.whole.power_of_two.Statement.{statement}
+use Rattle.bsii_float.proofs.whole.power_of_two.Tie as tie
+
+shl-result : tie.Need-shl-result
+shl-result c = search needs
+
+returns : tie.Need-returns
+returns c = shl-exact {a = 1} 1 (c .args .n) 32 (omega arith) (omega arith) ∙ one-mul (2 ^ c .args .n)
+
+pub power-of-two-spec : {M : Type 1} → statement M
+power-of-two-spec = tie.close (tie.spec shl-result returns)
