@@ -4,4 +4,5 @@ pub mod Bits
 pub mod Sums
 pub mod Value
 pub mod FloatText
+pub mod Coefficient
 pub mod NumbersAt

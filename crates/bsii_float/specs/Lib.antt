@@ -2,3 +2,4 @@
 pub mod NumbersAt
 pub mod Bits
 pub mod Texts
+pub mod Cut

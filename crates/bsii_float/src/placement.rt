@@ -1,8 +1,64 @@
-// A placement's sums: the offset of a sector is added to a coordinate.
+// A placement's sums: the offset of a sector is added to a coordinate. One float holds the sectors of both coordinates.
+use crate::whole::power_of_two;
 ghost use mathlib.Core.Path.{_≡_};
 ghost use Prim.Native.Nat.{_<_};
-ghost use lib.Ieee.{binary32, add, ofInt};
-ghost use Rattle.bsii_format.specs.Floats.{sectorOffset, quieted};
+ghost use lib.Ieee.{binary32, add, ofBits, ofInt};
+ghost use Rattle.bsii_format.specs.Floats.{floorMod, floorDiv, coefficient as coefficientOf, sectorOffset, quieted};
+ghost use Rattle.bsii_float.specs.Cut.{cutSize};
+
+pub struct Sectors {
+    pub x: u32,
+    pub z: u32,
+}
+
+// The size cut to a whole number. The exponent's field is below 127 for a float below 1; up to 150 the significand has 150 - field binary
+// places; from 158 on there is no smaller size than 2^31, and infinities and NaN are told apart by what stands behind the field.
+fn cut_size(bits: u32) -> u32
+    ensures { λ r. ⌜ r ≡ cutSize (ofBits binary32 bits) ⌝ }
+{
+    let field = bits % 0x8000_0000 / 0x80_0000;
+    let significand = 0x80_0000 + bits % 0x80_0000;
+    if field < 127 {
+        return 0;
+    }
+    if field < 150 {
+        return significand / power_of_two(150 - field);
+    }
+    if field < 158 {
+        return significand * power_of_two(field - 150);
+    }
+    if 0x7f80_0000 < bits % 0x8000_0000 {
+        return 0;
+    }
+    0x8000_0000
+}
+
+// The two's complement.
+fn coefficient(bits: u32) -> u32
+    ensures { λ r. ⌜ r ≡ floorMod (coefficientOf «bits») 0x1_0000_0000 ⌝ }
+{
+    let size = cut_size(bits);
+    if bits < 0x8000_0000 {
+        if size < 0x8000_0000 {
+            return size;
+        }
+        return 0x7fff_ffff;
+    }
+    if size == 0 {
+        return 0;
+    }
+    0xffff_ffff - (size - 1)
+}
+
+// The sectors of the two coordinates, from the bits of the float that holds both.
+pub fn sectors_of(bits: u32) -> Sectors
+    ensures { λ r. ⌜ (r .x ≡ floorMod (coefficientOf «bits») 4096) × (r .z ≡ floorMod (floorDiv (coefficientOf «bits») 4096) 4096) × (r .x < 4096) × (r .z < 4096) ⌝ }
+{
+    let c = coefficient(bits);
+    let low = c % 4096;
+    let high = c / 4096 % 4096;
+    Sectors { x: low, z: high }
+}
 
 // f + 512 × (k − 2048), rounded once. An offset of zero is added, since a difference with zero would keep -0.
 pub fn sector_sum(f: f32, k: u32) -> f32
