@@ -2,24 +2,17 @@
 use Prim.Native.Nat.{ℕ, _*_, _<_}
 use mathlib.Core.Path.{_≡_, refl, sym, ap, _∙_}
 use mathlib.Core.Bool.{Bool, true, false, not, cond, _&&_, _||_, Bool·beq}
-use native.Mathlib.Omega.{arith}
 use lib.Dec.{T, eqb, eqb-refl}
 use lib.Ieee.{Float, nan, inf, fin, binary32, isNan, eq, level, up, down, ofBits, toBits}
-use lib.Ieee.Bits.{toBits-ofBits}
+use lib.Ieee.Bits.{is-true, toBits-ofBits}
 use Rattle.bsii_float.specs.Bits.{bitsOf}
-
-differ : {A : Type 0} → false ≡ true → A
-differ e = let z : _≡_ {A = ℕ} 0 1 = cc in absurd (omega arith)
+use Rattle.bsii_float.proofs.Nan.{differ}
 
 pub no-nan : (x : Float) → eq x x ≡ true → T (not (isNan x))
 unfolding isNan eq
 no-nan nan e = differ e
 no-nan (inf s) e = tt
 no-nan (fin s m d) e = tt
-
-is-true : (b : Bool) → T b → b ≡ true
-is-true true h = refl
-is-true false h = absurd h
 
 level-same : (s : Bool) (n : ℕ) → level s n s n ≡ true
 level-same true n = ap (λ b. b && (Bool·beq true true || eqb n 0)) (is-true (eqb n n) (eqb-refl n))

@@ -1,10 +1,10 @@
 -- The whole numbers among the floats: when a fraction is one, and what the text of a float is by the fields of its bits.
-use Prim.Native.Nat.{ℕ, suc, _+_, _-_, _*_, _/_, _%_, _^_, _≤_, _<_}
+use Prim.Native.Nat.{ℕ, _-_, _*_, _/_, _%_, _^_, _≤_, _<_}
 use mathlib.Core.Path.{_≡_, refl, sym, ap, _∙_}
 use mathlib.Core.Logic.{⊎-elim}
 use mathlib.Core.Bool.{Bool, true, false, cond, _&&_}
 use mathlib.Core.List.{List}
-use native.Mathlib.Nat.{add-zero, mul-right-comm, eq-of-mul-eq-mul-right, eq-zero-or-pos, eq-or-lt-of-le, div-add-mod', mod-eq-of-lt, zero-mod, zero-div, mod-one, div-one, mul-le-mul, lt-of-lt-of-le}
+use native.Mathlib.Nat.{add-zero, mul-right-comm, eq-of-mul-eq-mul-right, eq-zero-or-pos, eq-or-lt-of-le, div-add-mod', mod-eq-of-lt, zero-mod, zero-div, div-one, mul-le-mul, lt-of-lt-of-le}
 use native.Mathlib.Omega.{arith}
 use lib.Dec.{eqb, leb}
 use lib.Pow.{pow-pos, pow-mono}

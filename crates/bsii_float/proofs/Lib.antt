@@ -1,8 +1,8 @@
--- The laws that the proofs share.
+-- The laws that the proofs share. Value says what number a float's bits are, for its text (FloatText) and its cut to an i32 (Coefficient).
 pub mod Nan
 pub mod Bits
-pub mod Sums
+pub mod NumbersAt
 pub mod Value
 pub mod FloatText
 pub mod Coefficient
-pub mod NumbersAt
+pub mod Sums

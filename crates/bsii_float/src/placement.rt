@@ -11,8 +11,8 @@ pub struct Sectors {
     pub z: u32,
 }
 
-// The size cut to a whole number. The exponent's field is below 127 for a float below 1; up to 150 the significand has 150 - field binary
-// places; from 158 on there is no smaller size than 2^31, and infinities and NaN are told apart by what stands behind the field.
+// The size cut to a whole number, by the exponent's field: below 127 the float is below 1, below 150 the significand has 150 - field binary
+// places, from 158 on the float is 2^31 at least, an infinity or a NaN.
 fn cut_size(bits: u32) -> u32
     ensures { λ r. ⌜ r ≡ cutSize (ofBits binary32 bits) ⌝ }
 {
@@ -33,7 +33,7 @@ fn cut_size(bits: u32) -> u32
     0x8000_0000
 }
 
-// The two's complement.
+// The i32, as its two's complement.
 fn coefficient(bits: u32) -> u32
     ensures { λ r. ⌜ r ≡ floorMod (coefficientOf «bits») 0x1_0000_0000 ⌝ }
 {
