@@ -1,0 +1,2 @@
+-- How long a text can be.
+pub mod Digits
