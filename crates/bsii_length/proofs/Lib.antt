@@ -1,2 +1,3 @@
 -- How long a text can be.
 pub mod Digits
+pub mod Taken
