@@ -1,3 +1,4 @@
 -- How long a text can be.
 pub mod Digits
 pub mod Taken
+pub mod Elements
