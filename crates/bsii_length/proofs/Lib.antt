@@ -2,3 +2,4 @@
 pub mod Digits
 pub mod Taken
 pub mod Elements
+pub mod Lines
