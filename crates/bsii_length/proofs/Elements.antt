@@ -42,8 +42,11 @@ floatTextOf-length b (fin s m e) h = go (eqb (m * up e % down e) 0) (leb (m * up
 
     go : (p q : Bool) → leb (m * up e / down e) 10_000_000 ≡ q → length (cond (p && q) (minusIf s (decimal (m * up e / down e))) (bitsText b)) ≤ 67
     go true true k =
-        omega (arith, minus s (decimal (m * up e / down e)),
-        digits-length 10 24 (m * up e / down e) (omega arith) (omega (arith, leb→le (m * up e / down e) 10_000_000 (subst T (sym k) tt))))
+        omega (
+          arith,
+          minus s (decimal (m * up e / down e)),
+          digits-length 10 24 (m * up e / down e) (omega arith) (omega (arith, leb→le (m * up e / down e) 10_000_000 (subst T (sym k) tt))),
+        )
     go true false k = unfold bitsText in omega (arith, digits-length 16 65 b (omega arith) h)
     go false q k = unfold bitsText in omega (arith, digits-length 16 65 b (omega arith) h)
 

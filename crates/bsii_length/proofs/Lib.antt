@@ -3,3 +3,5 @@ pub mod Digits
 pub mod Taken
 pub mod Elements
 pub mod Lines
+pub mod Records
+pub mod Bounded

@@ -149,8 +149,8 @@ unfolding number
 number-takes w h =
     map-takes littleEndian (bytes-takes w)
     (λ v k l p.
-        let z : 256 ^ length v ≤ 256 ^ 8 = pow-le-pow-right {n = 256} (omega arith) {i = length v} {j = 8} (omega (arith, p .1)) in
-        (omega (arith, littleEndian-below v (p .0)), p .2))
+    let z : 256 ^ length v ≤ 256 ^ 8 = pow-le-pow-right {n = 256} (omega arith) {i = length v} {j = 8} (omega (arith, p .1)) in
+    (omega (arith, littleEndian-below v (p .0)), p .2))
 
 pub str-takes : Takes (List ℕ) strParser (λ v k. (length v ≤ lengthLimit) × (1 ≤ k))
 unfolding strParser

@@ -1,0 +1,86 @@
+-- No text of a file within the length limit is as long as the point where the writers' positions saturate: the text is at most 2^36 times the file's bytes, and
+-- a few more for the file's own lines.
+use mathlib.Core.Path.{_≡_, refl, sym, ap, _∙_, subst}
+use Prim.Native.Nat.{ℕ, zero, suc, _+_, _*_, _/_, _≤_, _<_}
+use native.Mathlib.Omega.{arith}
+use mathlib.Core.Option.{Option, none, some}
+use mathlib.Core.List.{List, [], _∷_, _++_}
+use lib.ListN.{length, getD, length-append}
+use lib.Seq.{getD-append-add}
+use Rattle.bsii_format.specs.Replies.{Reply, gives, refuses}
+use Rattle.bsii_format.specs.Reader.{Result, ok, fault, Reader, _>>=_, _<$>_, Consumed, consumed}
+use Rattle.bsii_format.specs.Prototypes.{Prototype}
+use Rattle.bsii_format.specs.Blocks.{DataBlock, getPrototype}
+use Rattle.bsii_format.specs.File.{Record, prototype, block, recordBytes, prototypesOf, Records, recordsParser, headerParser, BsiiFile, bsiiFile, bsiiParser, parse, lengthLimit}
+use Rattle.bsii_format.specs.Text.{valueText}
+use Rattle.bsii_format.specs.BlockText.{joined, closing, fileOpening, blockText, recordsText, fileText}
+use Rattle.bsii_format.specs.Calls.{ofFile, textOf}
+use Rattle.bsii_format.proofs.Readers.{Exact}
+use Rattle.bsii_format.proofs.Parsers.{header-exact}
+use Rattle.bsii_format.proofs.File.{parse-ok}
+use Rattle.bsii_length.proofs.Taken.{Takes, bind-takes, map-takes, consumed-takes, Row, nil, cons, Every}
+use Rattle.bsii_length.proofs.Lines.{answered, joined-size, ShortPrototype}
+use Rattle.bsii_length.proofs.Records.{Of, FineBlock, FineRecord, FineRecords, recordsFrom-takes, defined, found}
+
+-- of a header nothing has to be known
+header-takes : Takes ℕ headerParser (λ v n. Unit {0})
+header-takes = record {
+  taken = λ at s v at′ r i e.
+      let t = header-exact .took at s v at′ r e in
+      let long : length s ≡ length (t .0) + length r = ap length (t .1 .front) ∙ length-append (t .0) r in
+      record {
+        size = length (t .0);
+        long = long;
+        rest = record {
+          bytes = λ j. subst (λ x. x < 256) (ap (λ l. getD l (length (t .0) + j) 0) (t .1 .front) ∙ getD-append-add (t .0) r j 0) (i .bytes (length (t .0) + j));
+          short = omega (arith, i .short);
+        };
+        holds = tt;
+      };
+}
+
+file-takes : (rooms : ℕ) → Takes BsiiFile (bsiiParser rooms) (λ f n. (m : ℕ) × Row Record FineRecord (f .records) m × (m ≤ n))
+unfolding bsiiParser bsiiFile recordsParser
+file-takes rooms =
+    bind-takes (λ h. bsiiFile h <$> recordsParser rooms) (consumed-takes header-takes)
+    (λ h n l p. map-takes {R = recordsParser rooms} (bsiiFile h) (record { taken = λ at s. recordsFrom-takes rooms (length s) [] .taken at s })
+    (λ q k z g. (g .size, g .row, omega (arith, g .within))))
+
+records-size : (last : List Prototype) → Every Prototype ShortPrototype last → (at : ℕ) {l : List Record} {n : ℕ} → Row Record FineRecord l n
+    → answered (recordsText valueText last at l) ≤ 0x10_0000_0000 * n
+unfolding recordsText
+records-size last h at nil = omega arith
+records-size last h at (cons {a = prototype p} g k) = omega (arith, records-size last h (at + length (recordBytes (prototype p))) k)
+records-size last h at (cons {a = block b} {n = m} {l = l} g k) =
+    omega (
+      arith,
+      joined-size (blockText valueText at (getPrototype (b .prototypeId) last) b) (recordsText valueText last (at + length (recordBytes (block b))) l),
+      one (getPrototype (b .prototypeId) last) (found (b .prototypeId) h),
+      records-size last h (at + length (recordBytes (block b))) k,
+    )
+  where
+    one : (o : Option Prototype) → Of ShortPrototype o → answered (blockText valueText at o b) ≤ 0x10_0000_0000 * m
+    one none u = unfold blockText in omega arith
+    one (some p) u = g .text at p u
+
+file-size : (f : BsiiFile) (n : ℕ) → Row Record FineRecord (f .records) n → answered (fileText valueText f) ≤ 0x10_0000_0000 * n + 13
+unfolding fileText prototypesOf fileOpening closing
+file-size f n g =
+    let body = recordsText valueText (prototypesOf (f .records)) (length (f .header .raw)) (f .records) in
+    omega (
+      arith,
+      joined-size (joined (gives fileOpening) body) (gives closing),
+      joined-size (gives fileOpening) body,
+      records-size (prototypesOf (f .records)) (defined [] g nil) (length (f .header .raw)) g,
+    )
+
+-- `s` is a slice's elements, which are bytes: the definitions hold for lists of any numbers, and a number taken from other lists has no bound
+pub text-bounded : (words : ℕ) (s t : List ℕ) → ((i : ℕ) → getD s i 0 < 256) → length s ≤ 16_777_216 → textOf words s ≡ gives t → length t < 0x4000_0000_0000_0000
+unfolding textOf
+text-bounded words s t h l e = go (parse words s) refl e
+  where
+    go : (q : Result BsiiFile) → parse words s ≡ q → ofFile (λ f at. fileText valueText f) q ≡ gives t → length t < 0x4000_0000_0000_0000
+    go (ok f at r) p e =
+        let x = file-takes (words / 3) .taken 0 s f at r (record { bytes = h; short = l }) (parse-ok words s p .1) in
+        unfold ofFile in omega (arith, ap answered e, file-size f (x .holds .0) (x .holds .1), x .holds .2, x .long)
+    go (fault x) p e = unfold ofFile in omega (arith, ap answered e)
