@@ -1,26 +1,25 @@
--- No text of a file within the length limit is as long as the point where the writers' positions saturate: the text is at most 2^36 times the file's bytes, and
--- a few more for the file's own lines.
-use mathlib.Core.Path.{_≡_, refl, sym, ap, _∙_, subst}
-use Prim.Native.Nat.{ℕ, zero, suc, _+_, _*_, _/_, _≤_, _<_}
+-- No text of a file within the length limit is as long as the point where the writers' positions saturate, 2^62. A line has at most 2^36 bytes, since names and
+-- strings stand in the file; a value has no more lines than bytes; so the text is at most 2^36 times the file's bytes and the 13 of the file's own lines.
+use mathlib.Core.Path.{_≡_, refl, ap, _∙_, subst}
+use Prim.Native.Nat.{ℕ, _+_, _*_, _/_, _≤_, _<_}
 use native.Mathlib.Omega.{arith}
 use mathlib.Core.Option.{Option, none, some}
-use mathlib.Core.List.{List, [], _∷_, _++_}
+use mathlib.Core.List.{List, []}
 use lib.ListN.{length, getD, length-append}
 use lib.Seq.{getD-append-add}
-use Rattle.bsii_format.specs.Replies.{Reply, gives, refuses}
-use Rattle.bsii_format.specs.Reader.{Result, ok, fault, Reader, _>>=_, _<$>_, Consumed, consumed}
+use Rattle.bsii_format.specs.Replies.{gives}
+use Rattle.bsii_format.specs.Reader.{Result, ok, fault, _<$>_}
 use Rattle.bsii_format.specs.Prototypes.{Prototype}
-use Rattle.bsii_format.specs.Blocks.{DataBlock, getPrototype}
-use Rattle.bsii_format.specs.File.{Record, prototype, block, recordBytes, prototypesOf, Records, recordsParser, headerParser, BsiiFile, bsiiFile, bsiiParser, parse, lengthLimit}
+use Rattle.bsii_format.specs.Blocks.{getPrototype}
+use Rattle.bsii_format.specs.File.{Record, prototype, block, recordBytes, prototypesOf, recordsParser, headerParser, BsiiFile, bsiiFile, bsiiParser, parse}
 use Rattle.bsii_format.specs.Text.{valueText}
 use Rattle.bsii_format.specs.BlockText.{joined, closing, fileOpening, blockText, recordsText, fileText}
 use Rattle.bsii_format.specs.Calls.{ofFile, textOf}
-use Rattle.bsii_format.proofs.Readers.{Exact}
 use Rattle.bsii_format.proofs.Parsers.{header-exact}
 use Rattle.bsii_format.proofs.File.{parse-ok}
 use Rattle.bsii_length.proofs.Taken.{Takes, bind-takes, map-takes, consumed-takes, Row, nil, cons, Every}
 use Rattle.bsii_length.proofs.Lines.{answered, joined-size, ShortPrototype}
-use Rattle.bsii_length.proofs.Records.{Of, FineBlock, FineRecord, FineRecords, recordsFrom-takes, defined, found}
+use Rattle.bsii_length.proofs.Records.{Of, FineRecord, recordsFrom-takes, defined, found}
 
 -- of a header nothing has to be known
 header-takes : Takes ℕ headerParser (λ v n. Unit {0})
@@ -74,13 +73,17 @@ file-size f n g =
       records-size (prototypesOf (f .records)) (defined [] g nil) (length (f .header .raw)) g,
     )
 
--- `s` is a slice's elements, which are bytes: the definitions hold for lists of any numbers, and a number taken from other lists has no bound
-pub text-bounded : (words : ℕ) (s t : List ℕ) → ((i : ℕ) → getD s i 0 < 256) → length s ≤ 16_777_216 → textOf words s ≡ gives t → length t < 0x4000_0000_0000_0000
+-- The premise on bytes holds for a slice. The definitions take lists of any numbers, and a number that is read from such a list has no bound.
+text-size : (words : ℕ) (s t : List ℕ) → ((i : ℕ) → getD s i 0 < 256) → textOf words s ≡ gives t → length t ≤ 0x10_0000_0000 * length s + 13
 unfolding textOf
-text-bounded words s t h l e = go (parse words s) refl e
+text-size words s t h e = go (parse words s) refl e
   where
-    go : (q : Result BsiiFile) → parse words s ≡ q → ofFile (λ f at. fileText valueText f) q ≡ gives t → length t < 0x4000_0000_0000_0000
+    go : (q : Result BsiiFile) → parse words s ≡ q → ofFile (λ f at. fileText valueText f) q ≡ gives t → length t ≤ 0x10_0000_0000 * length s + 13
     go (ok f at r) p e =
-        let x = file-takes (words / 3) .taken 0 s f at r (record { bytes = h; short = l }) (parse-ok words s p .1) in
+        let y = parse-ok words s p in
+        let x = file-takes (words / 3) .taken 0 s f at r (record { bytes = h; short = y .0 }) (y .1) in
         unfold ofFile in omega (arith, ap answered e, file-size f (x .holds .0) (x .holds .1), x .holds .2, x .long)
     go (fault x) p e = unfold ofFile in omega (arith, ap answered e)
+
+pub text-bounded : (words : ℕ) (s t : List ℕ) → ((i : ℕ) → getD s i 0 < 256) → length s ≤ 16_777_216 → textOf words s ≡ gives t → length t < 0x4000_0000_0000_0000
+text-bounded words s t h l e = omega (arith, text-size words s t h e)

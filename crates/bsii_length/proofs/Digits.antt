@@ -1,16 +1,15 @@
 -- How many digits a number below a power of two has, in each way of the text.
-use mathlib.Core.Path.{_≡_, refl, sym, ap, _∙_, subst}
+use mathlib.Core.Path.{_≡_, refl, sym, subst}
 use Prim.Native.Nat.{ℕ, zero, suc, _+_, _-_, _*_, _/_, _%_, _^_, _≤_, _<_}
-use native.Mathlib.Nat.{div-lt-iff-lt-mul, div-le-self, mul-le-mul-left, pow-suc}
+use native.Mathlib.Nat.{div-lt-iff-lt-mul, div-le-self, mul-le-mul-left}
 use native.Mathlib.Omega.{arith}
 use mathlib.Core.Bool.{Bool, true, false, not, cond}
-use mathlib.Core.Option.{Option, none, some, Option·map, Option·getD}
-use mathlib.Core.List.{List, [], _∷_, _++_}
+use mathlib.Core.Option.{Option, none, some, Option·getD}
+use mathlib.Core.List.{List, []}
 use lib.ListN.{length, length-append}
 use lib.Dec.{T, ltb, nltb→le}
-use lib.IntN.{ℤ, pos, negsuc, subℕ, _-ℤ_}
-use Rattle.bsii_format.specs.Ascii.{ascii}
-use Rattle.bsii_format.specs.Digits.{digit, digitsFrom, digits, decimal, hexadecimal, hexPadded, decimalInt}
+use lib.IntN.{pos, subℕ, _-ℤ_}
+use Rattle.bsii_format.specs.Digits.{digitsFrom, digits, hexPadded, decimalInt}
 use Rattle.bsii_format.specs.Numbers.{signed}
 use Rattle.bsii_format.specs.Strings.{digitThen, base38From, base38, characters}
 use Rattle.bsii_format.specs.Text.{groups}

@@ -1,5 +1,5 @@
 -- How long the text of one element is: a number's has a few hundred bytes at most, a string's four times its bytes and the quotes, an id's a multiple of its bytes.
-use mathlib.Core.Path.{_≡_, refl, sym, ap, _∙_, subst}
+use mathlib.Core.Path.{_≡_, refl, sym, subst}
 use Prim.Native.Nat.{ℕ, zero, suc, _+_, _*_, _/_, _%_, _^_, _≤_, _<_}
 use native.Mathlib.Nat.{mod-lt}
 use native.Mathlib.Omega.{arith}
@@ -8,23 +8,21 @@ use mathlib.Core.Option.{Option, none, some, Option·map}
 use mathlib.Core.List.{List, [], _∷_, _++_}
 use lib.ListN.{length, length-append, getD}
 use lib.Dec.{T, leb, eqb, leb→le}
-use lib.Ieee.{Float, nan, inf, fin, binary32, ofBits, toBits, add, ofInt, isNan, up, down}
+use lib.Ieee.{Float, nan, inf, fin, binary32, ofBits, add, ofInt, isNan, up, down}
 use lib.Ieee.Fits.{add-fits}
 use lib.Ieee.Bits.{toBits-lt}
 use Rattle.bsii_format.specs.Ascii.{ascii}
 use Rattle.bsii_format.specs.Numbers.{signed}
 use Rattle.bsii_format.specs.Replies.{zeroDigit}
-use Rattle.bsii_format.specs.Reader.{_>>=_, _<$>_, Consumed}
 use Rattle.bsii_format.specs.Utf8.{_to_, within}
-use Rattle.bsii_format.specs.Digits.{decimal, hexadecimal, hexPadded, decimalInt}
+use Rattle.bsii_format.specs.Digits.{decimal, hexPadded, decimalInt}
 use Rattle.bsii_format.specs.Floats.{bitsText, minusIf, floatTextOf, floatText, vec2Text, vec3Text, vec4Text, floorMod, floorDiv, coefficient, sectorOffset, quieted, sectorSum, placementText}
 use Rattle.bsii_format.specs.Strings.{low63, spelled, encodedStrParser, characters, Id, nameless, named, idParser}
 use Rattle.bsii_format.specs.Types.{Numeric, float, floatVec2, floatVec3, floatVec4, floatVec8, int32, int32Vec3, uint32, uint16, int64, uint64, bool, enum, width, arity, Kind, numbers, string, encodedString, id}
 use Rattle.bsii_format.specs.Values.{Element, nums, str, word, ident, elementParser}
 use Rattle.bsii_format.specs.Prototypes.{EnumValue}
-use Rattle.bsii_format.specs.Text.{allBare, escaped, stringText, orEmpty, encodedStringText, groups, dotted, idText, orNil, boolText, int32Text, firstSome, enumString, numericText, elementText}
+use Rattle.bsii_format.specs.Text.{allBare, escaped, stringText, orEmpty, encodedStringText, dotted, idText, orNil, boolText, firstSome, enumString, numericText, elementText}
 use Rattle.bsii_format.specs.File.{lengthLimit}
-use Rattle.bsii_format.proofs.Readers.{and-right}
 use Rattle.bsii_length.proofs.Digits.{either, digits-length, hexPadded-length, signed-length, characters-length, groups-length}
 use Rattle.bsii_length.proofs.Taken.{Takes, bind-takes, map-takes, weaken, cond-takes, verify-takes, repeat-takes, Row, nil, cons, row-long, Every, number-takes, str-takes}
 

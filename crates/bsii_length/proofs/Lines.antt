@@ -1,20 +1,17 @@
 -- A line has at most 2^36 bytes, and a value no more lines than bytes: so the text of a value, and of a block, is at most 2^36 times its bytes.
-use mathlib.Core.Path.{_≡_, refl, sym, ap, _∙_, subst}
-use Prim.Native.Nat.{ℕ, zero, suc, _+_, _*_, _^_, _≤_, _<_}
+use mathlib.Core.Path.{_≡_}
+use Prim.Native.Nat.{ℕ, suc, _+_, _*_, _^_, _≤_, _<_}
 use native.Mathlib.Omega.{arith}
-use mathlib.Core.Bool.{Bool, true, false, cond}
 use mathlib.Core.Option.{Option, none, some, Option·map}
-use mathlib.Core.List.{List, [], _∷_, _++_}
+use mathlib.Core.List.{List, [], _∷_}
 use lib.ListN.{length, length-append}
 use lib.Dec.{eqb}
-use Rattle.bsii_format.specs.Ascii.{ascii}
 use Rattle.bsii_format.specs.Replies.{Reply, gives, refuses, unlistedType, enumValue}
-use Rattle.bsii_format.specs.Reader.{_>>=_, _<$>_, success, Consumed, consumed}
+use Rattle.bsii_format.specs.Reader.{_<$>_, Consumed}
 use Rattle.bsii_format.specs.Digits.{decimal}
-use Rattle.bsii_format.specs.Strings.{Id}
-use Rattle.bsii_format.specs.Types.{Kind, Shape, one, many, shapeOf}
-use Rattle.bsii_format.specs.Values.{Element, Value, single, array, elementParser, shapeParser, valueParser}
-use Rattle.bsii_format.specs.Prototypes.{EnumValue, ValuePrototype, Prototype}
+use Rattle.bsii_format.specs.Types.{Shape, one, many, shapeOf}
+use Rattle.bsii_format.specs.Values.{Element, Value, single, array, shapeParser, valueParser}
+use Rattle.bsii_format.specs.Prototypes.{ValuePrototype, Prototype}
 use Rattle.bsii_format.specs.Blocks.{DataValue, DataBlock, dataValue, dataValueParser, dataValuesParser}
 use Rattle.bsii_format.specs.Text.{idText, elementText, fieldLine, indexed, append, elementLines, valueText}
 use Rattle.bsii_format.specs.File.{lengthLimit}

@@ -1,24 +1,22 @@
 -- The names and enum strings of a definition stand in the file, so they are no longer than it; and so much is known of every record that is read.
-use mathlib.Core.Path.{_≡_, refl, sym, ap, _∙_, subst}
-use Prim.Native.Nat.{ℕ, zero, suc, _+_, _*_, _≤_, _<_}
+use Prim.Native.Nat.{ℕ, zero, suc, _+_, _*_, _≤_}
 use native.Mathlib.Omega.{arith}
 use mathlib.Core.Bool.{Bool, true, false, cond}
 use mathlib.Core.Option.{Option, none, some}
-use mathlib.Core.List.{List, [], _∷_, _++_}
+use mathlib.Core.List.{List, [], _∷_}
 use lib.ListN.{length}
 use lib.Dec.{leb, eqb}
-use Rattle.bsii_format.specs.Replies.{malformed, tableFull}
-use Rattle.bsii_format.specs.Reader.{Reader, faultAt, after, _>>=_, _<$>_, success, Consumed, with, consumed}
-use Rattle.bsii_format.specs.Strings.{Id, idParser}
+use Rattle.bsii_format.specs.Replies.{malformed}
+use Rattle.bsii_format.specs.Reader.{Reader, _<$>_, with}
 use Rattle.bsii_format.specs.Prototypes.{EnumValue, ValuePrototype, Prototype, enumValueParser, enumValuesParser, valuePrototypeParser, Fields, consField, fieldsThen, fieldsFrom, fieldsParser}
-use Rattle.bsii_format.specs.Blocks.{DataValue, DataBlock, findBy, getPrototype, dataValuesParser}
+use Rattle.bsii_format.specs.Blocks.{DataBlock, findBy, getPrototype, dataValuesParser}
 use Rattle.bsii_format.specs.File.{Record, prototype, block, Head, ending, defining, carrying, markParser, headParser, Step, end, more, prototypeStep, blockStep, dataBlockParser, stepParser, recordParser, define, hasRoom, Records, consRecord, recordsThen, recordsFrom, lengthLimit, defineAll}
 use Rattle.bsii_format.specs.Text.{valueText}
 use Rattle.bsii_format.specs.BlockText.{blockText}
 use Rattle.bsii_format.proofs.Readers.{fault≢ok}
 use Rattle.bsii_length.proofs.Taken.{Takes, after-taken, bind-takes, success-takes, fail-takes, map-takes, weaken, cond-takes, verify-takes, consumed-takes, repeat-takes, Row, nil, cons, Every, every, number-takes, str-takes}
-use Rattle.bsii_length.proofs.Elements.{ShortEnums, FineId, id-takes}
-use Rattle.bsii_length.proofs.Lines.{ShortField, FineValue, values-takes, answered, ShortFields, ShortPrototype, block-size}
+use Rattle.bsii_length.proofs.Elements.{ShortEnums, id-takes}
+use Rattle.bsii_length.proofs.Lines.{ShortField, values-takes, answered, ShortFields, ShortPrototype, block-size}
 
 -- P of what there is
 abbrev pub Of : {A : Type 0} → (A → Type 0) → Option A → Type 0

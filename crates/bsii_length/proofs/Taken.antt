@@ -1,22 +1,22 @@
 -- What is known of a value that a reader took from bytes within the length limit, and of how many bytes it took.
 use mathlib.Core.Path.{_≡_, refl, sym, ap, _∙_, subst}
-use Prim.Native.Nat.{ℕ, zero, suc, _+_, _*_, _^_, _≤_, _<_}
+use Prim.Native.Nat.{ℕ, zero, suc, _+_, _^_, _≤_, _<_}
 use native.Mathlib.Nat.{add-zero, zero-add, pow-suc, pow-le-pow-right}
 use native.Mathlib.Omega.{arith}
 use mathlib.Core.Bool.{Bool, true, false, cond}
-use mathlib.Core.List.{List, [], _∷_, _++_}
+use mathlib.Core.List.{List, [], _∷_}
 use lib.ListN.{length, take, drop, getD, length-drop}
 use lib.Seq.{getD-drop, length-take-le}
-use lib.Dec.{T, leb, leb→le}
-use Rattle.bsii_format.specs.Replies.{Fault, malformed, notUtf8}
-use Rattle.bsii_format.specs.Reader.{Result, ok, fault, faultAt, Reader, after, _>>=_, success, fail, _<$>_, bytes, verify, Consumed, with, consumed, repeat}
+use lib.Dec.{leb, leb→le}
+use Rattle.bsii_format.specs.Replies.{notUtf8}
+use Rattle.bsii_format.specs.Reader.{ok, faultAt, Reader, after, _>>=_, success, fail, _<$>_, bytes, verify, Consumed, with, consumed, repeat}
 use Rattle.bsii_format.specs.Numbers.{littleEndian, number}
 use Rattle.bsii_format.specs.Utf8.{utf8}
 use Rattle.bsii_format.specs.Strings.{strParser}
 use Rattle.bsii_format.specs.File.{lengthLimit}
-use Rattle.bsii_format.proofs.Readers.{fault≢ok, ok-val, ok-at, ok-rest, ok-move, after-ok, cond-ok}
+use Rattle.bsii_format.proofs.Readers.{fault≢ok, ok-move, after-ok, cond-ok}
 
--- A slice's elements are bytes. The definitions hold for lists of any numbers, so that has to be said here: a number read from other lists has no bound.
+-- what a slice's elements are
 abbrev pub Bytes : List ℕ → Type 0
 Bytes s = (i : ℕ) → getD s i 0 < 256
 
