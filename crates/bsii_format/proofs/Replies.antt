@@ -11,7 +11,7 @@ use Rattle.bsii_format.specs.Replies.{Fault, Reply, gives, refuses, notU
 use Rattle.bsii_format.specs.Reader.{Result, ok, fault, faultAt, Reader, after, _>>=_, success, fail, _<$>_, bytes, verify, Consumed, with, consumed, repeat}
 use Rattle.bsii_format.specs.Numbers.{number, littleEndian}
 use Rattle.bsii_format.specs.Utf8.{utf8}
-use Rattle.bsii_format.specs.Strings.{strParser, low63, spelled, encodedStrParser, nameless, named, idParser}
+use Rattle.bsii_format.specs.Strings.{strParser, low63, spelled, encodedStrParser, Id, nameless, named, idParser}
 use Rattle.bsii_format.specs.Types.{Numeric, float, floatVec2, floatVec3, floatVec4, floatVec8, int32, int32Vec3, uint32, uint16, int64, uint64, bool, enum, width, arity, Kind, numbers, string, encodedString, id, Shape, one, many, shapeOf}
 use Rattle.bsii_format.specs.Values.{Value, single, array, nums, str, word, ident, elementParser, shapeParser, valueParser}
 use Rattle.bsii_format.specs.Prototypes.{Prototype}
@@ -26,34 +26,34 @@ use Rattle.bsii_format.proofs.File.{file-good, parse-ok}
 -- ---- which refusals a reader gives
 
 module _ (among : ℕ → Bool) where
-  record Only (A : Type 0) (R : Reader A) : Type 0 where
+  pub record Only (A : Type 0) (R : Reader A) : Type 0 where
     pub only : (at : ℕ) (s : List ℕ) (f : Fault) → R at s ≡ fault f → T (among (f .number))
 
   fault-inj : {A : Type 0} {f g : Fault} → _≡_ {A = Result A} (fault f) (fault g) → f ≡ g
   fault-inj e = cc
 
-  fault-among : {A : Type 0} (n at : ℕ) {f : Fault} → T (among n) → _≡_ {A = Result A} (faultAt n at) (fault f) → T (among (f .number))
+  pub fault-among : {A : Type 0} (n at : ℕ) {f : Fault} → T (among n) → _≡_ {A = Result A} (faultAt n at) (fault f) → T (among (f .number))
   fault-among n at h e = subst (λ (z : Fault). T (among (z .number))) (fault-inj e) h
 
-  success-only : {A : Type 0} (a : A) → Only A (success a)
+  pub success-only : {A : Type 0} (a : A) → Only A (success a)
   unfolding success
   success-only a = record { only = λ at s f e. fault≢ok (sym e) }
 
-  fail-only : (A : Type 0) (n : ℕ) → T (among n) → Only A (fail n)
+  pub fail-only : (A : Type 0) (n : ℕ) → T (among n) → Only A (fail n)
   unfolding fail
   fail-only A n h = record { only = λ at s f e. fault-among n at h e }
 
-  after-only : {A B : Type 0} (q : Result A) (g : A → Reader B) {f : Fault} → ((x : Fault) → q ≡ fault x → T (among (x .number)))
+  pub after-only : {A B : Type 0} (q : Result A) (g : A → Reader B) {f : Fault} → ((x : Fault) → q ≡ fault x → T (among (x .number)))
       → ((a : A) (at : ℕ) (s : List ℕ) → g a at s ≡ fault f → T (among (f .number))) → after q g ≡ fault f → T (among (f .number))
   unfolding after
   after-only (ok a at s) g h k e = k a at s e
   after-only (fault x) g h k e = subst (λ (z : Fault). T (among (z .number))) (fault-inj e) (h x refl)
 
-  bind-only : {A B : Type 0} {R : Reader A} (g : A → Reader B) → Only A R → ((a : A) → Only B (g a)) → Only B (R >>= g)
+  pub bind-only : {A B : Type 0} {R : Reader A} (g : A → Reader B) → Only A R → ((a : A) → Only B (g a)) → Only B (R >>= g)
   unfolding _>>=_
   bind-only {R = R} g h k = record { only = λ at s f e. after-only (R at s) g (h .only at s) (λ a i t z. k a .only i t f z) e }
 
-  map-only : {A B : Type 0} (g : A → B) {R : Reader A} → Only A R → Only B (g <$> R)
+  pub map-only : {A B : Type 0} (g : A → B) {R : Reader A} → Only A R → Only B (g <$> R)
   unfolding _<$>_
   map-only g h = bind-only (λ a. success (g a)) h (λ a. success-only (g a))
 
@@ -61,24 +61,24 @@ module _ (among : ℕ → Bool) where
   cond-fault true a i t n at h e = fault≢ok (sym e)
   cond-fault false a i t n at h e = fault-among n at h e
 
-  verify-only : {A : Type 0} (p : A → Bool) (n : ℕ) {R : Reader A} → T (among n) → Only A R → Only A (verify p n R)
+  pub verify-only : {A : Type 0} (p : A → Bool) (n : ℕ) {R : Reader A} → T (among n) → Only A R → Only A (verify p n R)
   unfolding verify
   verify-only p n {R} m h = record { only = λ at s f e. after-only (R at s) (λ a i t. cond (p a) (ok a i t) (faultAt n at)) (h .only at s) (λ a i t z. cond-fault (p a) a i t n at m z) e }
 
-  consumed-only : {A : Type 0} {R : Reader A} → Only A R → Only (Consumed A) (consumed R)
+  pub consumed-only : {A : Type 0} {R : Reader A} → Only A R → Only (Consumed A) (consumed R)
   unfolding consumed
   consumed-only {R = R} h = record { only = λ at s f e. after-only (R at s) _ (h .only at s) (λ a i t z. fault≢ok (sym z)) e }
 
-  repeat-only : {A : Type 0} (n : ℕ) {R : Reader A} → Only A R → Only (List A) (repeat n R)
+  pub repeat-only : {A : Type 0} (n : ℕ) {R : Reader A} → Only A R → Only (List A) (repeat n R)
   unfolding repeat
   repeat-only zero h = success-only []
   repeat-only (suc n) h = bind-only _ h (λ a. bind-only _ (repeat-only n h) (λ l. success-only (a ∷ l)))
 
-  cond-only : {A : Type 0} (b : Bool) {R S : Reader A} → Only A R → Only A S → Only A (cond b R S)
+  pub cond-only : {A : Type 0} (b : Bool) {R S : Reader A} → Only A R → Only A S → Only A (cond b R S)
   cond-only true h k = h
   cond-only false h k = k
 
-  number-only : (w : ℕ) → T (among 3) → Only ℕ (number w)
+  pub number-only : (w : ℕ) → T (among 3) → Only ℕ (number w)
   unfolding number bytes
   number-only w h = map-only littleEndian (record { only = λ at s f e. cond-fault (leb w (length s)) _ _ _ 3 at h e })
 
@@ -87,10 +87,10 @@ module _ (among : ℕ → Bool) where
   bytes-only n h = record { only = λ at s f e. cond-fault (leb n (length s)) _ _ _ 3 at h e }
 
 -- 3, 4, 5 and 7: what a value is refused with
-abbrev ofValues : ℕ → Bool
+abbrev pub ofValues : ℕ → Bool
 ofValues n = eqb n 3 || (eqb n 4 || (eqb n 5 || eqb n 7))
 
-str-only : Only ofValues (List ℕ) strParser
+pub str-only : Only ofValues (List ℕ) strParser
 unfolding strParser
 str-only = bind-only ofValues _ (number-only ofValues 4 tt) (λ n. verify-only ofValues utf8 notUtf8 tt (bytes-only ofValues n tt))
 
@@ -98,15 +98,20 @@ word-only : Only ofValues ℕ encodedStrParser
 unfolding encodedStrParser
 word-only = verify-only ofValues spelled zeroDigit tt (map-only ofValues low63 (number-only ofValues 8 tt))
 
+pub id-only : Only ofValues Id idParser
+unfolding idParser
+id-only =
+    bind-only ofValues _ (number-only ofValues 1 tt)
+    (λ n. cond-only ofValues (eqb n 0xff) (map-only ofValues nameless (number-only ofValues 8 tt)) (map-only ofValues named (repeat-only ofValues n word-only)))
+
 element-only : (k : Kind) → Only ofValues _ (elementParser k)
-unfolding elementParser idParser
+unfolding elementParser
 element-only (numbers k) = map-only ofValues (nums k) (repeat-only ofValues (arity k) (number-only ofValues (width k) tt))
 element-only string = map-only ofValues str str-only
 element-only encodedString = map-only ofValues word word-only
-element-only id = map-only ofValues ident (bind-only ofValues _ (number-only ofValues 1 tt)
-    (λ n. cond-only ofValues (eqb n 0xff) (map-only ofValues nameless (number-only ofValues 8 tt)) (map-only ofValues named (repeat-only ofValues n word-only))))
+element-only id = map-only ofValues ident id-only
 
-shape-only : (o : Option Shape) → Only ofValues Value (shapeParser o)
+pub shape-only : (o : Option Shape) → Only ofValues Value (shapeParser o)
 unfolding shapeParser
 shape-only none = fail-only ofValues Value unlistedType tt
 shape-only (some (one k)) = map-only ofValues single (consumed-only ofValues (element-only k))

@@ -1,7 +1,8 @@
--- How long a text can be.
+-- How long a text can be (Bounded), and that no refusal has the number 0 (Refusals).
 pub mod Digits
 pub mod Taken
 pub mod Elements
 pub mod Lines
 pub mod Records
 pub mod Bounded
+pub mod Refusals

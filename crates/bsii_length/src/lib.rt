@@ -1,1 +1,1 @@
-// No text of a file within the length limit is as long as the point where the writers' positions saturate: laws only, in proofs/. There is no code here.
+// How long a text can be, and that no refusal has the number 0: laws only, in proofs/. There is no code here.
