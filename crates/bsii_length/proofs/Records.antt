@@ -14,7 +14,7 @@ use Rattle.bsii_format.specs.File.{Record, prototype, block, Head, ending, defi
 use Rattle.bsii_format.specs.Text.{valueText}
 use Rattle.bsii_format.specs.BlockText.{blockText}
 use Rattle.bsii_format.proofs.Readers.{fault≢ok}
-use Rattle.bsii_length.proofs.Taken.{Takes, after-taken, bind-takes, success-takes, fail-takes, map-takes, weaken, cond-takes, verify-takes, consumed-takes, repeat-takes, Row, nil, cons, Every, every, number-takes, str-takes}
+use Rattle.bsii_length.proofs.Taken.{Takes, after-taken, bind-takes, success-takes, fail-takes, map-takes, weaken, cond-takes, verify-takes, consumed-takes, repeat-takes, Row, nil, cons, Every, each, number-takes, str-takes}
 use Rattle.bsii_length.proofs.Elements.{ShortEnums, id-takes}
 use Rattle.bsii_length.proofs.Lines.{ShortField, values-takes, answered, ShortFields, ShortPrototype, block-size}
 
@@ -32,7 +32,7 @@ enumValue-takes = bind-takes _ (number-takes 4 (omega arith)) (λ c n l p. bind-
 enumValues-takes : (t : ℕ) → Takes (List EnumValue) (enumValuesParser t) (λ l n. ShortEnums l)
 unfolding enumValuesParser
 enumValues-takes t =
-    cond-takes (eqb t 0x37) (bind-takes _ (number-takes 4 (omega arith)) (λ c n l p. weaken (repeat-takes c enumValue-takes) (λ v m z q. every (λ x k h. h) (q .0))))
+    cond-takes (eqb t 0x37) (bind-takes _ (number-takes 4 (omega arith)) (λ c n l p. weaken (repeat-takes c enumValue-takes) (λ v m z q. each (λ x k h. h) (q .0))))
     (success-takes [] nil)
 
 entry-takes : Takes (Option ValuePrototype) valuePrototypeParser (λ o n. Of ShortField o)

@@ -113,9 +113,9 @@ pub data Every (A : Type 0) (P : A → Type 0) : List A → Type 0 where
   nil : Every A P []
   cons : {a : A} {l : List A} → P a → Every A P l → Every A P (a ∷ l)
 
-pub every : {A : Type 0} {P : A → ℕ → Type 0} {Q : A → Type 0} → ((a : A) (n : ℕ) → P a n → Q a) → {l : List A} {n : ℕ} → Row A P l n → Every A Q l
-every h nil = nil
-every h (cons {a = a} {n = n} p q) = cons (h a n p) (every h q)
+pub each : {A : Type 0} {P : A → ℕ → Type 0} {Q : A → Type 0} → ((a : A) (n : ℕ) → P a n → Q a) → {l : List A} {n : ℕ} → Row A P l n → Every A Q l
+each h nil = nil
+each h (cons {a = a} {n = n} p q) = cons (h a n p) (each h q)
 
 -- ---- bytes, numbers, strings
 
