@@ -1,0 +1,70 @@
+// Bytes into a window.
+ghost use mathlib.Core.Path.{_≡_};
+ghost use mathlib.Core.List.{[], _∷_};
+ghost use Prim.Native.Nat.{_≤_, min};
+ghost use lib.ListN.{length};
+ghost use lib.Seq.{sets};
+ghost use Rattle.bsii_window.specs.Window.{capped, Wrote};
+
+pub fn further(at: usize, count: usize) -> usize
+    ensures { λ r. ⌜ r ≡ capped at count ⌝ }
+{
+    if 0xffff_ffff_ffff_ffff - at <= count {
+        return 0xffff_ffff_ffff_ffff;
+    }
+    at + count
+}
+
+pub fn put(out: &mut [u8], at: usize, byte: u8) -> usize
+    ensures { λ r. ⌜ Wrote (now (out .entry)) at (byte ∷ []) r (now (out .exit)) ⌝ }
+{
+    if at < 0x8000_0000_0000_0000 {
+        return further(at, 1);
+    }
+    let index = at - 0x8000_0000_0000_0000;
+    if out.len() <= index {
+        return further(at, 1);
+    }
+    out[index] = byte;
+    further(at, 1)
+}
+
+fn least(a: usize, b: usize) -> usize
+    ensures { λ r. ⌜ r ≡ min a b ⌝ }
+{
+    if a <= b { a } else { b }
+}
+
+// As much of the text as there is room for, from an index on.
+fn store(out: &mut [u8], start: usize, text: &[u8])
+    requires { ⌜ start ≤ length (now out) ⌝ }
+    ensures { λ r. ⌜ now (out .exit) ≡ sets (now (out .entry)) start (now (text .entry)) ⌝ }
+{
+    let count = least(out.len() - start, text.len());
+    let mut i = 0;
+    while i < count {
+        out[start + i] = text[i];
+        i += 1;
+    }
+}
+
+// Nothing is copied where the window ends in front of the text: a name that stands before each of many elements is measured in no time.
+pub fn put_all(out: &mut [u8], at: usize, text: &[u8]) -> usize
+    ensures { λ r. ⌜ Wrote (now (out .entry)) at (now (text .entry)) r (now (out .exit)) ⌝ }
+{
+    let end = further(at, text.len());
+    if end <= 0x8000_0000_0000_0000 {
+        return end;
+    }
+    if at < 0x8000_0000_0000_0000 {
+        let before = 0x8000_0000_0000_0000 - at;
+        store(out, 0, &text[before..]);
+        return end;
+    }
+    let start = at - 0x8000_0000_0000_0000;
+    if out.len() <= start {
+        return end;
+    }
+    store(out, start, text);
+    end
+}
