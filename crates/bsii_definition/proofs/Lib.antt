@@ -1,0 +1,2 @@
+pub mod EnumLaws
+pub mod PairLaws
