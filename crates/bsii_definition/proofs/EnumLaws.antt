@@ -131,10 +131,14 @@ module _ (s : List ℕ) (start count wanted : ℕ) (found : EnumString) (at left
           let q = after-ok (enumValueParser at (drop at s)) _ e in
           let w = after-ok (repeat m enumValueParser (q .1) (q .2)) _ (q .4) in
           let r = moved enumValue-exact s at (q .3) .rest in
-          let one : m ≡ suc m - 1 = omega arith in
-          (q .0, q .1, w .0, q .3 ∙ ap (ok (q .0) (q .1)) r,
-           ap (λ (j : ℕ). repeat j enumValueParser (q .1) (drop (q .1) s)) (sym one) ∙ ap (repeat m enumValueParser (q .1)) (sym r) ∙ w .3 ∙ ap₂ (λ (j : ℕ) (v : List ℕ). ok (w .0) j v) (ok-at (w .4)) (ok-rest (w .4)),
-           sym (ok-val (w .4)))
+          let one : m ≡ suc m - 1 = omega arith in (
+            q .0,
+            q .1,
+            w .0,
+            q .3 ∙ ap (ok (q .0) (q .1)) r,
+            ap (λ (j : ℕ). repeat j enumValueParser (q .1) (drop (q .1) s)) (sym one) ∙ ap (repeat m enumValueParser (q .1)) (sym r) ∙ w .3 ∙ ap₂ (λ (j : ℕ) (v : List ℕ). ok (w .0) j v) (ok-at (w .4)) (ok-rest (w .4)),
+            sym (ok-val (w .4)),
+          )
 
   pub search-broken : 0 < left → PairAt s at NoPair → LastPair s start count wanted Absent
   search-broken h p = record {

@@ -1,4 +1,4 @@
--- A value that is passed without a check has a byte at least, and lies inside the file.
+-- What is passed without a check, an element or a value, has a byte at least, and lies inside the file.
 use mathlib.Core.Path.{_≡_, refl}
 use Prim.Native.Nat.{ℕ, _≤_, _<_}
 use mathlib.Core.Option.{Option, none, some}
@@ -13,7 +13,7 @@ use Rattle.bsii_value.specs.Answers.{endOf, uncheckedStr}
 use Rattle.bsii_value.specs.declared.answers.Parsed.the-variants.{Next}
 use Rattle.bsii_prototype.proofs.Entries.{next-is}
 use Rattle.bsii_past.specs.Unchecked.{skip, uncheckedId, uncheckedElement, uncheckedArray, uncheckedShape, uncheckedValue}
-use Rattle.bsii_past.proofs.Exact.{unchecked-value-exact}
+use Rattle.bsii_past.proofs.Exact.{unchecked-element-exact, unchecked-value-exact}
 
 short : Fault
 short = record { number = malformed; offset = 0 }
@@ -36,6 +36,9 @@ element-none (numbers enum) = refl
 element-none string = refl
 element-none encodedString = refl
 element-none id = refl
+
+pub element-moves : (k : Kind) (s : List ℕ) (at : ℕ) {n : ℕ} → Next n ≡ endOf (uncheckedElement k at (drop at s)) → (at < n) × (n ≤ length s)
+element-moves k s at e = moved-on (unchecked-element-exact k) (element-none k) s at (next-is (uncheckedElement k at (drop at s)) e .2)
 
 shape-none : (o : Option Shape) → (f : Fault) × (uncheckedShape o 0 [] ≡ fault f)
 unfolding uncheckedShape uncheckedArray number bytes _<$>_ _>>=_ after fail short

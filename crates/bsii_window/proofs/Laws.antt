@@ -33,10 +33,10 @@ capped-twice : (a b c : ℕ) → capped (capped a b) c ≡ capped a (b + c)
 capped-twice a b c =
     ⊎-elim
     (λ l. rw (capped-less a b l)
-      (⊎-elim
-      (λ k. capped-less (a + b) c k ∙ let z : a + b + c ≡ a + (b + c) = omega arith in z ∙ sym (capped-less a (b + c) (omega arith)))
-      (λ k. capped-top (a + b) c k ∙ sym (capped-top a (b + c) (omega arith)))
-      (lt-or-le (a + b + c) 0xffff_ffff_ffff_ffff)))
+    (⊎-elim
+    (λ k. capped-less (a + b) c k ∙ let z : a + b + c ≡ a + (b + c) = omega arith in z ∙ sym (capped-less a (b + c) (omega arith)))
+    (λ k. capped-top (a + b) c k ∙ sym (capped-top a (b + c) (omega arith)))
+    (lt-or-le (a + b + c) 0xffff_ffff_ffff_ffff)))
     (λ l. rw (capped-top a b l) (capped-top 0xffff_ffff_ffff_ffff c (omega arith) ∙ sym (capped-top a (b + c) (omega arith))))
     (lt-or-le (a + b) 0xffff_ffff_ffff_ffff)
 
@@ -134,11 +134,11 @@ module _ (l : List ℕ) (at : ℕ) (x y : List ℕ) where
       ⊎-elim
       (λ k. rw (capped-less at (length x) k) behind)
       (λ k.
-        let e = length-written l at x in
-        rw (capped-top at (length x) k)
-        (written-past (written l at x) 0xffff_ffff_ffff_ffff y (omega arith) (omega arith)
-        ∙ sym (written-past (written l at x) (at + length x) y (omega arith) (omega arith))
-        ∙ behind))
+      let e = length-written l at x in
+      rw (capped-top at (length x) k)
+      (written-past (written l at x) 0xffff_ffff_ffff_ffff y (omega arith) (omega arith)
+      ∙ sym (written-past (written l at x) (at + length x) y (omega arith) (omega arith))
+      ∙ behind))
       (lt-or-le (at + length x) 0xffff_ffff_ffff_ffff)
 
 -- ---- writes
@@ -181,11 +181,11 @@ pub enough : (l : List ℕ) (at : ℕ) (text : List ℕ) (n : ℕ) → at ≤ le
 enough l at text n h e =
     ⊎-elim
     (λ k.
-      let z : length (take n text) ≡ n = length-take-le n text (omega arith) in
-      let out : length (sets l at (take n text)) ≤ at + length (take n text) = let q = length-sets l at (take n text) in omega arith in
-      sym (sets-out (sets l at (take n text)) (at + length (take n text)) (drop n text) out)
-      ∙ sets-append l at (take n text) (drop n text)
-      ∙ ap (sets l at) (take-append-drop n text))
+    let z : length (take n text) ≡ n = length-take-le n text (omega arith) in
+    let out : length (sets l at (take n text)) ≤ at + length (take n text) = let q = length-sets l at (take n text) in omega arith in
+    sym (sets-out (sets l at (take n text)) (at + length (take n text)) (drop n text) out)
+    ∙ sets-append l at (take n text) (drop n text)
+    ∙ ap (sets l at) (take-append-drop n text))
     (λ k. ap (sets l at) (take-all n text (omega arith)))
     (lt-or-le (length l - at) (length text))
 

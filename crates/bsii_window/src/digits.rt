@@ -7,7 +7,22 @@ ghost use Rattle.bsii_format.specs.Digits.{digit as digitOf, decimal, hexadecim
 ghost use Rattle.bsii_window.specs.Window.{Wrote};
 
 const DIGITS: [u8; 16] = [
-    48, 49, 50, 51, 52, 53, 54, 55, 56, 57, 97, 98, 99, 100, 101, 102,
+    48,
+    49,
+    50,
+    51,
+    52,
+    53,
+    54,
+    55,
+    56,
+    57,
+    97,
+    98,
+    99,
+    100,
+    101,
+    102,
 ];
 
 fn digit(d: u64) -> u8

@@ -17,7 +17,7 @@ enum-told : tie.Need-enum-told
 enum-told c = search needs
 
 returns : tie.Need-returns
-returns c = 
+returns c =
     let a = c .before .before .before .before .args in
     no-number (now (a .s)) (a .at) (sym (c .before .before .le-u32 .ensures) ∙ ap (numOf (now (a .s))) (c .enum-told .given .1))
 
@@ -31,7 +31,7 @@ enum-told-2 : tie.Need-enum-told-2
 enum-told-2 c = search needs
 
 returns-2 : tie.Need-returns-2
-returns-2 c = 
+returns-2 c =
     let k = c .before .before .before in
     let a = k .before .before .before .before .before .args in
     let e = sym (k .before .before .before .le-u32 .ensures) ∙ ap (numOf (now (a .s))) (k .before .number .given .1) in
@@ -45,7 +45,7 @@ add-t8 c =
     omega (arith, a-pair (now (a .s)) (a .at) e (sym (c .before .end .given .1) ∙ c .before .before .before .str-past .ensures) .inside)
 
 returns-3 : tie.Need-returns-3
-returns-3 c = 
+returns-3 c =
     let k = c .before .before .before .before in
     let a = k .before .before .before .before .before .args in
     let e = sym (k .before .before .before .le-u32 .ensures) ∙ ap (numOf (now (a .s))) (k .before .number .given .1) in

@@ -28,7 +28,7 @@ enum-told : tie.Need-enum-told Inv-loop μ-loop
 enum-told c = search needs
 
 returns : tie.Need-returns Inv-loop μ-loop
-returns c = 
+returns c =
     let l = c .before .before .before .before in
     let a = l .before .before .args in
     let x = l .loop in
@@ -45,7 +45,7 @@ loop-less : tie.Need-loop-less Inv-loop μ-loop
 loop-less c = search needs
 
 loop-again : tie.Need-loop-again Inv-loop μ-loop
-loop-again c = 
+loop-again c =
     let k = c .before in
     let l = k .before .before .before .before .before in
     let a = l .before .before .args in
@@ -55,7 +55,7 @@ loop-again c =
     (subst (PairAt (now (a .s)) (x .at)) (k .before .pair .given .1) (k .before .before .before .enum-pair .ensures)))
 
 returns-2 : tie.Need-returns-2 Inv-loop μ-loop
-returns-2 c = 
+returns-2 c =
     let l = c .before in
     let a = l .before .before .args in
     let x = l .loop in

@@ -25,7 +25,7 @@ enum-told : tie.Need-enum-told Inv-loop μ-loop
 enum-told c = search needs
 
 returns : tie.Need-returns Inv-loop μ-loop
-returns c = 
+returns c =
     let l = c .before .before .before in
     let a = l .before .before .args in
     count-ends (now (a .s)) (a .fields) (a .last-fields) (l .loop .field) (l .loop .last-field) (l .loop .inv)
@@ -35,7 +35,7 @@ enum-told-2 : tie.Need-enum-told-2 Inv-loop μ-loop
 enum-told-2 c = search needs
 
 returns-2 : tie.Need-returns-2 Inv-loop μ-loop
-returns-2 c = 
+returns-2 c =
     let l = c .before .before .before in
     let a = l .before .before .args in
     count-uneven (now (a .s)) (a .fields) (a .last-fields) (l .loop .field) (l .loop .last-field) (l .loop .inv)
@@ -45,14 +45,14 @@ enum-known-pair : tie.Need-enum-known-pair Inv-loop μ-loop
 enum-known-pair c = search needs
 
 loop-less : tie.Need-loop-less Inv-loop μ-loop
-loop-less c = 
+loop-less c =
     let l = c .before .before .before .before in
     let a = l .before .before .args in
     let p = subst (PairOf (now (a .s)) (l .loop .field) (l .loop .last-field)) (c .before .pair .given .1) (c .before .before .before .pair-at .ensures) in
     omega (arith, p .inside)
 
 loop-again : tie.Need-loop-again Inv-loop μ-loop
-loop-again c = 
+loop-again c =
     let l = c .before .before .before .before in
     let a = l .before .before .args in
     count-on (now (a .s)) (a .fields) (a .last-fields) (l .loop .field) (l .loop .last-field) (l .loop .inv)

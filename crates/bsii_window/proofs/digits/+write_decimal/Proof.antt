@@ -70,7 +70,7 @@ write-decimal-returns : (t : ℕ) → write-decimal-lts.Need-returns (
   write-decimal-below t,
   write-decimal.Post,
 ) (write-decimal-at t) write-decimal.Post
-write-decimal-returns t c = 
+write-decimal-returns t c =
     let n = c .before .before .before .before .before .before .before .args .n in
     being (ap (λ (x : ℕ). x ∷ []) (c .before .before .before .digit .ensures) ∙ sym (decimal-one n (omega arith))) (c .before .before .put .ensures)
 
@@ -122,7 +122,7 @@ write-decimal-returns-2 : (t : ℕ) → write-decimal-lts.Need-returns-2 (
   write-decimal-below t,
   write-decimal.Post,
 ) (write-decimal-at t) write-decimal.Post
-write-decimal-returns-2 t c = 
+write-decimal-returns-2 t c =
     let n = c .before .before .before .before .before .before .before .before .before .before .before .args .n in
     being (ap (λ (x : ℕ). decimal (n / 10) ++ (x ∷ [])) (c .before .before .before .digit2 .ensures) ∙ sym (decimal-more n (omega arith))) (then (c .before .before .before .before .before .before .before .write-decimal .ensures) (c .before .before .put2 .ensures))
 

@@ -59,7 +59,7 @@ write-hex-padded-returns : (t : ℕ) → write-hex-padded-lts.Need-returns (
   put-reads.Asked,
   put-reads.Learnt,
 ) (write-hex-padded-at t) write-hex-padded.Post
-write-hex-padded-returns t c = 
+write-hex-padded-returns t c =
     let a = c .before .before .before .args in
     being (sym (padded-none (a .count) (a .n) (c .before .if1 .taken))) (nothing (c .further .ensures) (omega arith))
 
@@ -134,7 +134,7 @@ write-hex-padded-returns-2 : (t : ℕ) → write-hex-padded-lts.Need-returns-2 (
   put-reads.Asked,
   put-reads.Learnt,
 ) (write-hex-padded-at t) write-hex-padded.Post
-write-hex-padded-returns-2 t c = 
+write-hex-padded-returns-2 t c =
     let a = c .before .before .before .before .before .before .before .before .before .before .before .args in
     being (ap (λ (x : ℕ). hexPadded (a .count - 1) (a .n / 16) ++ (x ∷ [])) (c .before .before .before .digit .ensures) ∙ sym (padded-more (a .count) (a .n) (omega arith)))
     (then (c .before .before .before .before .before .before .before .write-hex-padded .ensures) (c .before .before .put .ensures))

@@ -13,7 +13,7 @@ further-requires : tie.Need-further-requires
 further-requires c κs = search needs
 
 returns : tie.Need-returns
-returns c = 
+returns c =
     let a = c .before .before .before .before .args in
     record { next = c .before .further .ensures; window = sym (written-none (now (a .out)) (a .at) (now (a .text)) (capped-low (a .at) (length (now (a .text))) (omega (arith, c .before .further .ensures)))); room = omega arith }
 
@@ -36,12 +36,12 @@ same-length : tie.Need-same-length
 same-length c = search needs
 
 returns-2 : tie.Need-returns-2
-returns-2 c = 
+returns-2 c =
     let a = c .before .before .before .before .before .before .before .before .before .before .args in
     record { next = c .before .before .before .before .before .before .before .further .ensures; window = c .before .before .store .ensures ∙ ap (sets (now (a .out)) 0) (rest (0x8000_0000_0000_0000 - a .at) (now (a .text))) ∙ sym (written-before (now (a .out)) (a .at) (now (a .text)) (omega arith)); room = omega arith }
 
 returns-3 : tie.Need-returns-3
-returns-3 c = 
+returns-3 c =
     let a = c .before .before .before .before .before .before .args in
     record { next = c .before .before .before .further .ensures; window = sym (written-past (now (a .out)) (a .at) (now (a .text)) (omega arith) (omega arith)); room = omega arith }
 
@@ -52,7 +52,7 @@ same-length-2 : tie.Need-same-length-2
 same-length-2 c = search needs
 
 returns-4 : tie.Need-returns-4
-returns-4 c = 
+returns-4 c =
     let a = c .before .before .before .before .before .before .before .before .before .before .args in
     record { next = c .before .before .before .before .before .before .before .further .ensures; window = c .before .before .store2 .ensures ∙ sym (written-in (now (a .out)) (a .at) (now (a .text)) (omega arith)); room = omega arith }
 

@@ -42,7 +42,7 @@ loop-less : tie.Need-loop-less Inv-loop μ-loop
 loop-less c = search needs
 
 loop-again : tie.Need-loop-again Inv-loop μ-loop
-loop-again c = 
+loop-again c =
     let a = c .before .before .before .before .before .before .args in
     let i = c .before .before .loop .i in
     let inv = c .before .before .loop .inv in
@@ -53,7 +53,7 @@ same-length : tie.Need-same-length Inv-loop μ-loop
 same-length c = search needs
 
 returns : tie.Need-returns Inv-loop μ-loop
-returns c = 
+returns c =
     let a = c .before .before .before .before .before .args in
     let inv = c .before .loop .inv in
     inv .4 ∙ enough (now (a .out)) (a .start) (now (a .text)) (c .before .loop .i) (c .before .before .before .before .before .pre) (omega arith)

@@ -1,0 +1,2 @@
+-- What is written for a value that was accepted.
+pub mod Lines

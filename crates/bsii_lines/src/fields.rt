@@ -1,0 +1,170 @@
+// Fields.
+use crate::elements::Scalar;
+use crate::elements::write_scalar_data_value;
+use bsii_definition::pairs::Definition;
+use bsii_past::element_past;
+use bsii_value::answers::Num;
+use bsii_value::answers::Parsed;
+use bsii_value::numbers::le_u32;
+use bsii_value::types::Kind;
+use bsii_value::types::Shape;
+use bsii_value::types::shape_of;
+use bsii_window::digits::write_decimal;
+use bsii_window::window::put;
+use bsii_window::window::put_all;
+ghost use mathlib.Core.List.{_++_};
+ghost use Prim.Native.Nat.{_-_, _≤_};
+ghost use lib.ListN.{length, take, drop};
+ghost use Rattle.bsii_format.specs.Ascii.{ascii};
+ghost use Rattle.bsii_format.specs.Text.{indexed};
+ghost use Rattle.bsii_window.specs.Window.{Wrote};
+ghost use Rattle.bsii_lines.specs.Lines.{nameOf, InFile, RestWritten, ElementWritten, VectorWritten, ArrayWritten, FieldWritten};
+ghost use Rattle.bsii_value.specs.Kinds.{kindIs};
+
+// The offset behind the value, and the position behind its text; or an enum value that is not in its list.
+pub enum Lines {
+    Next { at: usize, to: usize },
+    NotInList,
+}
+
+// `  NAME`
+fn write_name(out: &mut [u8], to: usize, s: &[u8], d: Definition) -> usize
+    requires { ⌜ InFile (now s) d ⌝ }
+    ensures { λ r. ⌜ Wrote (now (out .entry)) to (ascii "  " ++ nameOf (now (s .entry)) d) r (now (out .exit)) ⌝ }
+{
+    let next = put_all(out, to, b"  ");
+    let name = d.name;
+    let name_end = d.name_end;
+    put_all(out, next, &s[name..name_end])
+}
+
+// `  NAME: `
+fn write_opening(out: &mut [u8], to: usize, s: &[u8], d: Definition) -> usize
+    requires { ⌜ InFile (now s) d ⌝ }
+    ensures { λ r. ⌜ Wrote (now (out .entry)) to (ascii "  " ++ nameOf (now (s .entry)) d ++ ascii ": ") r (now (out .exit)) ⌝ }
+{
+    let next = write_name(out, to, s, d);
+    put_all(out, next, b": ")
+}
+
+// `  NAME[i]: `
+fn write_index(out: &mut [u8], to: usize, s: &[u8], d: Definition, i: u32) -> usize
+    requires { ⌜ InFile (now s) d ⌝ }
+    ensures { λ r. ⌜ Wrote (now (out .entry)) to (ascii "  " ++ indexed (nameOf (now (s .entry)) d) i ++ ascii ": ") r (now (out .exit)) ⌝ }
+{
+    let next = write_name(out, to, s, d);
+    let open = put(out, next, 91);
+    let close = write_decimal(out, open, i as u64);
+    put_all(out, close, b"]: ")
+}
+
+// The element at an offset, and the end of its line.
+fn write_rest(out: &mut [u8], to: usize, s: &[u8], at: usize, kind: Kind, d: Definition) -> Lines
+    ensures { λ r. ⌜ RestWritten (now (s .entry)) at (kindIs kind) d (now (out .entry)) to r (now (out .exit)) ⌝ }
+{
+    let end = element_past(s, at, kind);
+    match end {
+        Parsed::Fault {
+            number: _,
+            offset: _,
+        } => return Lines::NotInList,
+        Parsed::Next(next) => {
+            let scalar = write_scalar_data_value(out, to, &s[at..next], kind, s, d);
+            match scalar {
+                Scalar::NotInList => return Lines::NotInList,
+                Scalar::To(line_end) => {
+                    return Lines::Next {
+                        at: next,
+                        to: put(out, line_end, 10),
+                    };
+                }
+            }
+        }
+    }
+}
+
+fn write_element(
+    out: &mut [u8],
+    to: usize,
+    s: &[u8],
+    at: usize,
+    kind: Kind,
+    d: Definition,
+    i: u32,
+) -> Lines
+    requires { ⌜ InFile (now s) d ⌝ }
+    ensures { λ r. ⌜ ElementWritten (now (s .entry)) at (kindIs kind) d i (now (out .entry)) to r (now (out .exit)) ⌝ }
+{
+    let next = write_index(out, to, s, d, i);
+    write_rest(out, next, s, at, kind, d)
+}
+
+// So many elements, the first one at an offset.
+fn write_vector_data_value(
+    out: &mut [u8],
+    to: usize,
+    s: &[u8],
+    start: usize,
+    kind: Kind,
+    d: Definition,
+    count: u32,
+) -> Lines
+    requires { ⌜ InFile (now s) d ⌝ }
+    ensures { λ r. ⌜ VectorWritten (now (s .entry)) start (kindIs kind) d count (now (out .entry)) to r (now (out .exit)) ⌝ }
+{
+    let mut at = start;
+    let mut here = to;
+    let mut i: u32 = 0;
+    while i < count {
+        let line = write_element(out, here, s, at, kind, d, i);
+        match line {
+            Lines::NotInList => return Lines::NotInList,
+            Lines::Next { at: next, to: end } => {
+                at = next;
+                here = end;
+            }
+        }
+        i += 1;
+    }
+    Lines::Next { at, to: here }
+}
+
+// The line of an array's count, and those of its elements.
+fn write_array(out: &mut [u8], to: usize, s: &[u8], at: usize, kind: Kind, d: Definition) -> Lines
+    requires { ⌜ InFile (now s) d ⌝ }
+    ensures { λ r. ⌜ ArrayWritten (now (s .entry)) at (kindIs kind) d (now (out .entry)) to r (now (out .exit)) ⌝ }
+{
+    let count = le_u32(s, at);
+    match count {
+        Num::Short(_) => return Lines::NotInList,
+        Num::Got(n, first) => {
+            let next = write_opening(out, to, s, d);
+            let line_end = write_decimal(out, next, n as u64);
+            let lines = put(out, line_end, 10);
+            return write_vector_data_value(out, lines, s, first, kind, d, n);
+        }
+    }
+}
+
+// The value at an offset, of the type in force, under the last definition of its field.
+pub fn write_field(
+    out: &mut [u8],
+    to: usize,
+    s: &[u8],
+    at: usize,
+    type_id: u32,
+    d: Definition,
+) -> Lines
+    requires { ⌜ InFile (now s) d ⌝ }
+    ensures { λ r. ⌜ FieldWritten (now (s .entry)) at «type_id» d (now (out .entry)) to r (now (out .exit)) ⌝ }
+{
+    let shape = shape_of(type_id);
+    match shape {
+        Shape::Unlisted => return Lines::NotInList,
+        Shape::One(kind) => {
+            let next = write_opening(out, to, s, d);
+            return write_rest(out, next, s, at, kind, d);
+        }
+        Shape::Many(kind) => return write_array(out, to, s, at, kind, d),
+    }
+}

@@ -1,0 +1,2 @@
+pub mod NumericLaws
+pub mod TextLaws

@@ -1,0 +1,15 @@
+-- The text of an accepted element that is numbers. That of an enum is found elsewhere: nothing is said of it here.
+use Prim.Native.Nat.{ℕ}
+use mathlib.Core.Path.{_≡_}
+use mathlib.Core.Option.{some}
+use mathlib.Core.List.{List, []}
+use lib.ListN.{length}
+use Rattle.bsii_format.specs.Reader.{ok}
+use Rattle.bsii_format.specs.Types.{Numeric, numbers}
+use Rattle.bsii_format.specs.Values.{Element, elementParser}
+use Rattle.bsii_format.specs.Text.{elementText}
+use Rattle.bsii_window.specs.Window.{Wrote}
+
+pub record NumericWritten (k : Numeric) (raw old : List ℕ) (at r : ℕ) (new : List ℕ) : Type 0 where
+  pub writes : (e : Element) (n : ℕ) (t : List ℕ) → elementParser (numbers k) 0 raw ≡ ok e n t → (x : List ℕ) → elementText [] e ≡ some x → Wrote old at x r new
+  pub size : length new ≡ length old

@@ -1,0 +1,135 @@
+-- An accepted id's text, by the numbers that stand in its bytes.
+use Prim.Native.Nat.{ℕ, zero, suc, _+_, _-_, _/_, _%_, _<_, _≤_}
+use mathlib.Core.Path.{_≡_, refl, sym, ap, ap₂, _∙_}
+use mathlib.Core.Bool.{Bool, true, false, cond}
+use mathlib.Core.List.{List, [], _++_, append-assoc}
+use native.Mathlib.Omega.{arith}
+use lib.ListN.{drop}
+use lib.Dec.{eqb}
+use borrow.Author.Tests.{eq-eqb, ne-eqb, lt-ltb, le-ltb}
+use Rattle.bsii_format.specs.Ascii.{ascii}
+use Rattle.bsii_format.specs.Reader.{ok, verify, success, repeat, _>>=_, _<$>_}
+use Rattle.bsii_format.specs.Numbers.{number, leU64}
+use Rattle.bsii_format.specs.Strings.{low63, spelled, characters, encodedStrParser, Id, nameless, named, idParser}
+use Rattle.bsii_format.specs.Digits.{hexadecimal, hexPadded}
+use Rattle.bsii_format.specs.Text.{groups, dotted, idText}
+use Rattle.bsii_format.proofs.Readers.{after-ok, map-ok, cond-ok, is-true, ok-val, ok-at, ok-rest}
+use Rattle.bsii_float.specs.NumbersAt.{numberAt}
+use Rattle.bsii_float.proofs.NumbersAt.{split, number-is, number-moves}
+use Rattle.bsii_write.specs.Words.{spelling}
+use Rattle.bsii_window.specs.Window.{Wrote}
+use Rattle.bsii_window.proofs.Laws.{being, same}
+use Rattle.bsii_write.specs.Ids.{wordAt, dottedAt, IdWritten}
+use Rattle.bsii_write.proofs.WordLaws.{characters-spelling}
+
+-- ---- groups of 16 bits
+
+pub groups-last : (k n : ℕ) → k ≡ 0 → groups k n ≡ ascii "." ++ hexadecimal n
+unfolding groups
+groups-last k n e = ap (λ (k : ℕ). groups k n) e
+
+pub groups-small : (k n : ℕ) → n < 0x1_0000 → groups k n ≡ ascii "." ++ hexadecimal n
+unfolding groups
+groups-small zero n h = refl
+groups-small (suc k) n h = ap (λ (b : Bool). cond b (ascii "." ++ hexadecimal n) (groups k (n / 0x1_0000) ++ ascii "." ++ hexPadded 4 (n % 0x1_0000))) (lt-ltb n 0x1_0000 h)
+
+pub groups-more : (k n : ℕ) → 0 < k → 0x1_0000 ≤ n → groups k n ≡ groups (k - 1) (n / 0x1_0000) ++ (ascii "." ++ hexPadded 4 (n % 0x1_0000))
+unfolding groups
+groups-more zero n p h = absurd (omega arith)
+groups-more (suc k) n p h =
+    let z : k ≡ suc k - 1 = omega arith in
+    ap (λ (b : Bool). cond b (ascii "." ++ hexadecimal n) (groups k (n / 0x1_0000) ++ ascii "." ++ hexPadded 4 (n % 0x1_0000))) (le-ltb n 0x1_0000 h)
+    ∙ append-assoc (groups k (n / 0x1_0000)) (ascii ".") (hexPadded 4 (n % 0x1_0000))
+    ∙ ap (λ (j : ℕ). groups j (n / 0x1_0000) ++ (ascii "." ++ hexPadded 4 (n % 0x1_0000))) z
+
+-- ---- words
+
+-- what an accepted word at a place is
+record Word (s : List ℕ) (at w e : ℕ) (r : List ℕ) : Type 0 where
+  pub text : characters w ≡ wordAt s at
+  pub moved : e ≡ at + 8
+  pub rest : r ≡ drop (at + 8) s
+
+word-at : (s : List ℕ) (at w e : ℕ) (r : List ℕ) → encodedStrParser at (drop at s) ≡ ok w e r → Word s at w e r
+unfolding encodedStrParser verify wordAt
+word-at s at w e r h =
+    let q = after-ok ((low63 <$> leU64) at (drop at s)) _ h in
+    let v = cond-ok (spelled (q .0)) (ok (q .0) (q .1) (q .2)) _ (q .4) in
+    let u = map-ok low63 leU64 at (drop at s) (q .3) in
+    let m = number-moves 8 s at (u .2) in
+    let z : q .0 ≡ w = ok-val (v .1) in
+    record {
+      text = ap characters (sym z) ∙ characters-spelling (q .0) (is-true (spelled (q .0)) (v .0)) ∙ ap spelling (sym (u .1) ∙ ap low63 (sym (number-is 8 s at (u .2))));
+      moved = sym (ok-at (v .1)) ∙ m .0;
+      rest = sym (ok-rest (v .1)) ∙ m .1;
+    }
+
+dotted-at : (n : ℕ) (s : List ℕ) (at : ℕ) {l : List ℕ} {e : ℕ} {r : List ℕ} → repeat n encodedStrParser at (drop at s) ≡ ok l e r → dotted l ≡ dottedAt n s at
+unfolding repeat success dotted dottedAt
+dotted-at zero s at h = ap dotted (sym (ok-val h))
+dotted-at (suc n) s at h =
+    let p = split n encodedStrParser at (drop at s) h in
+    let w = word-at s at (p .first) (p .next) (p .rest) (p .front) in
+    ap dotted (sym (p .whole))
+    ∙ ap₂ (λ (x y : List ℕ). ascii "." ++ x ++ y) (w .text)
+    (dotted-at n s (at + 8) (ap₂ (λ (i : ℕ) (t : List ℕ). repeat n encodedStrParser i t) (sym (w .moved)) (sym (w .rest)) ∙ p .back))
+
+pub dotted-more : (n : ℕ) (s : List ℕ) (at : ℕ) → 0 < n → dottedAt n s at ≡ ascii "." ++ wordAt s at ++ dottedAt (n - 1) s (at + 8)
+unfolding dottedAt
+dotted-more zero s at h = absurd (omega arith)
+dotted-more (suc n) s at h = let z : n ≡ suc n - 1 = omega arith in ap (λ (k : ℕ). ascii "." ++ wordAt s at ++ dottedAt k s (at + 8)) z
+
+pub dotted-none : (n : ℕ) (s : List ℕ) (at : ℕ) → n ≤ 0 → dottedAt n s at ≡ []
+unfolding dottedAt
+dotted-none zero s at h = refl
+dotted-none (suc n) s at h = absurd (omega arith)
+
+-- ---- ids
+
+module _ (s : List ℕ) (i : Id) (n : ℕ) (t : List ℕ) (h : idParser 0 s ≡ ok i n t) where
+  body : (b : Bool) → eqb (numberAt 1 s 0) 0xff ≡ b → cond b (nameless <$> leU64) (named <$> repeat (numberAt 1 s 0) encodedStrParser) 1 (drop 1 s) ≡ ok i n t
+  unfolding idParser _>>=_
+  body b e =
+      let q = after-ok (number 1 0 s) (λ (n : ℕ). cond (eqb n 0xff) (nameless <$> leU64) (named <$> repeat n encodedStrParser)) h in
+      let m = number-moves 1 s 0 (q .3) in
+      let v = number-is 1 s 0 (q .3) in
+      ap (λ (b : Bool). cond b (nameless <$> leU64) (named <$> repeat (numberAt 1 s 0) encodedStrParser) 1 (drop 1 s)) (sym e)
+      ∙ ap (λ (n : ℕ). cond (eqb n 0xff) (nameless <$> leU64) (named <$> repeat n encodedStrParser) 1 (drop 1 s)) v
+      ∙ ap₂ (λ (j : ℕ) (r : List ℕ). cond (eqb (q .0) 0xff) (nameless <$> leU64) (named <$> repeat (q .0) encodedStrParser) j r) (sym (m .0)) (sym (m .1))
+      ∙ q .4
+
+  pub nameless-text : numberAt 1 s 0 ≡ 0xff → idText (nameless (numberAt 8 s 1)) ≡ idText i
+  nameless-text e =
+      let u = map-ok nameless leU64 1 (drop 1 s) (body true (eq-eqb (numberAt 1 s 0) 0xff e)) in
+      ap idText (ap nameless (number-is 8 s 1 (u .2)) ∙ u .1)
+
+  words : (k : ℕ) → numberAt 1 s 0 ≡ k → (k ≡ 0xff → ⊥) → (l : List ℕ) × (named l ≡ i) × (repeat k encodedStrParser 1 (drop 1 s) ≡ ok l n t)
+  words k z e =
+      let u = map-ok named (repeat (numberAt 1 s 0) encodedStrParser) 1 (drop 1 s) (body false (ne-eqb (numberAt 1 s 0) 0xff (λ (x : numberAt 1 s 0 ≡ 0xff). e (sym z ∙ x)))) in
+      (u .0, u .1, ap (λ (k : ℕ). repeat k encodedStrParser 1 (drop 1 s)) (sym z) ∙ u .2)
+
+  pub null-text : numberAt 1 s 0 ≡ 0 → ascii "null" ≡ idText i
+  unfolding repeat success idText
+  null-text e =
+      let u = words 0 e (λ (x : 0 ≡ 0xff). omega arith) in
+      ap idText (ap named (ok-val (u .2)) ∙ u .1)
+
+  named-by : (k : ℕ) → numberAt 1 s 0 ≡ suc k → (suc k ≡ 0xff → ⊥) → wordAt s 1 ++ dottedAt k s 9 ≡ idText i
+  unfolding idText
+  named-by k z e =
+      let u = words (suc k) z e in
+      let p = split k encodedStrParser 1 (drop 1 s) (u .2) in
+      let w = word-at s 1 (p .first) (p .next) (p .rest) (p .front) in
+      ap₂ (λ (x y : List ℕ). x ++ y) (sym (w .text))
+      (sym (dotted-at k s 9 (ap₂ (λ (i : ℕ) (t : List ℕ). repeat k encodedStrParser i t) (sym (w .moved)) (sym (w .rest)) ∙ p .back)))
+      ∙ ap idText (ap named (p .whole) ∙ u .1)
+
+  pub named-text : (v : ℕ) → numberAt 1 s 0 ≡ v → (v ≡ 0xff → ⊥) → (v ≡ 0 → ⊥) → wordAt s 1 ++ dottedAt (v - 1) s 9 ≡ idText i
+  named-text v z e o =
+      let y : v ≡ suc (v - 1) = omega (arith, o) in
+      named-by (v - 1) (z ∙ y) (λ (x : suc (v - 1) ≡ 0xff). e (y ∙ x))
+
+-- a text that an accepted id has
+pub written : {raw old new x : List ℕ} {at r : ℕ}
+    → ((i : Id) (n : ℕ) (t : List ℕ) → idParser 0 raw ≡ ok i n t → x ≡ idText i) → Wrote old at x r new → IdWritten raw old at r new
+written f w = record { writes = λ i n t h. being (f i n t h) w; size = same w }

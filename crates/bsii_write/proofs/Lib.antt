@@ -1,0 +1,4 @@
+pub mod IdLaws
+pub mod NumberLaws
+pub mod RunLaws
+pub mod WordLaws
