@@ -1,0 +1,104 @@
+//! What the Rust says about a file.
+
+use oracle::{BsiiFile, DataBlock, DataValue, Fault};
+
+/// The names that are looked up in one file.
+const NAMES: usize = 2;
+
+/// `reply` is 0 or a number of document 01. From 1 to 7 all else is empty, with 8 and 9 the text.
+#[derive(Default)]
+pub struct Answer {
+    pub reply: u32,
+    pub prototypes: usize,
+    pub blocks: usize,
+    pub text: String,
+    pub look_ups: Vec<LookUp>,
+}
+
+/// The numbers of the blocks under a prototype name.
+pub struct LookUp {
+    pub name: String,
+    pub numbers: Vec<usize>,
+}
+
+/// None where the answer is not the same in every build of the Rust, or not comparable: see
+/// `crates/replay/README.md`, "What is left out".
+pub fn answer(file: &[u8]) -> Option<Answer> {
+    let short_header = file.starts_with(b"BSII") && file.len() < 8;
+    let reserved = oracle::huge_requests();
+    let parsed = oracle::parse(file);
+    if short_header || oracle::huge_requests() > reserved {
+        return None;
+    }
+    let parsed = match parsed {
+        Ok(parsed) => parsed,
+        Err(fault) => {
+            return number(&fault).map(|reply| Answer {
+                reply,
+                ..Answer::default()
+            })
+        }
+    };
+    let values = parsed.data_blocks.iter().flat_map(|block| &block.data);
+    if values
+        .flat_map(placements)
+        .any(|(f1, f3)| f1.is_nan() || f3.is_nan())
+    {
+        return None;
+    }
+    let (reply, text) = match oracle::to_siin(&parsed) {
+        Ok(text) => (0, text),
+        Err(fault) => (number(&fault)?, String::new()),
+    };
+    Some(Answer {
+        reply,
+        prototypes: parsed.prototypes.len(),
+        blocks: parsed.data_blocks.len(),
+        text,
+        look_ups: look_ups(&parsed),
+    })
+}
+
+fn number(fault: &Fault) -> Option<u32> {
+    match fault {
+        Fault::Number(number) => Some(*number),
+        Fault::Unknown(_) => None,
+    }
+}
+
+/// f1 and f3 of a value's placements.
+fn placements(value: &DataValue<'_>) -> Vec<(f32, f32)> {
+    match value {
+        DataValue::FloatVec8(p) => vec![(p.0, p.2)],
+        DataValue::FloatVec8Array(all) => all.iter().map(|p| (p.0, p.2)).collect(),
+        _ => Vec::new(),
+    }
+}
+
+/// Names that have blocks come first.
+fn look_ups(parsed: &BsiiFile<'_>) -> Vec<LookUp> {
+    let mut ids: Vec<u32> = parsed.data_blocks.iter().map(|b| b.prototype_id).collect();
+    let mut others: Vec<u32> = parsed.prototypes.keys().copied().collect();
+    others.sort();
+    ids.extend(others);
+    let mut found: Vec<LookUp> = Vec::new();
+    for id in ids {
+        let name = parsed.prototypes[&id].name;
+        if found.len() < NAMES && found.iter().all(|one| one.name != name) {
+            let numbers = numbers(parsed, name);
+            let name = name.to_string();
+            found.push(LookUp { name, numbers });
+        }
+    }
+    found
+}
+
+/// The numbers of the blocks that the Rust gives for a name, by their addresses.
+fn numbers(parsed: &BsiiFile<'_>, name: &str) -> Vec<usize> {
+    let first = parsed.data_blocks.as_ptr() as usize;
+    let size = std::mem::size_of::<DataBlock<'_>>();
+    parsed
+        .blocks_by_prototype_name(name)
+        .map(|block| (block as *const _ as usize - first) / size)
+        .collect()
+}

@@ -1,0 +1,80 @@
+//! The bytes of files made by hand.
+
+pub fn string(bytes: &[u8]) -> Vec<u8> {
+    [&(bytes.len() as u32).to_le_bytes(), bytes].concat()
+}
+
+pub fn definition(type_id: u32, name: &[u8]) -> Vec<u8> {
+    [type_id.to_le_bytes().to_vec(), string(name)].concat()
+}
+
+/// The definition of an enum with its list.
+pub fn choice(name: &[u8], pairs: &[(u32, &[u8])]) -> Vec<u8> {
+    let mut bytes = definition(0x37, name);
+    bytes.extend((pairs.len() as u32).to_le_bytes());
+    for (number, text) in pairs {
+        bytes.extend(number.to_le_bytes());
+        bytes.extend(string(text));
+    }
+    bytes
+}
+
+pub fn prototype(id: u32, name: &[u8], definitions: &[Vec<u8>]) -> Vec<u8> {
+    let mut record = vec![0, 0, 0, 0, 1];
+    record.extend(id.to_le_bytes());
+    record.extend(string(name));
+    record.extend(definitions.concat());
+    record.extend([0; 4]);
+    record
+}
+
+/// A block with an id without words.
+pub fn block(id: u32, values: &[u8]) -> Vec<u8> {
+    [&id.to_le_bytes(), [0].as_slice(), values].concat()
+}
+
+pub fn file(records: &[Vec<u8>]) -> Vec<u8> {
+    [b"BSII\x02\0\0\0".as_slice(), &records.concat(), &[0; 5]].concat()
+}
+
+/// One field `f` of one prototype `p`, and one block.
+pub fn one_value(type_id: u32, value: &[u8]) -> Vec<u8> {
+    let definitions = match type_id {
+        0x37 => choice(b"f", &[(0, b"zero"), (7, b"seven up"), (9, b"")]),
+        _ => definition(type_id, b"f"),
+    };
+    file(&[prototype(1, b"p", &[definitions]), block(1, value)])
+}
+
+pub fn array(elements: &[Vec<u8>]) -> Vec<u8> {
+    [
+        (elements.len() as u32).to_le_bytes().to_vec(),
+        elements.concat(),
+    ]
+    .concat()
+}
+
+pub fn floats(bits: &[u32]) -> Vec<u8> {
+    bits.iter().flat_map(|bits| bits.to_le_bytes()).collect()
+}
+
+pub fn named(words: &[u64]) -> Vec<u8> {
+    let words_bytes = words.iter().flat_map(|word| word.to_le_bytes());
+    [words.len() as u8].into_iter().chain(words_bytes).collect()
+}
+
+pub fn nameless(number: u64) -> Vec<u8> {
+    [&[0xff], number.to_le_bytes().as_slice()].concat()
+}
+
+/// The word that is shown as these characters.
+pub fn word(text: &[u8]) -> u64 {
+    let digit = |byte: &u8| match byte {
+        b'0'..=b'9' => byte - b'0' + 1,
+        b'a'..=b'z' => byte - b'a' + 11,
+        _ => 37,
+    };
+    text.iter()
+        .rev()
+        .fold(0, |word, byte| word * 38 + digit(byte) as u64)
+}

@@ -1,0 +1,20 @@
+//! The stored list is what `examples/record.rs` writes, and holds every reply of the Rust's.
+//!
+//! One test, since the Rust's huge requests are counted for the whole process.
+
+use std::collections::BTreeSet;
+
+#[test]
+fn stored_list() {
+    let stored = concat!(env!("CARGO_MANIFEST_DIR"), "/../../crates/replay/stdin");
+    let entries = record::entries();
+    let made = record::list(&entries);
+    let found = std::fs::read(stored).unwrap_or_default();
+    assert!(
+        found == made,
+        "run: cargo run --release --offline --example record -- {stored}"
+    );
+    let replies: BTreeSet<u32> = entries.iter().map(|entry| entry.answer.reply).collect();
+    assert!(replies.into_iter().eq(0..=9));
+    assert!(made.len() <= 200_000);
+}
