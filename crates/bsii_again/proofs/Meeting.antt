@@ -104,32 +104,32 @@ module _ (s : List ℕ) (idAt : ℕ) (t : List ℕ) (rows id : ℕ) {f : Found} 
 
 -- ---- any record
 
-ends≢defines : {P : Type 0} {a : ℕ} → _≡_ {A = Kind} Ends (Defines a) → P
+pub ends≢defines : {P : Type 0} {a : ℕ} → _≡_ {A = Kind} Ends (Defines a) → P
 ends≢defines e = let z : _≡_ {A = ℕ} 0 1 = cc in let f : ⊥ = omega arith in absurd f
 
-ends≢carries : {P : Type 0} {a b : ℕ} → _≡_ {A = Kind} Ends (Carries a b) → P
+pub ends≢carries : {P : Type 0} {a b : ℕ} → _≡_ {A = Kind} Ends (Carries a b) → P
 ends≢carries e = let z : _≡_ {A = ℕ} 0 1 = cc in let f : ⊥ = omega arith in absurd f
 
-defines≢carries : {P : Type 0} {a b c : ℕ} → _≡_ {A = Kind} (Defines a) (Carries b c) → P
+pub defines≢carries : {P : Type 0} {a b c : ℕ} → _≡_ {A = Kind} (Defines a) (Carries b c) → P
 defines≢carries e = let z : _≡_ {A = ℕ} 0 1 = cc in let f : ⊥ = omega arith in absurd f
 
-defines-is : {a b : ℕ} → _≡_ {A = Kind} (Defines a) (Defines b) → a ≡ b
+pub defines-is : {a b : ℕ} → _≡_ {A = Kind} (Defines a) (Defines b) → a ≡ b
 defines-is e = cc
 
-carries-id : {a b c d : ℕ} → _≡_ {A = Kind} (Carries a b) (Carries c d) → a ≡ c
+pub carries-id : {a b c d : ℕ} → _≡_ {A = Kind} (Carries a b) (Carries c d) → a ≡ c
 carries-id e = cc
 
-carries-next : {a b c d : ℕ} → _≡_ {A = Kind} (Carries a b) (Carries c d) → b ≡ d
+pub carries-next : {a b c d : ℕ} → _≡_ {A = Kind} (Carries a b) (Carries c d) → b ≡ d
 carries-next e = cc
 
 module _ (s : List ℕ) (at : ℕ) (t : List ℕ) (rows : ℕ) {k : Kind} (e : KindAt s at k) where
-  is-prototype : (env : List Prototype) (p : Prototype) (n : ℕ) → recordParser env at (drop at s) ≡ ok (more (prototype p)) n (drop n s) → k ≡ Defines (p .id)
+  pub is-prototype : (env : List Prototype) (p : Prototype) (n : ℕ) → recordParser env at (drop at s) ≡ ok (more (prototype p)) n (drop n s) → k ≡ Defines (p .id)
   is-prototype env p n h = let x = stands env s at n p h in e .is _ _ _ (x .0 .head)
 
-  is-block : (env : List Prototype) (b : DataBlock) (n : ℕ) → recordParser env at (drop at s) ≡ ok (more (block b)) n (drop n s) → k ≡ Carries (b .prototypeId) (at + length (b .head))
+  pub is-block : (env : List Prototype) (b : DataBlock) (n : ℕ) → recordParser env at (drop at s) ≡ ok (more (block b)) n (drop n s) → k ≡ Carries (b .prototypeId) (at + length (b .head))
   is-block env b n h = e .is _ _ _ (block-parts env s at n b h .head)
 
-  is-end : (env : List Prototype) (l : List ℕ) (n : ℕ) (u : List ℕ) → recordParser env at (drop at s) ≡ ok (end l) n u → k ≡ Ends
+  pub is-end : (env : List Prototype) (l : List ℕ) (n : ℕ) (u : List ℕ) → recordParser env at (drop at s) ≡ ok (end l) n u → k ≡ Ends
   is-end env l n u h = e .is _ _ _ (end-head env s at n l u h .2)
 
   pub again-end : k ≡ Ends → RecordAgain s at t rows Nothing t

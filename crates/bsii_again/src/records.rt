@@ -129,7 +129,7 @@ fn word(x: usize) -> u32
 }
 
 // A prototype is in force from here on.
-fn prototype_again(s: &[u8], at: usize, table: &mut [u32], rows: usize, id: u32) -> Met
+pub fn prototype_again(s: &[u8], at: usize, table: &mut [u32], rows: usize, id: u32) -> Met
     requires { ⌜ (length (now s) ≤ 16_777_216) × (at ≤ length (now s)) × Rows (now table) rows ⌝ }
     ensures { λ r. ⌜ PrototypeAgain (now (s .entry)) at (now (table .entry)) rows id r (now (table .exit)) ⌝ }
 {

@@ -23,7 +23,7 @@ use Rattle.bsii_prototype.specs.Entries.{enumValuesWith}
 use Rattle.bsii_prototype.proofs.Agrees.{checked-enum-value, checked-enum-values}
 use Rattle.bsii_prototype.proofs.Names.{checked, unchecked, named}
 use Rattle.bsii_prototype.proofs.Entries.{next-is, list-none, list-short, list-more}
-use Rattle.bsii_definition.specs.Enums.{stringIs, Inside, PairAt, later, LastPair, StringOf}
+use Rattle.bsii_definition.specs.Enums.{stringIs, StringInside, PairAt, later, LastPair, StringOf}
 use Rattle.bsii_definition.specs.declared.enums.EnumString.{EnumString}
 use Rattle.bsii_definition.specs.declared.enums.EnumString.the-variants.{Text, Absent}
 use Rattle.bsii_definition.specs.declared.enums.EnumPair.the-variants.{Pair, NoPair}
@@ -87,7 +87,7 @@ unfolding firstSome
 first-cond s true found start end v e = ap some e
 first-cond s false found start end v e = refl
 
-inside-cond : (s : List ℕ) (b : Bool) (found : EnumString) (start end : ℕ) → (start ≤ end) × (end ≤ length s) → Inside s found → Inside s (cond b (Text start end) found)
+inside-cond : (s : List ℕ) (b : Bool) (found : EnumString) (start end : ℕ) → (start ≤ end) × (end ≤ length s) → StringInside s found → StringInside s (cond b (Text start end) found)
 inside-cond s true found start end h k = h
 inside-cond s false found start end h k = k
 
@@ -99,7 +99,7 @@ pub record Rest (s : List ℕ) (wanted at left : ℕ) (found : EnumString) (l : 
 
 pub record Searching (s : List ℕ) (start count wanted : ℕ) (found : EnumString) (at left : ℕ) : Type 0 where
   pub rest : (l : List EnumValue) (n : ℕ) (t : List ℕ) → repeat count enumValueParser start (drop start s) ≡ ok l n t → Rest s wanted at left found l n t
-  pub inside : Inside s found
+  pub inside : StringInside s found
 
 pub search-start : (s : List ℕ) (start count wanted : ℕ) → Searching s start count wanted Absent start count
 search-start s start count wanted = record {

@@ -45,7 +45,7 @@ module _ (s : List ℕ) (at : ℕ) {type a b next : ℕ} (f : Field type a b nex
 
   pub describes : Describes s (record { «type_id» = type; name = a; «name_end» = b }) (here .value)
   unfolding here
-  describes = let y = turn-field s at e f in record { name = y .name; end = next; enums = y .enums }
+  describes = let y = turn-field s at e f in record { typed = y .typed; name = y .name; end = next; enums = y .enums }
 
 -- ---- both lists
 

@@ -19,21 +19,21 @@ stringIs s (Text start end) = some (take (end - start) (drop start s))
 stringIs s Absent = none
 
 -- for every input: a string that is answered lies in the file
-abbrev pub Inside : List ℕ → EnumString → Type 0
-Inside s (Text start end) = (start ≤ end) × (end ≤ length s)
-Inside s Absent = Unit {0}
+abbrev pub StringInside : List ℕ → EnumString → Type 0
+StringInside s (Text start end) = (start ≤ end) × (end ≤ length s)
+StringInside s Absent = Unit {0}
 
 abbrev pub PairInside : List ℕ → EnumPair → Type 0
 PairInside s (Pair number start next) = (start ≤ next) × (next ≤ length s)
 PairInside s NoPair = Unit {0}
 
 -- the pair p, read up to n
-abbrev pub PairIs : List ℕ → EnumValue → ℕ → EnumPair → Type 0
-PairIs s p n (Pair number start next) = (number ≡ p .number) × (take (next - start) (drop start s) ≡ p .string) × (next ≡ n)
-PairIs s p n NoPair = ⊥
+abbrev pub EnumPairIs : List ℕ → EnumValue → ℕ → EnumPair → Type 0
+EnumPairIs s p n (Pair number start next) = (number ≡ p .number) × (take (next - start) (drop start s) ≡ p .string) × (next ≡ n)
+EnumPairIs s p n NoPair = ⊥
 
 pub record PairAt (s : List ℕ) (at : ℕ) (r : EnumPair) : Type 0 where
-  pub is : (p : EnumValue) (n : ℕ) (t : List ℕ) → enumValueParser at (drop at s) ≡ ok p n t → PairIs s p n r
+  pub is : (p : EnumValue) (n : ℕ) (t : List ℕ) → enumValueParser at (drop at s) ≡ ok p n t → EnumPairIs s p n r
   pub inside : PairInside s r
 
 abbrev pub later : EnumString → ℕ → ℕ → ℕ → ℕ → EnumString
@@ -41,8 +41,8 @@ later found wanted number start end = cond (eqb wanted number) (Text start end) 
 
 pub record LastPair (s : List ℕ) (start count wanted : ℕ) (r : EnumString) : Type 0 where
   pub is : (l : List EnumValue) (n : ℕ) (t : List ℕ) → repeat count enumValueParser start (drop start s) ≡ ok l n t → stringIs s r ≡ enumString wanted l
-  pub inside : Inside s r
+  pub inside : StringInside s r
 
 pub record StringOf (s : List ℕ) (at typeId wanted : ℕ) (r : EnumString) : Type 0 where
   pub is : (l : List EnumValue) (n : ℕ) (t : List ℕ) → enumValuesParser typeId at (drop at s) ≡ ok l n t → stringIs s r ≡ enumString wanted l
-  pub inside : Inside s r
+  pub inside : StringInside s r

@@ -17,8 +17,9 @@ pub record Begins (s : List ℕ) (next : ℕ) (f : Consumed ValuePrototype) (l :
   pub more : fieldsParser next (drop next s) ≡ ok rest n t
   pub fields : l .fields ≡ f ∷ rest .fields
 
--- d says where the name and the enum list of the definition f stand
+-- d has the type of the definition f, and says where its name and its enum list stand
 pub record Describes (s : List ℕ) (d : Definition) (f : ValuePrototype) : Type 0 where
+  pub typed : d .«type_id» ≡ f .typeId
   pub name : take (d .«name_end» - d .name) (drop (d .name) s) ≡ f .name
   pub end : ℕ
   pub enums : enumValuesParser (d .«type_id») (d .«name_end») (drop (d .«name_end») s) ≡ ok (f .enumValues) end (drop end s)

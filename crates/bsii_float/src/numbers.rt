@@ -1,4 +1,4 @@
-// Numbers by their values alone: 0 where the bytes run out, which callers rule out before.
+// Numbers by their values alone: 0 where the bytes run out. Contracts that use them speak of bytes that were accepted, where they don't.
 use bsii_value::answers::Num;
 use bsii_value::answers::Num64;
 use bsii_value::numbers::le_u8;

@@ -35,7 +35,7 @@ index-text name i = simp append-assoc
 
 -- ---- an element by its own bytes
 
-own-bytes : {A : Type 0} {R : Reader A} → Exact A R → (s : List ℕ) (at : ℕ) {v : A} {n : ℕ} → R at (drop at s) ≡ ok v n (drop n s) → WellFormed R v (take (n - at) (drop at s))
+pub own-bytes : {A : Type 0} {R : Reader A} → Exact A R → (s : List ℕ) (at : ℕ) {v : A} {n : ℕ} → R at (drop at s) ≡ ok v n (drop n s) → WellFormed R v (take (n - at) (drop at s))
 own-bytes {A} {R} x s at {v} {n} e =
     let q = x .took at (drop at s) v n (drop n s) e in
     let size : length (q .0) ≡ n - at = omega (arith, q .1 .place) in

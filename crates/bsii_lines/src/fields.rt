@@ -21,7 +21,7 @@ ghost use Rattle.bsii_window.specs.Window.{Wrote};
 ghost use Rattle.bsii_lines.specs.Lines.{nameOf, InFile, RestWritten, ElementWritten, VectorWritten, ArrayWritten, FieldWritten};
 ghost use Rattle.bsii_value.specs.Kinds.{kindIs};
 
-// The offset behind the value, and the position behind its text; or an enum value that is not in its list.
+// The offset behind the value, and the position behind its text; or what `Scalar` says of a value that is not written.
 pub enum Lines {
     Next { at: usize, to: usize },
     NotInList,

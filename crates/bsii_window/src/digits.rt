@@ -2,28 +2,11 @@
 use crate::window::further;
 use crate::window::put;
 ghost use mathlib.Core.Path.{_≡_};
-ghost use Prim.Native.Nat.{_<_};
+ghost use Prim.Native.Nat.{_≤_, _<_};
 ghost use Rattle.bsii_format.specs.Digits.{digit as digitOf, decimal, hexadecimal, hexPadded};
 ghost use Rattle.bsii_window.specs.Window.{Wrote};
 
-const DIGITS: [u8; 16] = [
-    48,
-    49,
-    50,
-    51,
-    52,
-    53,
-    54,
-    55,
-    56,
-    57,
-    97,
-    98,
-    99,
-    100,
-    101,
-    102,
-];
+const DIGITS: [u8; 16] = *b"0123456789abcdef";
 
 fn digit(d: u64) -> u8
     requires { ⌜ d < 16 ⌝ }
@@ -44,6 +27,7 @@ pub fn write_decimal(out: &mut [u8], at: usize, n: u64) -> usize
 
 // The last so many digits.
 pub fn write_hex_padded(out: &mut [u8], at: usize, n: u64, count: u32) -> usize
+    requires { ⌜ count ≤ 16 ⌝ }
     ensures { λ r. ⌜ Wrote (now (out .entry)) at (hexPadded count n) r (now (out .exit)) ⌝ }
 {
     if count == 0 {

@@ -48,7 +48,7 @@ fn store(out: &mut [u8], start: usize, text: &[u8])
     }
 }
 
-// Nothing is copied where the window ends in front of the text: a name that stands before each of many elements is measured in no time.
+// Nothing is copied where the window ends in front of the text: measuring a name that stands before each of many elements takes one sum for each.
 pub fn put_all(out: &mut [u8], at: usize, text: &[u8]) -> usize
     ensures { λ r. ⌜ Wrote (now (out .entry)) at (now (text .entry)) r (now (out .exit)) ⌝ }
 {

@@ -29,6 +29,7 @@ pub fn write_word(out: &mut [u8], at: usize, word: u64) -> usize
     to
 }
 
+// A word's low 63 bits: bit 63 is the caller's to drop.
 pub fn write_encoded_string(out: &mut [u8], at: usize, word: u64) -> usize
     ensures { λ r. ⌜ Wrote (now (out .entry)) at (encodedText word) r (now (out .exit)) ⌝ }
 {

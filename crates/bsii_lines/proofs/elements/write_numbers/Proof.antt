@@ -20,7 +20,7 @@ same-length c = search needs
 returns : tie.Need-returns
 returns c =
     let a = c .before .before .before .before .before .before .before .before .before .args in
-    subst (λ k. ScalarWritten (now (a .raw)) (numbers (numericIs k)) (now (a .s)) (a .d) (now (a .out)) (a .at) (c .before .before .write-enum .result) (c .before .before .write-enum .last .0)) (sym (c .before .before .before .before .enum-told .given .1)) (c .before .before .write-enum .ensures)
+    subst (λ k. ScalarWritten (now (a .raw)) (numbers (numericIs k)) (now (a .s)) (a .d) (now (a .out)) (a .to) (c .before .before .write-enum .result) (c .before .before .write-enum .last .0)) (sym (c .before .before .before .before .enum-told .given .1)) (c .before .before .write-enum .ensures)
 
 write-numeric-requires : tie.Need-write-numeric-requires
 write-numeric-requires c κs = search needs

@@ -24,7 +24,7 @@ same-length c = search needs
 returns : tie.Need-returns
 returns c =
     let a = c .before .before .before .before .before .before .before .before .before .before .args in
-    subst (λ k. ScalarWritten (now (a .raw)) (kindIs k) (now (a .s)) (a .d) (now (a .out)) (a .at) (c .before .before .write-numbers .result) (c .before .before .write-numbers .last .0)) (sym (c .before .before .before .before .before .kind .given .1)) (c .before .before .write-numbers .ensures)
+    subst (λ k. ScalarWritten (now (a .raw)) (kindIs k) (now (a .s)) (a .d) (now (a .out)) (a .to) (c .before .before .write-numbers .result) (c .before .before .write-numbers .last .0)) (sym (c .before .before .before .before .before .kind .given .1)) (c .before .before .write-numbers .ensures)
 
 enum-told : tie.Need-enum-told
 enum-told c = search needs
@@ -38,7 +38,7 @@ same-length-2 c = search needs
 returns-2 : tie.Need-returns-2
 returns-2 c =
     let a = c .before .before .before .before .before .before .before .before .before .args in
-    subst (λ k. ScalarWritten (now (a .raw)) (kindIs k) (now (a .s)) (a .d) (now (a .out)) (a .at) (c .before .before .write-str .result) (c .before .before .write-str .last .0)) (sym (c .before .before .before .before .enum-told .given .1)) (c .before .before .write-str .ensures)
+    subst (λ k. ScalarWritten (now (a .raw)) (kindIs k) (now (a .s)) (a .d) (now (a .out)) (a .to) (c .before .before .write-str .result) (c .before .before .write-str .last .0)) (sym (c .before .before .before .before .enum-told .given .1)) (c .before .before .write-str .ensures)
 
 enum-told-2 : tie.Need-enum-told-2
 enum-told-2 c = search needs
@@ -56,7 +56,7 @@ returns-3 : tie.Need-returns-3
 unfolding low63
 returns-3 c =
     let a = c .before .before .before .before .before .before .before .before .before .before .args in
-    subst (λ k. ScalarWritten (now (a .raw)) (kindIs k) (now (a .s)) (a .d) (now (a .out)) (a .at) (To (c .before .before .write-encoded-string .result)) (c .before .before .write-encoded-string .last .0)) (sym (c .before .before .before .before .before .enum-told2 .given .1)) (scalar-word (now (a .raw)) (now (a .s)) (a .d) (being (ap (λ n. encodedText (n % 0x8000_0000_0000_0000)) (c .before .before .before .before .u64-at .ensures)) (c .before .before .write-encoded-string .ensures)))
+    subst (λ k. ScalarWritten (now (a .raw)) (kindIs k) (now (a .s)) (a .d) (now (a .out)) (a .to) (To (c .before .before .write-encoded-string .result)) (c .before .before .write-encoded-string .last .0)) (sym (c .before .before .before .before .before .enum-told2 .given .1)) (scalar-word (now (a .raw)) (now (a .s)) (a .d) (being (ap (λ n. encodedText (n % 0x8000_0000_0000_0000)) (c .before .before .before .before .u64-at .ensures)) (c .before .before .write-encoded-string .ensures)))
 
 enum-told-3 : tie.Need-enum-told-3
 enum-told-3 c = search needs
@@ -70,7 +70,7 @@ same-length-4 c = search needs
 returns-4 : tie.Need-returns-4
 returns-4 c =
     let a = c .before .before .before .before .before .before .before .before .before .args in
-    subst (λ k. ScalarWritten (now (a .raw)) (kindIs k) (now (a .s)) (a .d) (now (a .out)) (a .at) (To (c .before .before .write-id .result)) (c .before .before .write-id .last .0)) (sym (c .before .before .before .before .enum-told3 .given .1)) (scalar-id (now (a .raw)) (now (a .s)) (a .d) (c .before .before .write-id .ensures))
+    subst (λ k. ScalarWritten (now (a .raw)) (kindIs k) (now (a .s)) (a .d) (now (a .out)) (a .to) (To (c .before .before .write-id .result)) (c .before .before .write-id .last .0)) (sym (c .before .before .before .before .enum-told3 .given .1)) (scalar-id (now (a .raw)) (now (a .s)) (a .d) (c .before .before .write-id .ensures))
 
 pub write-scalar-data-value-spec : {M : Type 1} → statement M
 write-scalar-data-value-spec =

@@ -1,0 +1,145 @@
+-- The text call: measured, written, answered.
+use mathlib.Core.Path.{_≡_, refl, sym, ap, _∙_, subst}
+use Prim.Native.Nat.{ℕ, _+_, _-_, _/_, _≤_, _<_}
+use native.Mathlib.Nat.{zero-add}
+use native.Mathlib.Omega.{arith}
+use mathlib.Core.List.{List, [], _∷_, _++_}
+use lib.ListN.{length, getD, drop}
+use lib.Seq.{sets-eq}
+use borrow.Author.Tests.{le-leb, lt-leb}
+use Rattle.bsii_format.specs.Replies.{Reply, gives, refuses}
+use Rattle.bsii_format.specs.Prototypes.{Prototype}
+use Rattle.bsii_format.specs.File.{Record, prototypesOf}
+use Rattle.bsii_format.specs.Text.{valueText}
+use Rattle.bsii_format.specs.BlockText.{joined, fileOpening, closing, recordsText, fileText}
+use Rattle.bsii_format.specs.Calls.{textAnswer, textOf, textCall}
+use Rattle.bsii_table.specs.Relation.{Entered}
+use Rattle.bsii_parse.specs.Walks.{Stands, ReadFile}
+use Rattle.bsii_parse.specs.declared.walk.Walked.{Walked}
+use Rattle.bsii_parse.specs.declared.walk.Walked.the-variants.{Done, Fault as Stopped}
+use Rattle.bsii_again.specs.Seek.{Standing, Readable}
+use Rattle.bsii_file.proofs.Lookups.{was-read, read-answers, unread-refuses}
+use Rattle.bsii_file.proofs.Rereading.{file-parts, standing-first}
+use Rattle.bsii_length.proofs.Bounded.{text-bounded}
+use Rattle.bsii_window.specs.Window.{Wrote}
+use Rattle.bsii_window.proofs.Laws.{capped-less, written-in}
+use Rattle.bsii_output.specs.Records.{TextsAre, BsiiWritten}
+use Rattle.bsii_output.specs.Answers.{textIs, framedText, TextWritten, TextRead}
+use Rattle.bsii_output.specs.declared.records.Texts.{Texts}
+use Rattle.bsii_output.specs.declared.records.Texts.the-variants.{To, Refused as Not}
+use Rattle.bsii_output.specs.declared.text.TextReply.{TextReply}
+use Rattle.bsii_output.specs.declared.text.TextReply.the-variants.{Text, Refused}
+
+-- ---- the table after a walk
+
+stand-again : {s t : List ℕ} {rooms rows : ℕ} {last : List Prototype} {rest : List Record} {t′ : List ℕ} → Standing s rooms rows last t 8 [] rest → Entered (Stands s) t′ rows [] last
+    → Standing s rooms rows last t′ 8 [] rest
+stand-again w e = record { end = w .end; n = w .n; reads = w .reads; entered = e; lasts = w .lasts }
+
+module _ {s t : List ℕ} {rows : ℕ} {old : List ℕ} {e : ℕ} {t′ new : List ℕ} (h : BsiiWritten s 8 t rows old (To e) t′ new) where
+  pub serves : {rooms : ℕ} {last : List Prototype} {rest : List Record} → Standing s rooms rows last t 8 [] rest → Standing s rooms rows last t′ 8 [] rest
+  serves {rooms} {last} {rest} w = stand-again w (h .writes rooms last rest w .1)
+
+  pub read-again : Readable s 8 t rows → Readable s 8 t′ rows
+  read-again w = record { short = w .short; inside = w .inside; rooms = w .rooms; last = w .last; rest = w .rest; standing = serves (w .standing) }
+
+-- ---- the text that was measured
+
+pub too-long : (old x : List ℕ) → length old < length x → textIs (Refused 11 0 (length x)) old ≡ textAnswer old (gives x)
+unfolding textAnswer
+too-long old x h = rw (lt-leb (length x) (length old) h) refl
+
+-- a window that has room for the whole text
+whole : (old x : List ℕ) {r : ℕ} {new : List ℕ} → length x ≤ length old → Wrote old 0x8000_0000_0000_0000 x r new → new ≡ x ++ drop (length x) old
+whole old x {new = new} h w =
+    w .window ∙ written-in old 0x8000_0000_0000_0000 x (omega arith)
+    ∙ sets-eq x old 0 (omega arith)
+    ∙ ap (λ (n : ℕ). x ++ drop n old) (zero-add (length x))
+
+fitting : (old x new : List ℕ) → length x ≤ length old → new ≡ x ++ drop (length x) old → textIs (Text (length x)) new ≡ textAnswer old (gives x)
+unfolding textAnswer
+fitting old x new h e = rw (le-leb (length x) (length old) h) (ap (λ (o : List ℕ). record { reply = gives (length x); needed = 0; output = o }) e)
+
+module _ (s t : List ℕ) (rows : ℕ) (old : List ℕ) (end : ℕ) where
+  pub measured-early : end < 0x8000_0000_0000_0000 → (r : TextReply) → TextWritten s t rows old end r old
+  measured-early h r = record { answers = λ rooms last rest w x e f. absurd (omega arith) }
+
+  pub measured-long : length old < end - 0x8000_0000_0000_0000 → TextWritten s t rows old end (Refused 11 0 (end - 0x8000_0000_0000_0000)) old
+  measured-long h = record {
+    answers = λ rooms last rest w x e f.
+        let z : end - 0x8000_0000_0000_0000 ≡ length x = omega arith in
+        ap (λ (n : ℕ). textIs (Refused 11 0 n) old) z ∙ too-long old x (omega arith);
+  }
+
+  pub measured-fits : 0x8000_0000_0000_0000 ≤ end → end - 0x8000_0000_0000_0000 ≤ length old → {r : Texts} {t′ new : List ℕ} → BsiiWritten s 8 t rows old r t′ new
+      → TextWritten s t rows old end (Text (end - 0x8000_0000_0000_0000)) new
+  measured-fits a h {r} {t′} {new} b = record {
+    answers = λ rooms last rest w x e f.
+        let z : end - 0x8000_0000_0000_0000 ≡ length x = omega arith in
+        ap (λ (n : ℕ). textIs (Text n) new) z
+        ∙ fitting old x new (omega arith) (go r x (subst (λ (o : Reply (List ℕ)). TextsAre old 0x8000_0000_0000_0000 o r new) e (b .writes rooms last rest w .0)) (omega arith));
+  }
+    where
+      go : (r : Texts) (x : List ℕ) → TextsAre old 0x8000_0000_0000_0000 (gives x) r new → length x ≤ length old → new ≡ x ++ drop (length x) old
+      go (To n) x w l = whole old x l w
+      go (Not k o) x w l = absurd w
+
+-- ---- the text of a file that was read
+
+empty : (l : List ℕ) → length l ≡ 0 → l ≡ []
+empty [] h = refl
+empty (x ∷ l) h = absurd (omega arith)
+
+-- a walk by its answer
+walk-by : {s t : List ℕ} {rows : ℕ} {old : List ℕ} {x r : Texts} {t′ new : List ℕ} → x ≡ r → BsiiWritten s 8 t rows old x t′ new → BsiiWritten s 8 t rows old r t′ new
+walk-by {s} {t} {rows} {old} {x} {r} {t′} {new} e h = subst (λ (y : Texts). BsiiWritten s 8 t rows old y t′ new) e h
+
+-- the measuring walk was lent nothing of the output
+module _ (s t : List ℕ) (rows : ℕ) (old : List ℕ) {m : Texts} {t′ lent : List ℕ} (h : BsiiWritten s 8 t rows [] m t′ lent) where
+  untouched : lent ++ old ≡ old
+  untouched = ap (λ (l : List ℕ). l ++ old) (empty lent (h .size))
+
+  pub measured-again : {e : ℕ} → m ≡ To e → Readable s 8 t rows → Readable s 8 t′ rows
+  measured-again z w = read-again (walk-by z h) w
+
+  pub text-refused : {k o : ℕ} → m ≡ Not k o → TextRead s t rows old (Refused k o 0) (lent ++ old)
+  unfolding textAnswer
+  text-refused {k} {o} z = record { answers = λ rooms last rest w b. go (framedText last rest) (walk-by z h .writes rooms last rest w .0) }
+    where
+      go : (x : Reply (List ℕ)) → TextsAre [] 0x8000_0000_0000_0000 x (Not k o) lent → textIs (Refused k o 0) (lent ++ old) ≡ textAnswer old x
+      go (gives x) a = absurd a
+      go (refuses f) a = rw (a .0, a .1, untouched) refl
+
+  pub text-measured : {e : ℕ} → m ≡ To e → {r : TextReply} {new : List ℕ} → TextWritten s t′ rows (lent ++ old) e r new → TextRead s t rows old r new
+  text-measured {e} z {r} {new} v = record { answers = λ rooms last rest w b. go rooms last rest w b (framedText last rest) refl (walk-by z h .writes rooms last rest w .0) }
+    where
+      go : (rooms : ℕ) (last : List Prototype) (rest : List Record) (w : Standing s rooms rows last t 8 [] rest) → ((x : List ℕ) → framedText last rest ≡ gives x → length x < 0x4000_0000_0000_0000)
+          → (o : Reply (List ℕ)) → framedText last rest ≡ o → TextsAre [] 0x8000_0000_0000_0000 o (To e) lent → textIs r new ≡ textAnswer old o
+      go rooms last rest w b (refuses f) q a = absurd a
+      go rooms last rest w b (gives x) q a =
+          let l = b x q in
+          v .answers rooms last rest (serves (walk-by z h) w) x q (a .next ∙ capped-less 0x8000_0000_0000_0000 (length x) (omega arith)) ∙ ap (λ (o : List ℕ). textAnswer o (gives x)) untouched
+
+-- ---- the call
+
+module _ (s t out : List ℕ) {r : Walked} {t′ : List ℕ} (h : ReadFile s t r t′) where
+  pub call-refused : {k o : ℕ} → r ≡ Stopped k o → textIs (Refused k o 0) out ≡ textCall (length t) s out
+  unfolding textCall textOf textAnswer
+  call-refused {k} {o} z = ap (textAnswer out) (sym (unread-refuses (λ f at. fileText valueText f) h z))
+
+  module _ {rows blocks n : ℕ} (z : r ≡ Done rows blocks n) where
+    -- the file's text, from the records that the walk starts from
+    file-is : let w = was-read h z in textOf (length t) s ≡ framedText (prototypesOf (w .file .records)) (w .file .records)
+    unfolding textOf fileText
+    file-is =
+        let w = was-read h z in
+        read-answers (λ f at. fileText valueText f) w
+        ∙ ap (λ (k : ℕ). joined (joined (gives fileOpening) (recordsText valueText (prototypesOf (w .file .records)) k (w .file .records))) (gives closing)) (file-parts (length t) s (w .parsed) .header)
+
+    pub call-answers : ((i : ℕ) → getD s i 0 < 256) → {reply : TextReply} {new : List ℕ} → TextRead s t′ rows out reply new → textIs reply new ≡ textCall (length t) s out
+    unfolding textCall
+    call-answers bytes v =
+        let w = was-read h z in
+        let short = file-parts (length t) s (w .parsed) .short in
+        v .answers (length t / 3) (prototypesOf (w .file .records)) (w .file .records) (standing-first w) (λ x e. text-bounded (length t) s x bytes short (file-is ∙ e))
+        ∙ ap (textAnswer out) (sym file-is)

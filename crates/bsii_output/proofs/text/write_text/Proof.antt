@@ -1,0 +1,49 @@
+use native.Mathlib.Omega.{arith}
+use denote.Ref.{now}
+use Rattle.bsii_output.proofs.TextLaws.{call-refused, call-answers}
+use Rattle.bsii_file.proofs.Lookups.{was-read}
+use Rattle.bsii_file.proofs.Rereading.{readable}
+use borrow.Author.Needs.{needs}
+use Rattle.bsii_output.proofs.text.write_text.Statement.{statement}
+use Rattle.bsii_output.proofs.text.write_text.Tie as tie
+
+bsii-parser-requires : tie.Need-bsii-parser-requires
+bsii-parser-requires c κs = search needs
+
+enum-known-walked : tie.Need-enum-known-walked
+enum-known-walked c = search needs
+
+same-length : tie.Need-same-length
+same-length c = search needs
+
+returns : tie.Need-returns
+returns c = let a = c .before .before .before .before .before .before .before .before .before .before .args in call-refused (now (a .file)) (now (a .table)) (now (a .output)) (c .before .before .before .before .before .bsii-parser .ensures) (c .before .walked .given .1)
+
+enum-known-walked-2 : tie.Need-enum-known-walked-2
+enum-known-walked-2 c = search needs
+
+write-read-requires : tie.Need-write-read-requires
+write-read-requires c κs = readable (was-read (c .before .before .before .before .before .before .before .bsii-parser .ensures) (c .before .before .before .walked2 .given .1))
+
+same-length-2 : tie.Need-same-length-2
+same-length-2 c = search needs
+
+same-length-3 : tie.Need-same-length-3
+same-length-3 c = search needs
+
+returns-2 : tie.Need-returns-2
+returns-2 c = let a = c .before .before .before .before .before .before .before .before .before .before .before .before .before .before .before .before .before .args in call-answers (now (a .file)) (now (a .table)) (now (a .output)) (c .before .before .before .before .before .before .before .before .before .before .before .before .bsii-parser .ensures) (c .before .before .before .before .before .before .before .before .walked2 .given .1) (λ i. omega (arith, c .before .before .before .before .before .before .before .before .before .before .before .before .before .before .before .before .shared-slice-known .given i)) (c .before .before .before .before .write-read .ensures)
+
+pub write-text-spec : {M : Type 1} → statement M
+write-text-spec =
+    tie.close
+    (tie.spec
+    bsii-parser-requires
+    enum-known-walked
+    same-length
+    returns
+    enum-known-walked-2
+    write-read-requires
+    same-length-2
+    same-length-3
+    returns-2)

@@ -1,0 +1,33 @@
+-- What the text call's answer means, and what its parts answer for a file that was read.
+use mathlib.Core.Path.{_≡_}
+use Prim.Native.Nat.{ℕ, _+_, _<_}
+use mathlib.Core.List.{List, []}
+use lib.ListN.{length}
+use Rattle.bsii_format.specs.Replies.{Reply, gives, refusal}
+use Rattle.bsii_format.specs.Prototypes.{Prototype}
+use Rattle.bsii_format.specs.File.{Record}
+use Rattle.bsii_format.specs.Text.{valueText}
+use Rattle.bsii_format.specs.BlockText.{joined, fileOpening, closing, recordsText}
+use Rattle.bsii_format.specs.Calls.{TextAnswer, textAnswer}
+use Rattle.bsii_again.specs.Seek.{Standing}
+use Rattle.bsii_output.specs.declared.text.TextReply.{TextReply}
+use Rattle.bsii_output.specs.declared.text.TextReply.the-variants.{Text, Refused}
+
+-- with the output after the call
+abbrev pub textIs : TextReply → List ℕ → TextAnswer
+textIs (Text n) output = record { reply = gives n; needed = 0; output = output }
+textIs (Refused number offset needed) output = record { reply = refusal number offset; needed = needed; output = output }
+
+-- the text of records that start at the offset 8
+abbrev pub framedText : List Prototype → List Record → Reply (List ℕ)
+framedText last l = joined (joined (gives fileOpening) (recordsText valueText last 8 l)) (gives closing)
+
+-- a text x, which was measured to end at `end`
+pub record TextWritten (s t : List ℕ) (rows : ℕ) (old : List ℕ) (end : ℕ) (r : TextReply) (new : List ℕ) : Type 0 where
+  pub answers : (rooms : ℕ) (last : List Prototype) (rest : List Record) → Standing s rooms rows last t 8 [] rest → (x : List ℕ) → framedText last rest ≡ gives x
+      → end ≡ 0x8000_0000_0000_0000 + length x → textIs r new ≡ textAnswer old (gives x)
+
+-- a text that is short enough for its positions to be exact
+pub record TextRead (s t : List ℕ) (rows : ℕ) (old : List ℕ) (r : TextReply) (new : List ℕ) : Type 0 where
+  pub answers : (rooms : ℕ) (last : List Prototype) (rest : List Record) → Standing s rooms rows last t 8 [] rest
+      → ((x : List ℕ) → framedText last rest ≡ gives x → length x < 0x4000_0000_0000_0000) → textIs r new ≡ textAnswer old (framedText last rest)
