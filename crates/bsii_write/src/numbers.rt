@@ -2,7 +2,6 @@
 use bsii_window::digits::write_decimal;
 use bsii_window::window::put;
 use bsii_window::window::put_all;
-ghost use mathlib.Core.Path.{_≡_};
 ghost use mathlib.Core.List.{_++_};
 ghost use Rattle.bsii_format.specs.Ascii.{ascii};
 ghost use Rattle.bsii_format.specs.Numbers.{signed};
