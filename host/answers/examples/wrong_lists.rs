@@ -2,7 +2,7 @@
 //! beside each list, as NAME.expected, what `crates/replay` must print about it. `tests/replay/run`
 //! compares.
 
-use answers::{Entry, LookUp};
+use answers::{Entry, LookUp, LONGEST_RECORD};
 use std::path::Path;
 
 /// An edit of a record: the call that must differ, and the change, which says whether the record
@@ -109,7 +109,10 @@ fn main() -> std::io::Result<()> {
         let (list, expected) = edited(read(), edit, &applies);
         write(&format!("{name}, in all files"), &list, &expected)?;
     }
-    for (name, list, expected) in damaged(&whole, &read()) {
+    let mut others = damaged(&whole, read().len());
+    others.extend(damaged_record(&whole, &read()));
+    others.extend(longest(read()));
+    for (name, list, expected) in others {
         write(name, &list, &expected)?;
     }
     Ok(())
@@ -141,55 +144,70 @@ fn replayed(files: usize, equal: usize) -> String {
     format!("replayed {files} files: {equal} equal\n")
 }
 
-/// The list with damage that no edit of a record gives.
-fn damaged(whole: &[u8], entries: &[Entry]) -> Vec<(&'static str, Vec<u8>, String)> {
-    const NO_LIST: &str = "this is no list of answers\n";
-    const EARLY: &str = "the list ends early\n";
-    let count = entries.len();
-    let early = |files: usize| replayed(files, files) + EARLY;
+const NO_LIST: &str = "this is no list of answers\n";
+const EARLY: &str = "the list ends early\n";
+
+/// What the program says of a list that is cut behind so many records.
+fn early(files: usize) -> String {
+    replayed(files, files) + EARLY
+}
+
+/// A list's name, its bytes, and what the program must print.
+type Damaged = (&'static str, Vec<u8>, String);
+
+/// Bytes put over others.
+fn changed(whole: &[u8], at: usize, bytes: &[u8]) -> Vec<u8> {
+    let mut list = whole.to_vec();
+    list[at..at + bytes.len()].copy_from_slice(bytes);
+    list
+}
+
+/// Cut, or with another magic or count.
+fn damaged(whole: &[u8], count: usize) -> Vec<Damaged> {
     let cut = |length: usize| whole[..length].to_vec();
-    let changed = |at: usize, bytes: &[u8]| {
-        let mut list = whole.to_vec();
-        list[at..at + bytes.len()].copy_from_slice(bytes);
-        list
-    };
-    // The magic and the count take 20 bytes; a record's label stands behind 4 + 16.
-    let middle = count / 2;
-    let start: usize = entries[..middle]
-        .iter()
-        .map(|entry| 4 + answers::record(entry).len())
-        .sum();
-    let at = 20 + start;
-    let counted = |count: usize| changed(16, &(count as u32).to_le_bytes());
-    let too_long = answers::LONGEST_RECORD as u32 + 1;
-    let broken = format!("file {middle}, : broken record\n") + &replayed(count, count - 1);
+    let counted = |count: usize| changed(whole, 16, &(count as u32).to_le_bytes());
+    let (more, less) = (counted(count + 1), counted(count - 1));
     vec![
         ("empty", cut(0), NO_LIST.into()),
         ("magic cut", cut(15), NO_LIST.into()),
-        ("another magic", changed(13, b"2"), NO_LIST.into()),
+        ("another magic", changed(whole, 14, b"2"), NO_LIST.into()),
         ("count cut", cut(19), EARLY.into()),
-        ("cut in a record's length", cut(at + 3), early(middle)),
-        ("cut in a record", cut(at + 30), early(middle)),
         ("cut in the end mark", cut(whole.len() - 1), early(count)),
-        (
-            "a record less than counted",
-            counted(count + 1),
-            early(count),
-        ),
-        (
-            "a record more than counted",
-            counted(count - 1),
-            early(count - 1),
-        ),
-        (
-            "a record without room",
-            changed(at, &too_long.to_le_bytes()),
-            early(middle),
-        ),
-        (
-            "a label beyond its record",
-            changed(at + 20, &[0xff; 4]),
-            broken,
-        ),
+        ("a record less than counted", more, early(count)),
+        ("a record more than counted", less, early(count - 1)),
+    ]
+}
+
+/// Cut or changed in the middle record: its label stands behind its length and four numbers.
+fn damaged_record(whole: &[u8], entries: &[Entry]) -> Vec<Damaged> {
+    let count = entries.len();
+    let middle = count / 2;
+    let lengths = entries[..middle]
+        .iter()
+        .map(|entry| 4 + answers::record(entry).len());
+    let at = 20 + lengths.sum::<usize>();
+    let cut = |length: usize| whole[..at + length].to_vec();
+    let broken = format!("file {middle}, : broken record\n") + &replayed(count, count - 1);
+    let label = changed(whole, at + 20, &[0xff; 4]);
+    vec![
+        ("cut in a record's length", cut(3), early(middle)),
+        ("cut in a record", cut(30), early(middle)),
+        ("a label beyond its record", label, broken),
+    ]
+}
+
+/// A record as long as the program has room for, and one that is longer, by bytes after the file's
+/// end record.
+fn longest(mut entries: Vec<Entry>) -> [Damaged; 2] {
+    entries.truncate(1);
+    let room = LONGEST_RECORD - answers::record(&entries[0]).len();
+    let file = entries[0].file.clone();
+    let mut list = |more: usize| {
+        entries[0].file = [file.as_slice(), &vec![0; more]].concat();
+        answers::list(&entries)
+    };
+    [
+        ("the longest record", list(room), replayed(1, 1)),
+        ("a record without room", list(room + 1), early(0)),
     ]
 }
