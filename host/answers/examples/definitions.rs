@@ -62,7 +62,8 @@ fn change(entries: &mut [Entry], names: &mut [String]) {
     let bytes = &mut entries[text].answer.text;
     let middle = bytes.len() / 2;
     bytes[middle] ^= 1;
-    entries[number].answer.reply ^= 1;
+    let reply = &mut entries[number].answer.reply;
+    *reply = *reply % 9 + 1;
     names[text] = "changed-text".to_string();
     names[number] = "changed-number".to_string();
 }
