@@ -137,14 +137,14 @@ fn faults_and_their_offsets() {
     assert_eq!(text_of(&one_value(1, &string(b"a\xff"))), "refused 4 at 44");
     // The second of two floats runs out.
     assert_eq!(text_of(&one_value(7, &[0; 6])[..46]), "refused 3 at 44");
-    let stranger = file(&[vec![5, 0, 0, 0]]);
-    assert_eq!(text_of(&stranger), "refused 6 at 8");
+    let undefined_prototype = file(&[vec![5, 0, 0, 0]]);
+    assert_eq!(text_of(&undefined_prototype), "refused 6 at 8");
     assert_eq!(text_of(&one_value(8, b"")), "refused 7 at 40");
     assert_eq!(text_of(&one_value(8, b"")[..40]), "refused 7 at 40");
 }
 
 #[test]
-fn regrouped_and_enum() {
+fn another_number_of_fields_or_another_type() {
     let block = |value: &[u8]| [&[1, 0, 0, 0, 0], value].concat();
     let first = prototype(1, "p", &[(0x27, "f")]);
     let at = 8 + first.len();

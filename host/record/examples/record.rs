@@ -8,7 +8,7 @@ fn main() -> std::io::Result<()> {
     // The Rust prints some inputs.
     let _kept = oracle::silence_stdout()?;
     let entries = record::entries();
-    let list = record::list(&entries);
+    let list = answers::list(&entries);
     eprintln!("{} files, {} bytes", entries.len(), list.len());
     std::fs::write(path, list)
 }

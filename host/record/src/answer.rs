@@ -1,25 +1,10 @@
 //! What the Rust says about a file.
 
+use answers::{Answer, LookUp};
 use oracle::{BsiiFile, DataBlock, DataValue, Fault};
 
 /// The names that are looked up in one file.
 const NAMES: usize = 2;
-
-/// `reply` is 0 or a number of document 01. From 1 to 7 all else is empty, with 8 and 9 the text.
-#[derive(Default)]
-pub struct Answer {
-    pub reply: u32,
-    pub prototypes: usize,
-    pub blocks: usize,
-    pub text: String,
-    pub look_ups: Vec<LookUp>,
-}
-
-/// The numbers of the blocks under a prototype name.
-pub struct LookUp {
-    pub name: String,
-    pub numbers: Vec<usize>,
-}
 
 /// None where the answer is not the same in every build of the Rust, or not comparable: see
 /// `crates/replay/README.md`, "What is left out".
@@ -34,6 +19,7 @@ pub fn answer(file: &[u8]) -> Option<Answer> {
         Ok(parsed) => parsed,
         Err(fault) => {
             return number(&fault).map(|reply| Answer {
+                reading: reply,
                 reply,
                 ..Answer::default()
             })
@@ -51,10 +37,11 @@ pub fn answer(file: &[u8]) -> Option<Answer> {
         Err(fault) => (number(&fault)?, String::new()),
     };
     Some(Answer {
+        reading: 0,
         reply,
-        prototypes: parsed.prototypes.len(),
-        blocks: parsed.data_blocks.len(),
-        text,
+        prototypes: parsed.prototypes.len() as u32,
+        blocks: parsed.data_blocks.len() as u32,
+        text: text.into_bytes(),
         look_ups: look_ups(&parsed),
     })
 }
@@ -84,9 +71,9 @@ fn look_ups(parsed: &BsiiFile<'_>) -> Vec<LookUp> {
     let mut found: Vec<LookUp> = Vec::new();
     for id in ids {
         let name = parsed.prototypes[&id].name;
-        if found.len() < NAMES && found.iter().all(|one| one.name != name) {
+        if found.len() < NAMES && found.iter().all(|one| one.name != name.as_bytes()) {
             let numbers = numbers(parsed, name);
-            let name = name.to_string();
+            let name = name.into();
             found.push(LookUp { name, numbers });
         }
     }
@@ -94,11 +81,11 @@ fn look_ups(parsed: &BsiiFile<'_>) -> Vec<LookUp> {
 }
 
 /// The numbers of the blocks that the Rust gives for a name, by their addresses.
-fn numbers(parsed: &BsiiFile<'_>, name: &str) -> Vec<usize> {
+fn numbers(parsed: &BsiiFile<'_>, name: &str) -> Vec<u32> {
     let first = parsed.data_blocks.as_ptr() as usize;
     let size = std::mem::size_of::<DataBlock<'_>>();
     parsed
         .blocks_by_prototype_name(name)
-        .map(|block| (block as *const _ as usize - first) / size)
+        .map(|block| ((block as *const _ as usize - first) / size) as u32)
         .collect()
 }

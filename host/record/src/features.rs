@@ -1,6 +1,6 @@
 //! What a file shows: types carried, and forms of the text.
 
-use crate::Entry;
+use answers::Entry;
 use oracle::{DataValue, Id};
 use std::collections::BTreeSet;
 

@@ -1,13 +1,12 @@
-//! A list of small files with the Rust's answers, for a program that has no Rust at hand.
-//! `crates/replay/README.md` gives its format.
+//! Makes the list of small files with the Rust's answers, for a program that has no Rust at hand.
+//! `crates/replay/README.md` says what is in it.
 
 mod answer;
 mod bytes;
 mod cases;
 mod features;
 
-pub use answer::{Answer, LookUp};
-
+use answers::{Entry, LONGEST_RECORD};
 use features::features;
 use std::collections::BTreeSet;
 
@@ -18,19 +17,6 @@ const DRAWN: u64 = 20_000;
 const LONGEST_DRAWN: usize = 600;
 /// Drawn files that are kept of each refusal.
 const REFUSED: usize = 4;
-/// What the program that reads the list has room for.
-const LONGEST_FILE: usize = 4096;
-const LONGEST_TEXT: usize = 16_384;
-
-const MAGIC: &[u8; 16] = b"BSII answers, 1\n";
-const END: &[u8; 4] = b"end\n";
-
-/// A file, what it is there for, and the Rust's answer.
-pub struct Entry {
-    pub label: String,
-    pub file: Vec<u8>,
-    pub answer: Answer,
-}
 
 /// The hand-made files; then each drawn file with a text that shows something that no text before
 /// it shows, and the first drawn ones of each refusal.
@@ -62,56 +48,18 @@ pub fn entries() -> Vec<Entry> {
     found
 }
 
+/// The label alone for a file without an answer, or with one that the list has no room for.
 fn entry(label: String, file: Vec<u8>) -> Result<Entry, String> {
-    match answer::answer(&file) {
-        Some(answer) if file.len() <= LONGEST_FILE && answer.text.len() <= LONGEST_TEXT => {
-            Ok(Entry {
-                label,
-                file,
-                answer,
-            })
-        }
-        _ => Err(label),
+    let Some(answer) = answer::answer(&file) else {
+        return Err(label);
+    };
+    let entry = Entry {
+        label,
+        file,
+        answer,
+    };
+    match answers::record(&entry).len() {
+        0..=LONGEST_RECORD => Ok(entry),
+        _ => Err(entry.label),
     }
-}
-
-/// The list's bytes.
-pub fn list(entries: &[Entry]) -> Vec<u8> {
-    let mut list = MAGIC.to_vec();
-    list.extend(number(entries.len()));
-    for entry in entries {
-        let body = body(entry);
-        list.extend(number(body.len()));
-        list.extend(body);
-    }
-    list.extend(END);
-    list
-}
-
-fn number(number: usize) -> [u8; 4] {
-    u32::try_from(number).expect("small").to_le_bytes()
-}
-
-/// Bytes with their length in front.
-fn part(bytes: &[u8]) -> Vec<u8> {
-    [&number(bytes.len()), bytes].concat()
-}
-
-fn body(entry: &Entry) -> Vec<u8> {
-    let answer = &entry.answer;
-    // 8 and 9 come from the text alone.
-    let reading = if answer.reply < 8 { answer.reply } else { 0 };
-    let mut body = reading.to_le_bytes().to_vec();
-    body.extend(answer.reply.to_le_bytes());
-    body.extend(number(answer.prototypes));
-    body.extend(number(answer.blocks));
-    body.extend(part(entry.label.as_bytes()));
-    body.extend(part(&entry.file));
-    body.extend(part(answer.text.as_bytes()));
-    for LookUp { name, numbers } in &answer.look_ups {
-        let numbers: Vec<u8> = numbers.iter().flat_map(|n| number(*n)).collect();
-        body.extend(part(name.as_bytes()));
-        body.extend(part(&numbers));
-    }
-    body
 }
