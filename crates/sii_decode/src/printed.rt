@@ -21,6 +21,7 @@ fn write_refusal(output: &mut [u8], number: u32, offset: usize) -> usize
     put_all(output, d, b"\n")
 }
 
+// The same; its length.
 fn print_refusal(output: &mut [u8], number: u32, offset: usize) -> usize
     requires { ⌜ length (now output) ≡ 65_536 ⌝ }
     ensures { λ r. ⌜ Starts (now (output .exit)) r (printed (refusal number offset)) ⌝ }
