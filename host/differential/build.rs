@@ -9,7 +9,7 @@ const NAME: &str = "sii_decode_c";
 
 fn main() {
     println!("cargo:rerun-if-env-changed=SII_LIBRARY");
-    if env::var_os("CARGO_FEATURE_LINKED_LOOKUPS").is_none() {
+    if env::var_os("CARGO_FEATURE_LINKED").is_none() {
         return;
     }
     let root = Path::new(&env::var("CARGO_MANIFEST_DIR").unwrap()).join("../..");

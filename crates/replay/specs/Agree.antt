@@ -1,9 +1,12 @@
 -- When an answer of a call is the Rust's.
 use Prim.Native.Nat.{ℕ}
 use mathlib.Core.Bool.{Bool, false, cond}
+use mathlib.Core.List.{List}
+use lib.ListN.{length, take}
 use lib.Dec.{eqb}
 use Rattle.bsii_format.specs.Replies.{Reply, gives, refuses, absent}
-use Rattle.bsii_format.specs.Calls.{Reading}
+use Rattle.bsii_format.specs.Reader.{same}
+use Rattle.bsii_format.specs.Calls.{Reading, TextAnswer}
 
 -- The Rust refuses nothing, and counts as many prototypes and blocks.
 abbrev pub sameCounts : ℕ → ℕ → ℕ → ℕ → ℕ → Bool
@@ -20,3 +23,14 @@ sameNumber n (refuses f) = false
 abbrev pub isAbsent : Reply ℕ → Bool
 isAbsent (gives k) = false
 isAbsent (refuses f) = eqb (f .number) absent
+
+-- The output's first n bytes are the text.
+abbrev pub sameBytes : List ℕ → ℕ → List ℕ → Bool
+sameBytes text n output = cond (eqb n (length text)) (same (take n output) text) false
+
+abbrev pub sameReply : ℕ → List ℕ → Reply ℕ → List ℕ → Bool
+sameReply reply text (gives n) output = cond (eqb reply 0) (sameBytes text n output) false
+sameReply reply text (refuses f) output = eqb (f .number) reply
+
+abbrev pub sameText : ℕ → List ℕ → TextAnswer → Bool
+sameText reply text a = sameReply reply text (a .reply) (a .output)

@@ -5,19 +5,22 @@ use crate::list::number;
 use crate::list::part_at;
 use bsii_file::blocks::NumberReply;
 use bsii_file::blocks::blocks_by_prototype_name;
+use bsii_output::text::TextReply;
+use bsii_output::text::to_siin;
 use bsii_parse::reading::Reading;
 use bsii_parse::reading::parse;
 use bsii_value::numbers::size;
 ghost use mathlib.Core.Path.{_≡_};
 ghost use lib.ListN.{length};
-ghost use Rattle.bsii_format.specs.Calls.{readingCall, namedBlockCall};
+ghost use Rattle.bsii_format.specs.Calls.{readingCall, namedBlockCall, textCall};
 ghost use Rattle.replay.specs.Parts.{Later};
-ghost use Rattle.replay.specs.Agree.{sameCounts, sameReading, sameNumber, isAbsent};
+ghost use Rattle.replay.specs.Agree.{sameCounts, sameReading, sameNumber, isAbsent, sameBytes, sameText};
 
 pub enum Outcome {
     Equal,
     Reading,
     LookUp,
+    Text,
     Broken,
 }
 
@@ -129,8 +132,41 @@ fn look_ups(file: &[u8], table: &mut [u32], s: &[u8], at: usize) -> Outcome {
     Outcome::Equal
 }
 
+// Whether the first n bytes are the text.
+fn same_bytes(output: &[u8], n: usize, text: &[u8]) -> bool
+    ensures { λ r. ⌜ r ≡ sameBytes (now (text .entry)) n (now (output .entry)) ⌝ }
+{
+    if n != text.len() {
+        return false;
+    }
+    if output.len() < n {
+        return false;
+    }
+    check::same(&output[..n], text)
+}
+
+// Whether the text call answers the Rust's text, or refuses under the Rust's number, which is 0 if it refuses nothing.
+fn same_text(file: &[u8], table: &mut [u32], output: &mut [u8], reply: u32, text: &[u8]) -> bool
+    ensures { λ r. ⌜ r ≡ sameText reply (now (text .entry)) (textCall (length (now (table .entry))) (now (file .entry)) (now (output .entry))) ⌝ }
+{
+    let answer = to_siin(file, table, output);
+    match answer {
+        TextReply::Refused {
+            number,
+            offset: _,
+            needed: _,
+        } => return number == reply,
+        TextReply::Text(n) => {
+            if reply != 0 {
+                return false;
+            }
+            return same_bytes(output, n, text);
+        }
+    }
+}
+
 // The calls on a record's file: its label comes first, its text behind it.
-pub fn replay(s: &[u8], table: &mut [u32]) -> Outcome {
+pub fn replay(s: &[u8], table: &mut [u32], output: &mut [u8]) -> Outcome {
     let label = part_at(s, 16);
     let Part::Bytes {
         start: _,
@@ -163,6 +199,15 @@ pub fn replay(s: &[u8], table: &mut [u32]) -> Outcome {
         number(s, 12),
     ) {
         return Outcome::Reading;
+    }
+    if !same_text(
+        bytes_at(s, file),
+        table,
+        output,
+        number(s, 4),
+        bytes_at(s, text),
+    ) {
+        return Outcome::Text;
     }
     look_ups(bytes_at(s, file), table, s, look)
 }

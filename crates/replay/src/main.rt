@@ -30,12 +30,13 @@ fn differs(s: &[u8], index: u32, what: &[u8]) {
 }
 
 // A record against the calls; whether all is equal.
-fn is_equal(s: &[u8], table: &mut [u32], index: u32) -> bool {
-    let outcome = replay(s, table);
+fn is_equal(s: &[u8], table: &mut [u32], output: &mut [u8], index: u32) -> bool {
+    let outcome = replay(s, table, output);
     match outcome {
         Outcome::Equal => return true,
         Outcome::Reading => differs(s, index, b"reading"),
         Outcome::LookUp => differs(s, index, b"look-up"),
+        Outcome::Text => differs(s, index, b"text"),
         Outcome::Broken => differs(s, index, b"broken record"),
     }
     false
@@ -81,7 +82,7 @@ enum Compared {
 }
 
 // The list's next record against the calls.
-fn turn(buffer: &mut [u8], table: &mut [u32], index: u32) -> Compared
+fn turn(buffer: &mut [u8], table: &mut [u32], output: &mut [u8], index: u32) -> Compared
     ensures { λ r. ⌜ AtMostOne r ⌝ }
 {
     let next = next_number(buffer);
@@ -92,7 +93,7 @@ fn turn(buffer: &mut [u8], table: &mut [u32], index: u32) -> Compared
     if !fill(buffer, n) {
         return Compared::Missing;
     }
-    if is_equal(&buffer[..n], table, index) {
+    if is_equal(&buffer[..n], table, output, index) {
         return Compared::Equal(1);
     }
     Compared::Equal(0)
@@ -107,11 +108,11 @@ fn print_counts(files: u32, equal: u32) {
 }
 
 // So many records.
-fn replay_list(buffer: &mut [u8], table: &mut [u32], count: u32) {
+fn replay_list(buffer: &mut [u8], table: &mut [u32], output: &mut [u8], count: u32) {
     let mut index: u32 = 0;
     let mut equal: u32 = 0;
     while index < count {
-        let one = turn(buffer, table, index);
+        let one = turn(buffer, table, output, index);
         let Compared::Equal(n) = one else {
             print_counts(index, equal);
             return;
@@ -122,7 +123,7 @@ fn replay_list(buffer: &mut [u8], table: &mut [u32], count: u32) {
     print_counts(index, equal);
 }
 
-fn run(buffer: &mut [u8], table: &mut [u32]) {
+fn run(buffer: &mut [u8], table: &mut [u32], output: &mut [u8]) {
     if !goes_on(buffer, b"BSII answers, 1\n") {
         print(b"this is no list of answers\n");
         return;
@@ -132,7 +133,7 @@ fn run(buffer: &mut [u8], table: &mut [u32]) {
         print(b"the list ends early\n");
         return;
     };
-    replay_list(buffer, table, count);
+    replay_list(buffer, table, output, count);
     if !goes_on(buffer, b"end\n") {
         print(b"the list ends early\n");
     }
@@ -141,5 +142,6 @@ fn run(buffer: &mut [u8], table: &mut [u32]) {
 fn main() {
     let mut buffer = io::large_buffer();
     let mut table = [0u32; 768];
-    run(&mut buffer, &mut table);
+    let mut output = io::large_buffer();
+    run(&mut buffer, &mut table, &mut output);
 }

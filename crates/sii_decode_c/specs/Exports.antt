@@ -1,12 +1,13 @@
 -- The C structs of the answers: number 0 and the answer, or a refusal's number and offset and nothing else.
 use Prim.Native.Nat.{ℕ}
 use Rattle.bsii_format.specs.Replies.{Reply, gives, refuses}
-use Rattle.bsii_format.specs.Calls.{Reading, PrototypeAnswer, BlockAnswer, FieldAnswer}
+use Rattle.bsii_format.specs.Calls.{Reading, PrototypeAnswer, BlockAnswer, FieldAnswer, TextAnswer}
 use Rattle.sii_decode_c.specs.declared.calls.SiiReading.{SiiReading}
 use Rattle.sii_decode_c.specs.declared.calls.SiiPrototype.{SiiPrototype}
 use Rattle.sii_decode_c.specs.declared.calls.SiiBlock.{SiiBlock}
 use Rattle.sii_decode_c.specs.declared.calls.SiiNumber.{SiiNumber}
 use Rattle.sii_decode_c.specs.declared.calls.SiiField.{SiiField}
+use Rattle.sii_decode_c.specs.declared.calls.SiiText.{SiiText}
 
 abbrev pub readingOut : Reply Reading → SiiReading
 readingOut (gives a) = record { number = 0; offset = 0; prototypes = a .prototypes; blocks = a .blocks; next = a .next }
@@ -28,3 +29,11 @@ numberOut (refuses f) = record { number = f .number; offset = f .offset; value =
 abbrev pub fieldOut : Reply FieldAnswer → SiiField
 fieldOut (gives a) = record { number = 0; offset = 0; «type_id» = a .typeId; «part_offset» = a .part .offset; «part_len» = a .part .size }
 fieldOut (refuses f) = record { number = f .number; offset = f .offset; «type_id» = 0; «part_offset» = 0; «part_len» = 0 }
+
+abbrev pub lengthOut : Reply ℕ → ℕ → SiiText
+lengthOut (gives n) needed = record { number = 0; offset = 0; length = n }
+lengthOut (refuses f) needed = record { number = f .number; offset = f .offset; length = needed }
+
+-- the text's length; of a text longer than the output the needed one, and of any other refusal 0
+abbrev pub textOut : TextAnswer → SiiText
+textOut a = lengthOut (a .reply) (a .needed)

@@ -7,12 +7,14 @@ use bsii_file::fields::FieldReply;
 use bsii_file::fields::field;
 use bsii_file::prototypes::PrototypeReply;
 use bsii_file::prototypes::get_prototype;
+use bsii_output::text::TextReply;
+use bsii_output::text::to_siin;
 use bsii_parse::reading::Reading;
 use bsii_parse::reading::parse;
 ghost use mathlib.Core.Path.{_≡_};
 ghost use lib.ListN.{length};
-ghost use Rattle.bsii_format.specs.Calls.{readingCall, prototypeCall, blockCall, namedBlockCall, fieldCall, tableAfter};
-ghost use Rattle.sii_decode_c.specs.Exports.{readingOut, prototypeOut, blockOut, numberOut, fieldOut};
+ghost use Rattle.bsii_format.specs.Calls.{readingCall, prototypeCall, blockCall, namedBlockCall, fieldCall, textCall, tableAfter};
+ghost use Rattle.sii_decode_c.specs.Exports.{readingOut, prototypeOut, blockOut, numberOut, fieldOut, textOut};
 
 #[repr(C)]
 pub struct SiiReading {
@@ -55,6 +57,13 @@ pub struct SiiField {
     pub type_id: u32,
     pub part_offset: u64,
     pub part_len: u64,
+}
+
+#[repr(C)]
+pub struct SiiText {
+    pub number: u32,
+    pub offset: u64,
+    pub length: u64,
 }
 
 #[no_mangle]
@@ -190,6 +199,31 @@ pub extern "C" fn sii_field_of(file: &[u8], table: &mut [u32], block: u64, name:
             type_id: 0,
             part_offset: 0,
             part_len: 0,
+        },
+    }
+}
+
+#[no_mangle]
+pub extern "C" fn sii_to_siin(file: &[u8], table: &mut [u32], output: &mut [u8]) -> SiiText
+    ensures reply { λ r. ⌜ r ≡ textOut (textCall (length (now (table .entry))) (now (file .entry)) (now (output .entry))) ⌝ }
+    ensures text { λ r. ⌜ now (output .exit) ≡ textCall (length (now (table .entry))) (now (file .entry)) (now (output .entry)) .output ⌝ }
+    ensures zeros { λ r. ⌜ now (table .exit) ≡ tableAfter (now (table .entry)) ⌝ }
+{
+    let reply = to_siin(file, table, output);
+    match reply {
+        TextReply::Text(n) => SiiText {
+            number: 0,
+            offset: 0,
+            length: n as u64,
+        },
+        TextReply::Refused {
+            number,
+            offset,
+            needed,
+        } => SiiText {
+            number,
+            offset: offset as u64,
+            length: needed as u64,
         },
     }
 }

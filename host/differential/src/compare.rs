@@ -9,18 +9,13 @@ use calls::Implementation;
 use generate::Random;
 use model::Model;
 
-/// The library, if there is one, and whether it has the text call.
-pub struct Library {
-    pub calls: Box<dyn Implementation>,
-    pub with_text: bool,
-}
-
 #[derive(Default)]
 pub struct Comparison {
     model: Model,
     /// A second one, so that the model as a side and the plan keep their own last file.
     planner: Model,
-    pub library: Option<Library>,
+    /// Compared with the Rust and the model, if it is there.
+    pub library: Option<Box<dyn Implementation>>,
 }
 
 impl Comparison {
@@ -30,20 +25,18 @@ impl Comparison {
         let verdict = Verdict::new(file, &mut self.planner, tally);
         let garbage = random.number() as u32;
         let mut model = Side::new("model", &mut self.model, garbage);
-        oracle_side::compare(&mut model, true, file, &plan, &verdict, tally)?;
+        oracle_side::compare(&mut model, file, &plan, &verdict, tally)?;
         let (type_id, part) = generate::element(random);
         element_fault(type_id, &part, tally)?;
         let Some(library) = &mut self.library else {
             return Ok(());
         };
-        let with_text = library.with_text;
-        let mut library = Side::new("library", library.calls.as_mut(), garbage);
-        oracle_side::compare(&mut library, with_text, file, &plan, &verdict, tally)?;
+        let mut library = Side::new("library", library.as_mut(), garbage);
+        oracle_side::compare(&mut library, file, &plan, &verdict, tally)?;
         let mut pair = Pair {
             library: &mut library,
             model: &mut model,
             file,
-            with_text,
             tally,
         };
         pair.compare(&plan, random)?;

@@ -2,7 +2,7 @@
 
 pub mod compare;
 pub mod large;
-#[cfg(feature = "linked-lookups")]
+#[cfg(feature = "linked")]
 pub mod linked;
 mod model_side;
 mod oracle_side;

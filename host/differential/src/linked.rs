@@ -31,7 +31,6 @@ extern "C" {
         name_len: usize,
     ) -> Field;
     fn sii_element_of(type_id: u32, part: *const u8, len: usize, index: u64) -> Element;
-    #[cfg(feature = "linked")]
     fn sii_to_siin(
         file: *const u8,
         len: usize,
@@ -41,9 +40,6 @@ extern "C" {
         out_len: usize,
     ) -> Text;
 }
-
-/// Whether the text call is linked too.
-pub const WITH_TEXT: bool = cfg!(feature = "linked");
 
 pub struct Linked;
 
@@ -88,15 +84,9 @@ impl Implementation for Linked {
         unsafe { sii_element_of(type_id, part.as_ptr(), part.len(), index) }
     }
 
-    #[cfg(feature = "linked")]
     fn to_siin(&mut self, file: &[u8], table: &mut [u32], out: &mut [u8]) -> Text {
         let (words, table) = (table.len(), table.as_mut_ptr());
         let (len, file) = (file.len(), file.as_ptr());
         unsafe { sii_to_siin(file, len, table, words, out.as_mut_ptr(), out.len()) }
-    }
-
-    #[cfg(not(feature = "linked"))]
-    fn to_siin(&mut self, _: &[u8], _: &mut [u32], _: &mut [u8]) -> Text {
-        unreachable!("the text call is not linked")
     }
 }

@@ -1,7 +1,6 @@
-//! `differential [--files N] [--seed S] [--first I] [--short | --large] [--source DIR]
-//! [--stage oracle-model|lookups|text]`
+//! `differential [--files N] [--seed S] [--first I] [--short | --large] [--source DIR]`
 
-use differential::compare::{Comparison, Library};
+use differential::compare::Comparison;
 use differential::report::{Difference, Tally};
 use differential::shrink::{hex_dump, shrink};
 use differential::{large, watch};
@@ -20,7 +19,6 @@ struct Arguments {
     seed: u64,
     first: u64,
     kind: Kind,
-    stage: Stage,
 }
 
 #[derive(PartialEq)]
@@ -28,13 +26,6 @@ enum Kind {
     Random,
     Short,
     Large,
-}
-
-#[derive(PartialEq)]
-enum Stage {
-    OracleModel,
-    Lookups,
-    Text,
 }
 
 fn stop(message: &str) -> ! {
@@ -53,7 +44,6 @@ fn arguments() -> Arguments {
         seed: 1,
         first: 0,
         kind: Kind::Random,
-        stage: Stage::OracleModel,
     };
     let mut words = std::env::args().skip(1);
     while let Some(word) = words.next() {
@@ -69,20 +59,10 @@ fn arguments() -> Arguments {
             "--short" => found.kind = Kind::Short,
             "--large" => found.kind = Kind::Large,
             "--source" => check_source(Path::new(&value())),
-            "--stage" => found.stage = stage(&value()),
             other => stop(&format!("what is {other}?")),
         }
     }
     found
-}
-
-fn stage(name: &str) -> Stage {
-    match name {
-        "oracle-model" => Stage::OracleModel,
-        "lookups" => Stage::Lookups,
-        "text" => Stage::Text,
-        other => stop(&format!("no stage {other}")),
-    }
 }
 
 /// The source is compiled in: make sure that it is the one meant.
@@ -106,28 +86,13 @@ fn check_source(folder: &Path) {
     }
 }
 
-#[cfg(feature = "linked-lookups")]
-fn library(stage: &Stage) -> Option<Library> {
-    use differential::linked::{Linked, WITH_TEXT};
-    if *stage == Stage::OracleModel {
-        return None;
-    }
-    if *stage == Stage::Text && !WITH_TEXT {
-        stop("the text call is not linked: build with --features linked");
-    }
-    Some(Library {
-        calls: Box::new(Linked),
-        with_text: *stage == Stage::Text,
-    })
+#[cfg(feature = "linked")]
+fn link(comparison: &mut Comparison) {
+    comparison.library = Some(Box::new(differential::linked::Linked));
 }
 
-#[cfg(not(feature = "linked-lookups"))]
-fn library(stage: &Stage) -> Option<Library> {
-    if *stage != Stage::OracleModel {
-        stop("no library is linked: build with --features linked (or linked-lookups)");
-    }
-    None
-}
+#[cfg(not(feature = "linked"))]
+fn link(_: &mut Comparison) {}
 
 type Files = Box<dyn Fn(u64) -> Vec<u8>>;
 
@@ -156,7 +121,7 @@ fn files(arguments: &Arguments) -> (u64, Files) {
 fn main() {
     let arguments = arguments();
     let mut comparison = Comparison::default();
-    comparison.library = library(&arguments.stage);
+    link(&mut comparison);
     let mut report = match oracle::silence_stdout() {
         Ok(stdout) => stdout,
         Err(error) => stop(&format!("standard output: {error}")),

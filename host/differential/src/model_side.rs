@@ -16,7 +16,6 @@ pub struct Pair<'a, 'b> {
     pub library: &'a mut Side<'b>,
     pub model: &'a mut Side<'b>,
     pub file: &'a [u8],
-    pub with_text: bool,
     pub tally: &'a mut Tally,
 }
 
@@ -34,9 +33,7 @@ impl Pair<'_, '_> {
     pub fn compare(&mut self, plan: &Plan, random: &mut Random) -> Check {
         self.lookups(plan)?;
         self.fields(plan)?;
-        if self.with_text {
-            self.text(plan.words)?;
-        }
+        self.text(plan.words)?;
         self.table_sizes(plan, random)
     }
 
@@ -159,10 +156,7 @@ impl Pair<'_, '_> {
             0
         );
         both!(self, field, "field", words, 0, &plan.names[last]);
-        if self.with_text {
-            self.text(words)?;
-        }
-        Ok(())
+        self.text(words)
     }
 }
 

@@ -70,7 +70,6 @@ fn number(fault: &Fault) -> u32 {
 
 pub fn compare(
     side: &mut Side<'_>,
-    with_text: bool,
     file: &[u8],
     plan: &Plan,
     verdict: &Verdict<'_>,
@@ -103,10 +102,7 @@ pub fn compare(
             lookups.fields()?;
         }
     }
-    if with_text {
-        text(side, file, plan, verdict, tally)?;
-    }
-    Ok(())
+    text(side, file, plan, verdict, tally)
 }
 
 fn label(side: &Side<'_>, call: &'static str) -> Label {

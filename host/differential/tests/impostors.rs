@@ -1,7 +1,7 @@
 //! The comparison has to find each of these wrong implementations out.
 
 use calls::{Block, Element, Field, Implementation, Number, Prototype, Reading, Text};
-use differential::compare::{Comparison, Library};
+use differential::compare::Comparison;
 use differential::report::Tally;
 use generate::Random;
 use model::Model;
@@ -241,19 +241,13 @@ impl Implementation for Impostor {
 
 /// Files looked at until the first difference.
 fn files_until_found(fault: Option<Fault>, most: u64) -> Option<u64> {
-    let fault = fault.map(|fault| Impostor {
-        model: Model::default(),
-        fault,
-    });
-    let calls: Box<dyn Implementation> = match fault {
-        Some(impostor) => Box::new(impostor),
-        None => Box::new(Model::default()),
+    let model = Model::default();
+    let library: Box<dyn Implementation> = match fault {
+        Some(fault) => Box::new(Impostor { model, fault }),
+        None => Box::new(model),
     };
     let mut comparison = Comparison::default();
-    comparison.library = Some(Library {
-        calls,
-        with_text: true,
-    });
+    comparison.library = Some(library);
     (0..most).find(|index| {
         let file = generate::file(1, *index);
         let mut random = Random::new(2, *index);
