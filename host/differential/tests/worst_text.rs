@@ -25,7 +25,7 @@ fn digits(count: u64) -> u64 {
 }
 
 #[test]
-fn is_measured_in_under_a_second() {
+fn is_measured_without_going_through_the_name() {
     let half = LENGTH_LIMIT / 2 - 24;
     let (name, count) = (half as u64, half as u64);
     let file = file(half, half);
@@ -41,5 +41,6 @@ fn is_measured_in_under_a_second() {
     assert_eq!((answer.number, answer.offset), (11, 0));
     assert_eq!(answer.length, frame + lines + elements);
     assert_eq!(table, [0; 3]);
-    assert!(time < Duration::from_secs(1), "measured in {time:?}");
+    // 2^46 bytes of names would take hours
+    assert!(time < Duration::from_secs(10), "measured in {time:?}");
 }
