@@ -1,13 +1,13 @@
 -- The parts of a value that is made of several numbers, and what bits that were made floats are in the text.
 use Prim.Native.Nat.{ℕ, _<_}
-use mathlib.Core.Path.{_≡_, ap, _∙_}
+use mathlib.Core.Path.{_≡_, refl, ap, _∙_}
 use mathlib.Core.List.{List, _++_, append-assoc}
 use native.Mathlib.Omega.{arith}
 use lib.IntN.{ℤ, pos, negsuc}
 use lib.Ieee.{Float, binary32, ofBits}
 use Rattle.bsii_format.specs.Ascii.{ascii}
 use Rattle.bsii_format.specs.Floats.{floatText, vec2Text, vec3Text, vec4Text, coefficient, floorMod, floorDiv, placementText}
-use Rattle.bsii_float.specs.Bits.{vec2Of, vec3Of, vec4Of, placementOf}
+use Rattle.bsii_float.specs.Bits.{bitsOf, vec2Of, vec3Of, vec4Of, placementOf}
 use Rattle.bsii_float.specs.declared.floats.Vec2.{Vec2}
 use Rattle.bsii_float.specs.declared.floats.Bits2.{Bits2}
 use Rattle.bsii_float.specs.declared.floats.Vec3.{Vec3}
@@ -18,7 +18,7 @@ use Rattle.bsii_float.specs.declared.floats.Placement.{Placement}
 use Rattle.bsii_float.specs.declared.floats.PlacementBits.{PlacementBits}
 use Rattle.bsii_float.proofs.Bits.{bits-back}
 use Rattle.bsii_float.proofs.Sums.{sum-text}
-use Rattle.bsii_numeric.specs.Floats.{floatWith, vec2With, vec3With, vec4With, placementWith, bits2Text, bits3Text, bits4Text, placementBitsText}
+use Rattle.bsii_numeric.specs.Floats.{floatWith, vec2With, vec3With, vec4With, inSector, positionOf, placementWith, bits2Text, bits3Text, bits4Text, placementBitsText}
 
 -- ---- parts as they are written
 
@@ -40,6 +40,11 @@ module _ (a b : List ℕ) where
   pub vec4-parts : (c d : List ℕ) → ascii "(" ++ a ++ ascii "; " ++ b ++ (ascii ", " ++ c) ++ (ascii ", " ++ d) ++ ascii ")" ≡ vec4Text a b c d
   unfolding vec4Text
   vec4-parts c d = three (ascii "(" ++ a ++ ascii "; ") b (ascii ", ") c (ascii ", ") d (ascii ")")
+
+-- a position by its sector
+pub position-parts : (v : Placement) (w : PlacementBits) {n x z : ℕ} {p q : Float} → n ≡ bitsOf (v .d) (w .d) → x ≡ floorMod (coefficient n) 4096 → z ≡ floorMod (floorDiv (coefficient n) 4096) 4096
+    → p ≡ inSector (v .a) x → q ≡ inSector (v .c) z → _≡_ {A = Vec3} (record { a = p; b = v .b; c = q }) (positionOf v w)
+position-parts v w e f g h k = rw (h, k, f, g, e) refl
 
 -- ---- bits that were made floats, and stand beside them, come back
 

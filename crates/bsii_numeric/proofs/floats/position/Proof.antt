@@ -1,3 +1,4 @@
+use Rattle.bsii_numeric.proofs.TextLaws.{position-parts}
 use borrow.Author.Needs.{needs}
 use Rattle.bsii_numeric.proofs.floats.position.Statement.{statement}
 use Rattle.bsii_numeric.proofs.floats.position.Tie as tie
@@ -15,7 +16,10 @@ sector-sum-requires-2 : tie.Need-sector-sum-requires-2
 sector-sum-requires-2 c κs = search needs
 
 returns : tie.Need-returns
-returns c = cc (c .before .before .sectors-of .ensures .0, c .before .before .sectors-of .ensures .1)
+returns c =
+    let a = c .before .before .before .before .args in
+    let sectors = c .before .before .sectors-of .ensures in
+    position-parts (a .v) (a .nan) (c .before .before .before .bits-of .ensures) (sectors .0) (sectors .1) (c .before .sector-sum .ensures) (c .sector-sum2 .ensures)
 
 pub position-spec : {M : Type 1} → statement M
 position-spec =
