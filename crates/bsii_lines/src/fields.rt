@@ -52,7 +52,7 @@ fn write_index(out: &mut [u8], to: usize, s: &[u8], d: Definition, i: u32) -> us
     ensures { λ r. ⌜ Wrote (now (out .entry)) to (ascii "  " ++ indexed (nameOf (now (s .entry)) d) i ++ ascii ": ") r (now (out .exit)) ⌝ }
 {
     let next = write_name(out, to, s, d);
-    let open = put(out, next, 91);
+    let open = put(out, next, b'[');
     let close = write_decimal(out, open, i as u64);
     put_all(out, close, b"]: ")
 }
@@ -74,7 +74,7 @@ fn write_rest(out: &mut [u8], to: usize, s: &[u8], at: usize, kind: Kind, d: Def
                 Scalar::To(line_end) => {
                     return Lines::Next {
                         at: next,
-                        to: put(out, line_end, 10),
+                        to: put(out, line_end, b'\n'),
                     };
                 }
             }
@@ -139,7 +139,7 @@ fn write_array(out: &mut [u8], to: usize, s: &[u8], at: usize, kind: Kind, d: De
         Num::Got(n, first) => {
             let next = write_opening(out, to, s, d);
             let line_end = write_decimal(out, next, n as u64);
-            let lines = put(out, line_end, 10);
+            let lines = put(out, line_end, b'\n');
             return write_vector_data_value(out, lines, s, first, kind, d, n);
         }
     }

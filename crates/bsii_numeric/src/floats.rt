@@ -28,7 +28,7 @@ ghost use Rattle.bsii_numeric.specs.Floats.{floatWith, vec2With, vec3Wit
 fn write_bits(out: &mut [u8], at: usize, n: u32) -> usize
     ensures { λ r. ⌜ Wrote (now (out .entry)) at (bitsText n) r (now (out .exit)) ⌝ }
 {
-    let next = put(out, at, 38);
+    let next = put(out, at, b'&');
     write_hex(out, next, n as u64)
 }
 
@@ -36,7 +36,7 @@ fn write_whole(out: &mut [u8], at: usize, negative: bool, size: u32) -> usize
     ensures { λ r. ⌜ Wrote (now (out .entry)) at (minusIf negative (decimal size)) r (now (out .exit)) ⌝ }
 {
     if negative {
-        let next = put(out, at, 45);
+        let next = put(out, at, b'-');
         return write_decimal(out, next, size as u64);
     }
     write_decimal(out, at, size as u64)
@@ -64,7 +64,7 @@ fn write_further(out: &mut [u8], at: usize, f: f32, nan: u32) -> usize
 fn write_first(out: &mut [u8], at: usize, f: f32, nan: u32) -> usize
     ensures { λ r. ⌜ Wrote (now (out .entry)) at (ascii "(" ++ floatWith f nan) r (now (out .exit)) ⌝ }
 {
-    let next = put(out, at, 40);
+    let next = put(out, at, b'(');
     write_float(out, next, f, nan)
 }
 
@@ -73,7 +73,7 @@ pub fn write_vec2(out: &mut [u8], at: usize, v: Vec2, nan: Bits2) -> usize
 {
     let a = write_first(out, at, v.a, nan.a);
     let b = write_further(out, a, v.b, nan.b);
-    put(out, b, 41)
+    put(out, b, b')')
 }
 
 pub fn write_vec3(out: &mut [u8], at: usize, v: Vec3, nan: Bits3) -> usize
@@ -82,7 +82,7 @@ pub fn write_vec3(out: &mut [u8], at: usize, v: Vec3, nan: Bits3) -> usize
     let a = write_first(out, at, v.a, nan.a);
     let b = write_further(out, a, v.b, nan.b);
     let c = write_further(out, b, v.c, nan.c);
-    put(out, c, 41)
+    put(out, c, b')')
 }
 
 // `; ` stands behind the first of four.
@@ -100,7 +100,7 @@ pub fn write_float_vec4(out: &mut [u8], at: usize, v: Vec4, nan: Bits4) -> usize
     let b = write_first_two(out, at, v, nan);
     let c = write_further(out, b, v.c, nan.c);
     let d = write_further(out, c, v.d, nan.d);
-    put(out, d, 41)
+    put(out, d, b')')
 }
 
 // The position with its sector.
@@ -151,6 +151,6 @@ pub fn write_float_vec8(out: &mut [u8], at: usize, v: Placement, nan: PlacementB
     ensures { λ r. ⌜ Wrote (now (out .entry)) at (placementWith v nan) r (now (out .exit)) ⌝ }
 {
     let first = write_vec3(out, at, position(v, nan), position_bits(nan));
-    let next = put(out, first, 32);
+    let next = put(out, first, b' ');
     write_float_vec4(out, next, turn(v), turn_bits(nan))
 }

@@ -48,7 +48,7 @@ fn write_further_int(out: &mut [u8], at: usize, n: u32) -> usize
 fn write_first_int(out: &mut [u8], at: usize, n: u32) -> usize
     ensures { λ r. ⌜ Wrote (now (out .entry)) at (ascii "(" ++ int32Text n) r (now (out .exit)) ⌝ }
 {
-    let next = put(out, at, 40);
+    let next = put(out, at, b'(');
     write_i32(out, next, n)
 }
 
@@ -58,7 +58,7 @@ fn write_int_vec3(out: &mut [u8], at: usize, v: Bits3) -> usize
     let a = write_first_int(out, at, v.a);
     let b = write_further_int(out, a, v.b);
     let c = write_further_int(out, b, v.c);
-    put(out, c, 41)
+    put(out, c, b')')
 }
 
 fn write_float_at(out: &mut [u8], at: usize, raw: &[u8]) -> usize

@@ -42,7 +42,7 @@ pub fn write_hex(out: &mut [u8], at: usize, n: u64) -> usize
     ensures { λ r. ⌜ Wrote (now (out .entry)) at (hexadecimal n) r (now (out .exit)) ⌝ }
 {
     if n == 0 {
-        return put(out, at, 48);
+        return put(out, at, b'0');
     }
     let count = (67 - u64::leading_zeros(n)) / 4;
     write_hex_padded(out, at, n, count)

@@ -17,14 +17,14 @@ ghost use Rattle.bsii_write.specs.Ids.{wordAt, dottedAt, IdWritten};
 fn write_first_group(out: &mut [u8], at: usize, n: u64) -> usize
     ensures { λ r. ⌜ Wrote (now (out .entry)) at (ascii "." ++ hexadecimal n) r (now (out .exit)) ⌝ }
 {
-    let next = put(out, at, 46);
+    let next = put(out, at, b'.');
     write_hex(out, next, n)
 }
 
 fn write_later_group(out: &mut [u8], at: usize, n: u64) -> usize
     ensures { λ r. ⌜ Wrote (now (out .entry)) at (ascii "." ++ hexPadded 4 n) r (now (out .exit)) ⌝ }
 {
-    let next = put(out, at, 46);
+    let next = put(out, at, b'.');
     write_hex_padded(out, next, n, 4)
 }
 
@@ -59,7 +59,7 @@ fn write_word_at(out: &mut [u8], at: usize, raw: &[u8], place: usize) -> usize
 fn write_dotted_word(out: &mut [u8], at: usize, raw: &[u8], place: usize) -> usize
     ensures { λ r. ⌜ Wrote (now (out .entry)) at (ascii "." ++ wordAt (now (raw .entry)) place) r (now (out .exit)) ⌝ }
 {
-    let next = put(out, at, 46);
+    let next = put(out, at, b'.');
     write_word_at(out, next, raw, place)
 }
 

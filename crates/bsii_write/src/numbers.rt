@@ -39,7 +39,7 @@ pub fn write_u64(out: &mut [u8], at: usize, n: u64) -> usize
 fn write_negative(out: &mut [u8], at: usize, size: u64) -> usize
     ensures { λ r. ⌜ Wrote (now (out .entry)) at (ascii "-" ++ decimal size) r (now (out .exit)) ⌝ }
 {
-    let next = put(out, at, 45);
+    let next = put(out, at, b'-');
     write_decimal(out, next, size)
 }
 

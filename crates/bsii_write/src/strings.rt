@@ -109,7 +109,7 @@ pub fn write_string(out: &mut [u8], at: usize, bytes: &[u8]) -> usize
     if all_bare(bytes) {
         return put_all(out, at, bytes);
     }
-    let first = put(out, at, 34);
+    let first = put(out, at, b'"');
     let last = write_escaped(out, first, bytes);
-    put(out, last, 34)
+    put(out, last, b'"')
 }

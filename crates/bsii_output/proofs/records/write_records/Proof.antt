@@ -22,7 +22,7 @@ write-record-requires c κs =
     let b = l .before .before .before .before in
     let a = b .args in
     let x = l .loop in
-    (b .pre .short, x .inv .inside, go-rows (now (a .s)) (a .start) (now (a .table)) (a .rows) (now (a .out)) (a .to) (x .at) (x .here) (x .table) (x .out) (x .inv) (b .pre))
+    (b .pre .short, omega (arith, x .inv .inside, b .pre .inside), go-rows (now (a .s)) (a .start) (now (a .table)) (a .rows) (now (a .out)) (a .to) (x .at) (x .here) (x .table) (x .out) (x .inv) (b .pre))
 
 enum-told : tie.Need-enum-told Inv-loop μ-loop
 enum-told c = search needs
