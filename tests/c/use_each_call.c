@@ -335,6 +335,9 @@ static void damaged(const char *name, size_t at, uint8_t byte, uint32_t number, 
     refused(name, made, made_len, 3, number, offset);
 }
 
+/* a number whose low 32 bits are 0: it must not be taken for 0 */
+#define ABOVE_32_BITS ((uint64_t)1 << 32)
+
 static void the_worked_file(void)
 {
     size_t words;
@@ -362,8 +365,10 @@ static void the_worked_file(void)
     prototype(worked, WORKED, 3, 8, (SiiPrototype){SII_ABSENT, 0, 0, 0, 0});
     prototype(worked, WORKED, 3, 0, (SiiPrototype){SII_ABSENT, 0, 0, 0, 0});
     block(worked, WORKED, 3, 1, (SiiBlock){SII_ABSENT, 0, 0, 0, 0});
+    block(worked, WORKED, 3, ABOVE_32_BITS, (SiiBlock){SII_ABSENT, 0, 0, 0, 0});
     block(worked, WORKED, 3, UINT64_MAX, (SiiBlock){SII_ABSENT, 0, 0, 0, 0});
     named_block(worked, WORKED, 3, "trip", 1, (SiiNumber){SII_ABSENT, 0, 0});
+    named_block(worked, WORKED, 3, "trip", ABOVE_32_BITS, (SiiNumber){SII_ABSENT, 0, 0});
     named_block(worked, WORKED, 3, "trip", UINT64_MAX, (SiiNumber){SII_ABSENT, 0, 0});
     named_block(worked, WORKED, 3, "tri", 0, (SiiNumber){SII_ABSENT, 0, 0});
     named_block(worked, WORKED, 3, "trips", 0, (SiiNumber){SII_ABSENT, 0, 0});
@@ -373,6 +378,7 @@ static void the_worked_file(void)
     field(worked, WORKED, 3, 0, "kmh", (SiiField){SII_ABSENT, 0, 0, 0, 0});
     field(worked, WORKED, 3, 0, "", (SiiField){SII_ABSENT, 0, 0, 0, 0});
     field(worked, WORKED, 3, 1, "km", (SiiField){SII_ABSENT, 0, 0, 0, 0});
+    field(worked, WORKED, 3, ABOVE_32_BITS, "km", (SiiField){SII_ABSENT, 0, 0, 0, 0});
     field(worked, WORKED, 3, UINT64_MAX, "km", (SiiField){SII_ABSENT, 0, 0, 0, 0});
     element(0x27, worked + 61, 4, 1, no_element(SII_ABSENT, 0));
     element(0x06, worked + 65, 12, 2, no_element(SII_ABSENT, 0));
@@ -597,6 +603,7 @@ static void elements(void)
     element(0x28, BYTES("\2\0\0\0\1\0\0\0\2\0"), 0, no_element(SII_MALFORMED, 8));
     element(0x28, BYTES("\0\0\0\0"), 0, no_element(SII_ABSENT, 0));
     element(0x27, BYTES("\1\2\3\4"), 1, no_element(SII_ABSENT, 0));
+    element(0x27, BYTES("\1\2\3\4"), ABOVE_32_BITS, no_element(SII_ABSENT, 0));
     element(0x27, BYTES("\1\2\3\4"), UINT64_MAX, no_element(SII_ABSENT, 0));
     label = "bytes behind the value";
     element(0x27, BYTES("\1\0\0\0\2\0\0\0"), 0, value(SII_KIND_U32, 1));
@@ -607,54 +614,55 @@ static void layout(void)
 {
     label = "layout";
 #define SIZE(type, size) equal("size of " #type, size, sizeof(type))
-#define AT(type, member, at) equal("place of " #type "." #member, at, offsetof(type, member))
+#define AT(type, member, at, width) \
+    (equal("place of " #type "." #member, at, offsetof(type, member)), equal("size of " #type "." #member, width, sizeof(((type *)0)->member)))
     SIZE(SiiReading, 40);
-    AT(SiiReading, number, 0);
-    AT(SiiReading, offset, 8);
-    AT(SiiReading, prototypes, 16);
-    AT(SiiReading, blocks, 24);
-    AT(SiiReading, next, 32);
+    AT(SiiReading, number, 0, 4);
+    AT(SiiReading, offset, 8, 8);
+    AT(SiiReading, prototypes, 16, 8);
+    AT(SiiReading, blocks, 24, 8);
+    AT(SiiReading, next, 32, 8);
     SIZE(SiiPrototype, 40);
-    AT(SiiPrototype, number, 0);
-    AT(SiiPrototype, offset, 8);
-    AT(SiiPrototype, name_offset, 16);
-    AT(SiiPrototype, name_len, 24);
-    AT(SiiPrototype, fields, 32);
+    AT(SiiPrototype, number, 0, 4);
+    AT(SiiPrototype, offset, 8, 8);
+    AT(SiiPrototype, name_offset, 16, 8);
+    AT(SiiPrototype, name_len, 24, 8);
+    AT(SiiPrototype, fields, 32, 8);
     SIZE(SiiBlock, 40);
-    AT(SiiBlock, number, 0);
-    AT(SiiBlock, offset, 8);
-    AT(SiiBlock, prototype_id, 16);
-    AT(SiiBlock, id_offset, 24);
-    AT(SiiBlock, id_len, 32);
+    AT(SiiBlock, number, 0, 4);
+    AT(SiiBlock, offset, 8, 8);
+    AT(SiiBlock, prototype_id, 16, 4);
+    AT(SiiBlock, id_offset, 24, 8);
+    AT(SiiBlock, id_len, 32, 8);
     SIZE(SiiNumber, 24);
-    AT(SiiNumber, number, 0);
-    AT(SiiNumber, offset, 8);
-    AT(SiiNumber, value, 16);
+    AT(SiiNumber, number, 0, 4);
+    AT(SiiNumber, offset, 8, 8);
+    AT(SiiNumber, value, 16, 8);
     SIZE(SiiField, 40);
-    AT(SiiField, number, 0);
-    AT(SiiField, offset, 8);
-    AT(SiiField, type_id, 16);
-    AT(SiiField, part_offset, 24);
-    AT(SiiField, part_len, 32);
+    AT(SiiField, number, 0, 4);
+    AT(SiiField, offset, 8, 8);
+    AT(SiiField, type_id, 16, 4);
+    AT(SiiField, part_offset, 24, 8);
+    AT(SiiField, part_len, 32, 8);
     SIZE(SiiText, 24);
-    AT(SiiText, number, 0);
-    AT(SiiText, offset, 8);
-    AT(SiiText, length, 16);
+    AT(SiiText, number, 0, 4);
+    AT(SiiText, offset, 8, 8);
+    AT(SiiText, length, 16, 8);
     SIZE(SiiElement, 80);
-    AT(SiiElement, number, 0);
-    AT(SiiElement, offset, 8);
-    AT(SiiElement, kind, 16);
-    AT(SiiElement, place_offset, 24);
-    AT(SiiElement, place_len, 32);
-    AT(SiiElement, value, 40);
-    AT(SiiElement, a, 48);
-    AT(SiiElement, b, 52);
-    AT(SiiElement, c, 56);
-    AT(SiiElement, d, 60);
-    AT(SiiElement, e, 64);
-    AT(SiiElement, f, 68);
-    AT(SiiElement, g, 72);
-    AT(SiiElement, h, 76);
+    AT(SiiElement, number, 0, 4);
+    AT(SiiElement, offset, 8, 8);
+    AT(SiiElement, kind, 16, 4);
+    AT(SiiElement, place_offset, 24, 8);
+    AT(SiiElement, place_len, 32, 8);
+    AT(SiiElement, value, 40, 8);
+    AT(SiiElement, a, 48, 4);
+    AT(SiiElement, b, 52, 4);
+    AT(SiiElement, c, 56, 4);
+    AT(SiiElement, d, 60, 4);
+    AT(SiiElement, e, 64, 4);
+    AT(SiiElement, f, 68, 4);
+    AT(SiiElement, g, 72, 4);
+    AT(SiiElement, h, 76, 4);
 }
 
 /* the header's constants by their numbers in the scope: the other checks use them by name */
@@ -681,7 +689,7 @@ int main(void)
 {
     layout();
     constants();
-    /* the second round only after a clean first one: a byte written outside would damage the allocator */
+    /* each round only if all is well so far: with another layout no answer means anything, and a byte written outside damages the allocator */
     for (guarded = 1; guarded >= 0 && failures == 0; guarded--) {
         the_worked_file();
         damage();

@@ -52,9 +52,8 @@ SiiPrototype __wrap_sii_get_prototype(const uint8_t *file, size_t file_len, uint
 
 SiiBlock __wrap_sii_block_at(const uint8_t *file, size_t file_len, uint32_t *table, size_t words, uint64_t n)
 {
-#if WRONG == 8 /* the largest number is a block */
-    if (n == UINT64_MAX)
-        n = 0;
+#if WRONG == 8 /* only 32 bits of the number count */
+    n = (uint32_t)n;
 #endif
     return __real_sii_block_at(file, file_len, table, words, n);
 }
