@@ -363,6 +363,8 @@ static void the_worked_file(void)
 
     label = "worked file, what is not there";
     prototype(worked, WORKED, 3, 8, (SiiPrototype){SII_ABSENT, 0, 0, 0, 0});
+    prototype(worked, WORKED, 3, 0x107, (SiiPrototype){SII_ABSENT, 0, 0, 0, 0});
+    prototype(worked, WORKED, 3, 0x10007, (SiiPrototype){SII_ABSENT, 0, 0, 0, 0});
     prototype(worked, WORKED, 3, 0, (SiiPrototype){SII_ABSENT, 0, 0, 0, 0});
     block(worked, WORKED, 3, 1, (SiiBlock){SII_ABSENT, 0, 0, 0, 0});
     block(worked, WORKED, 3, ABOVE_32_BITS, (SiiBlock){SII_ABSENT, 0, 0, 0, 0});
@@ -551,6 +553,26 @@ static void the_length_limit(void)
     free(file);
 }
 
+/* a needed length above 32 bits: an array of 2^20 bools, all false, under a name of 2^20 bytes */
+static void a_long_text(void)
+{
+    static const uint8_t head[] = {'B', 'S', 'I', 'I', 2, 0, 0, 0, 0, 0, 0, 0, 1, 1, 0, 0, 0, 1, 0, 0, 0, 'p', 0x36, 0, 0, 0, 0, 0, 0x10, 0};
+    static const uint8_t value[] = {0, 0, 0, 0, 1, 0, 0, 0, 0, 0, 0, 0x10, 0};
+    const size_t many = (size_t)1 << 20, len = sizeof head + many + sizeof value + many + 5;
+    uint8_t *file = calloc(1, len);
+    if (file == NULL) {
+        printf("no memory for a file with a long text\n");
+        exit(1);
+    }
+    memcpy(file, head, sizeof head);
+    memset(file + sizeof head, 'n', many);
+    memcpy(file + sizeof head + many, value, sizeof value);
+    label = "a long text";
+    reading(file, len, 3, (SiiReading){0, 0, 1, 1, len});
+    text(file, len, 3, 100, (SiiText){SII_OUTPUT_SHORT, 0, 1099531488224}, "");
+    free(file);
+}
+
 /* bytes without a terminator, and how many */
 #define BYTES(literal) (literal), sizeof(literal) - 1
 
@@ -697,6 +719,7 @@ int main(void)
         the_redefined_file();
         small_files();
         the_length_limit();
+        a_long_text();
         elements();
     }
     printf("%lu checks, %lu failed\n", checks, failures);
