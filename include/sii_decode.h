@@ -1,0 +1,218 @@
+/*
+ * The converter from BSII, a truck simulator's binary saves, to SiiNunit text. Link with libsii_decode_c.a, which `rt staticlib sii_decode_c`
+ * puts into target/staticlib. docs/FORMAT.md explains the format, the refusals and the calls.
+ *
+ * Answers. Each call returns a struct. Its `number` is 0 if the call has an answer; then `offset` is 0. Otherwise it is one of the refusals 1
+ * to 13 below, `offset` is the byte of the file (of the part, for sii_element_of) that the refusal is about, and every other member is 0, with
+ * one exception: the `length` of SII_OUTPUT_SHORT. Compare structs member by member: the padding between members holds anything.
+ *
+ * What is asked of the caller. A pointer is not NULL, also with length 0, and at least as many bytes (or words, for the table) as its length
+ * says can be read there, and for table and output written. The table is aligned for uint32_t. Table and output overlap neither each other nor
+ * the file or the name. Nothing else: any bytes, any length and any number are allowed, and each call ends. The library allocates nothing,
+ * keeps nothing between calls and keeps no pointer, so calls with different tables and outputs may run at the same time.
+ *
+ * The file is read only. It may be any bytes, also none; with more than SII_LENGTH_LIMIT it is refused.
+ *
+ * The table is scratch of `words` words. It may hold anything before a call; after every call, refused or not, all its words are 0. Three
+ * words for each distinct prototype id of the file are enough. A prototype has at least 17 bytes, so three words for each whole 17 bytes of
+ * the file, file_len / 17 * 3, always are.
+ */
+#ifndef SII_DECODE_H
+#define SII_DECODE_H
+
+#include <stddef.h>
+#include <stdint.h>
+
+#ifdef __cplusplus
+extern "C" {
+#endif
+
+/* The most bytes that a file may have, those behind its end record included. */
+#define SII_LENGTH_LIMIT 16777216
+
+/*
+ * The refusals. Of several, SII_INPUT_LONG comes first, then the first fault of the file from front to back (1 to 7 and 10), whatever was
+ * asked for, then SII_ABSENT; for sii_to_siin 8 and 9 in the order of the text, then SII_OUTPUT_SHORT. No refusal has the number 0.
+ */
+enum {
+    /* The first 4 bytes are missing or are not "BSII". Offset 0. */
+    SII_INVALID_HEADER = 1,
+    /* The version is 1; every other version is read. Offset 8. */
+    SII_UNSUPPORTED_VERSION = 2,
+    /* A number, a byte, or the bytes of a string run out, or the mark of a record is neither 0 nor 1. Offset: where that item starts. */
+    SII_MALFORMED = 3,
+    /* A string is not UTF-8. Offset: its first byte after its length. */
+    SII_NOT_UTF8 = 4,
+    /* An encoded word has a digit 0. Offset: the word. */
+    SII_ZERO_DIGIT = 5,
+    /* No prototype of a block's prototype id stands in front of it. Offset: the block. */
+    SII_UNDEFINED_PROTOTYPE = 6,
+    /* A block carries a value of a type that the format does not list, so that its length is not known. Offset: where the value would start. */
+    SII_UNLISTED_TYPE = 7,
+    /* The last definition of a block's prototype id has another number of fields than the block has values. Offset: the block. */
+    SII_FIELD_COUNT = 8,
+    /* An enum value is not in the list of the last definition, or there is no list at its position. Offset: the value. */
+    SII_ENUM_VALUE = 9,
+    /* The table has no three words left for a prototype under a new id. Offset: the prototype. */
+    SII_TABLE_FULL = 10,
+    /* The text is longer than the output; the answer has the needed length. Offset 0. */
+    SII_OUTPUT_SHORT = 11,
+    /* The file has more than SII_LENGTH_LIMIT bytes. Offset 0. */
+    SII_INPUT_LONG = 12,
+    /* The prototype, block, name or element that was asked for is not there. Offset 0. */
+    SII_ABSENT = 13
+};
+
+/* The kinds of an element, each with the types it comes from and the members of SiiElement that hold it; the others are 0. */
+enum {
+    /* Types 0x01, 0x02: place_offset and place_len, the string's bytes without its length. */
+    SII_KIND_STRING = 1,
+    /* 0x03, 0x04: value, the low 63 bits of the encoded word. */
+    SII_KIND_WORD = 2,
+    /* 0x05, 0x06: a. All floats are given as their IEEE 754 bits, every NaN as 0x7fc00000. */
+    SII_KIND_F32 = 3,
+    /* 0x07: a, b. */
+    SII_KIND_TWO_F32 = 4,
+    /* 0x09: a, b, c. */
+    SII_KIND_THREE_F32 = 5,
+    /* 0x11, 0x12: a, b, c, each an int32_t in two's complement. */
+    SII_KIND_THREE_I32 = 6,
+    /* 0x18: a, b, c, d. */
+    SII_KIND_FOUR_F32 = 7,
+    /* 0x19, 0x1a: a to h, as they stand in the file: the sums of the text are not made. */
+    SII_KIND_PLACEMENT = 8,
+    /* 0x25, 0x26: value, an int64_t in two's complement. */
+    SII_KIND_I32 = 9,
+    /* 0x27, 0x28, 0x2f: value. */
+    SII_KIND_U32 = 10,
+    /* 0x2b, 0x2c: value. */
+    SII_KIND_U16 = 11,
+    /* 0x31, 0x32: value, an int64_t in two's complement. */
+    SII_KIND_I64 = 12,
+    /* 0x33, 0x34: value. */
+    SII_KIND_U64 = 13,
+    /* 0x35, 0x36: value, 0 or 1. */
+    SII_KIND_BOOL = 14,
+    /* 0x37: value, the number; no list is consulted. */
+    SII_KIND_ENUM = 15,
+    /* 0x39 to 0x3d: place_offset and place_len, all bytes of the id, its first one included. */
+    SII_KIND_ID = 16
+};
+
+typedef struct SiiReading {
+    uint32_t number;
+    uint64_t offset;
+    uint64_t prototypes; /* distinct prototype ids */
+    uint64_t blocks;
+    uint64_t next; /* the offset after the end record */
+} SiiReading;
+
+typedef struct SiiPrototype {
+    uint32_t number;
+    uint64_t offset;
+    uint64_t name_offset; /* the name's bytes in the file, without their length */
+    uint64_t name_len;
+    uint64_t fields;
+} SiiPrototype;
+
+typedef struct SiiBlock {
+    uint32_t number;
+    uint64_t offset;
+    uint32_t prototype_id;
+    uint64_t id_offset; /* the bytes of the block's id in the file, its first one included */
+    uint64_t id_len;
+} SiiBlock;
+
+typedef struct SiiNumber {
+    uint32_t number;
+    uint64_t offset;
+    uint64_t value;
+} SiiNumber;
+
+typedef struct SiiField {
+    uint32_t number;
+    uint64_t offset;
+    uint32_t type_id;
+    uint64_t part_offset; /* the part of the file that encodes the value: of a string with its length, of an array with its count */
+    uint64_t part_len;
+} SiiField;
+
+typedef struct SiiText {
+    uint32_t number;
+    uint64_t offset;
+    uint64_t length; /* the text's; with SII_OUTPUT_SHORT the needed length, with every other refusal 0 */
+} SiiText;
+
+typedef struct SiiElement {
+    uint32_t number;
+    uint64_t offset;
+    uint32_t kind;
+    uint64_t place_offset;
+    uint64_t place_len;
+    uint64_t value;
+    uint32_t a;
+    uint32_t b;
+    uint32_t c;
+    uint32_t d;
+    uint32_t e;
+    uint32_t f;
+    uint32_t g;
+    uint32_t h;
+} SiiElement;
+
+/*
+ * Reads the whole file. Answers the number of distinct prototype ids, the number of blocks, and the offset after the end record; bytes from
+ * there on are ignored. Refusals: 1 to 7, 10, 12. Afterwards the table is all 0.
+ */
+SiiReading sii_read(const uint8_t *file, size_t file_len, uint32_t *table, size_t words);
+
+/*
+ * The prototype with this id, by its last definition in the file. Answers the place of its name in the file and its number of fields.
+ * Refusals: 1 to 7, 10, 12; SII_ABSENT if the id is defined nowhere. Afterwards the table is all 0.
+ */
+SiiPrototype sii_get_prototype(const uint8_t *file, size_t file_len, uint32_t *table, size_t words, uint32_t id);
+
+/*
+ * The n-th block of the file, from 0. Answers its prototype id and the place of the block's id in the file. Refusals: 1 to 7, 10, 12;
+ * SII_ABSENT if there are not so many blocks. Afterwards the table is all 0.
+ */
+SiiBlock sii_block_at(const uint8_t *file, size_t file_len, uint32_t *table, size_t words, uint64_t n);
+
+/*
+ * The n-th block, from 0, among those whose prototype has this name by its last definition. Answers in `value` the block's number among all
+ * blocks, for sii_block_at and sii_field_of. The name has no terminator and is compared byte by byte; any bytes are allowed. Refusals: 1 to 7,
+ * 10, 12; SII_ABSENT if there are not so many. Afterwards the table is all 0.
+ */
+SiiNumber sii_blocks_by_prototype_name(const uint8_t *file, size_t file_len, uint32_t *table, size_t words, const uint8_t *name,
+                                       size_t name_len, uint64_t n);
+
+/*
+ * The value of a block, by the block's number from 0 and the field's name: the first definition of that name in the last definition of the
+ * block's prototype gives its position. Answers the type with which the block was read, and the part of the file that encodes the value; both
+ * go to sii_element_of. The part is never empty. The name has no terminator and is compared byte by byte; any bytes are allowed. Refusals: 1 to
+ * 7, 10, 12; SII_ABSENT if there is no such block, no such name, or no value at that position in the block. Afterwards the table is all 0.
+ */
+SiiField sii_field_of(const uint8_t *file, size_t file_len, uint32_t *table, size_t words, uint64_t block, const uint8_t *name,
+                      size_t name_len);
+
+/*
+ * An element of a value of this type, which is read whole from the start of `part`; bytes behind it are ignored. A single value has the index 0
+ * only, an array its elements from 0. Answers the element's kind and the element; places and the offsets of refusals count from the start of
+ * `part`. Refusals: SII_UNLISTED_TYPE, then 3, 4, 5 of the whole value, also behind the element, then SII_ABSENT if the index is too high.
+ * There is no table and no length limit; nothing is written.
+ */
+SiiElement sii_element_of(uint32_t type_id, const uint8_t *part, size_t part_len, uint64_t index);
+
+/*
+ * Writes the file's text into the output. Answers the text's length, which has no terminator. Refusals: 1 to 12; with SII_OUTPUT_SHORT `length`
+ * is the length that the output must have, which may be above 32 bits. Afterwards the output starts with the text, and its bytes beyond the
+ * text keep their values; after a refusal all of them do. The table is all 0. An output of length 0 is allowed: every text is longer, so it is
+ * a way to ask for the length.
+ */
+SiiText sii_to_siin(const uint8_t *file, size_t file_len, uint32_t *table, size_t words, uint8_t *output, size_t output_len);
+
+#ifdef __cplusplus
+}
+#endif
+
+#endif

@@ -1,0 +1,56 @@
+// The header from C++: it compiles, the functions are found under their C names, and the structs are C's.
+#include <cstdio>
+#include <type_traits>
+
+#include "sii_decode.h"
+
+template <typename Answer, std::size_t size> constexpr bool plain()
+{
+    return std::is_standard_layout<Answer>::value && std::is_trivial<Answer>::value && sizeof(Answer) == size;
+}
+
+static_assert(plain<SiiReading, 40>(), "SiiReading");
+static_assert(plain<SiiPrototype, 40>(), "SiiPrototype");
+static_assert(plain<SiiBlock, 40>(), "SiiBlock");
+static_assert(plain<SiiNumber, 24>(), "SiiNumber");
+static_assert(plain<SiiField, 40>(), "SiiField");
+static_assert(plain<SiiText, 24>(), "SiiText");
+static_assert(plain<SiiElement, 80>(), "SiiElement");
+
+// one prototype 1, `p`, with a u32 `f`, and a block of it with the value 9
+static const uint8_t file[] = {
+    'B', 'S', 'I', 'I', 2, 0, 0, 0,
+    0, 0, 0, 0, 1, 1, 0, 0, 0, 1, 0, 0, 0, 'p', 0x27, 0, 0, 0, 1, 0, 0, 0, 'f', 0, 0, 0, 0,
+    1, 0, 0, 0, 0, 9, 0, 0, 0,
+    0, 0, 0, 0, 0,
+};
+static const uint8_t p[] = {'p'}, f[] = {'f'};
+
+int main()
+{
+    uint32_t table[3];
+    uint8_t output[64];
+    int failed = 0;
+    auto expect = [&failed](const char *call, bool holds) {
+        if (holds)
+            return;
+        std::printf("from C++, %s: another answer\n", call);
+        failed = 1;
+    };
+
+    const SiiReading reading = sii_read(file, sizeof file, table, 3);
+    expect("sii_read", reading.number == 0 && reading.prototypes == 1 && reading.blocks == 1 && reading.next == 49);
+    const SiiPrototype prototype = sii_get_prototype(file, sizeof file, table, 3, 1);
+    expect("sii_get_prototype", prototype.number == 0 && prototype.name_offset == 21 && prototype.name_len == 1 && prototype.fields == 1);
+    const SiiBlock block = sii_block_at(file, sizeof file, table, 3, 0);
+    expect("sii_block_at", block.number == 0 && block.prototype_id == 1 && block.id_offset == 39 && block.id_len == 1);
+    const SiiNumber number = sii_blocks_by_prototype_name(file, sizeof file, table, 3, p, sizeof p, 1);
+    expect("sii_blocks_by_prototype_name", number.number == SII_ABSENT && number.offset == 0);
+    const SiiField field = sii_field_of(file, sizeof file, table, 3, 0, f, sizeof f);
+    expect("sii_field_of", field.number == 0 && field.type_id == 0x27 && field.part_offset == 40 && field.part_len == 4);
+    const SiiElement element = sii_element_of(0x27, file + 40, 4, 0);
+    expect("sii_element_of", element.number == 0 && element.kind == SII_KIND_U32 && element.value == 9);
+    const SiiText text = sii_to_siin(file, sizeof file, table, 3, output, sizeof output);
+    expect("sii_to_siin", text.number == 0 && text.length == 33);
+    return failed;
+}

@@ -1,0 +1,727 @@
+/*
+ * Each call of include/sii_decode.h, on the scope's worked file, on damaged ones and on files for what the worked one lacks. Every member of
+ * every answer is compared, and after every call all that was lent: the file as it was, the table all 0, the output the text and behind it what
+ * it held, and the bytes around each of them. Prints a line for each check that failed and a count, and exits with 1 if one did.
+ */
+#include <inttypes.h>
+#include <stddef.h>
+#include <stdio.h>
+#include <stdlib.h>
+#include <string.h>
+
+#include "sii_decode.h"
+
+static unsigned long checks, failures;
+static const char *label = "";
+
+static void equal(const char *what, uint64_t expected, uint64_t got)
+{
+    checks++;
+    if (got == expected)
+        return;
+    failures++;
+    printf("%s, %s: expected %" PRIu64 ", got %" PRIu64 "\n", label, what, expected, got);
+}
+
+static void same_bytes(const char *what, const uint8_t *expected, const uint8_t *got, size_t count)
+{
+    size_t at = 0;
+    if (count == 0)
+        return;
+    checks++;
+    if (memcmp(expected, got, count) == 0)
+        return;
+    failures++;
+    while (expected[at] == got[at])
+        at++;
+    printf("%s, %s: expected 0x%02x at %lu, got 0x%02x\n", label, what, expected[at], (unsigned long)at, got[at]);
+}
+
+/* ---- what is lent to a call */
+
+/*
+ * All checks are made twice. First there is a guard on both sides of what is lent: a byte written outside is seen here. Its odd length takes
+ * away any alignment of file, name and output. Then there is none: every area is an allocation of just its size, and valgrind sees what is read
+ * or written outside.
+ */
+enum { GUARD = 35, GUARD_BYTE = 0xc5 };
+static int guarded;
+
+/* What the table holds before: in the second round what an entry of the worked file's prototype would start with. */
+static uint32_t garbage(size_t at)
+{
+    return guarded ? 0xdeadbeef + (uint32_t)at : 7;
+}
+
+static uint8_t output_byte(size_t at)
+{
+    return (uint8_t)(at * 31 + 201);
+}
+
+typedef struct Lent {
+    uint8_t *all;
+    uint8_t *start;
+    size_t size;
+    size_t guard;
+} Lent;
+
+static Lent lend(size_t size, size_t guard)
+{
+    Lent lent;
+    lent.size = size;
+    lent.guard = guarded ? guard : 0;
+    lent.all = malloc(size + 2 * lent.guard + (size == 0));
+    if (lent.all == NULL) {
+        printf("no memory for %lu bytes\n", (unsigned long)size);
+        exit(1);
+    }
+    lent.start = lent.all + lent.guard;
+    memset(lent.all, GUARD_BYTE, lent.guard);
+    memset(lent.start + size, GUARD_BYTE, lent.guard);
+    return lent;
+}
+
+static Lent lend_copy(const void *bytes, size_t size)
+{
+    Lent lent = lend(size, GUARD);
+    if (size != 0)
+        memcpy(lent.start, bytes, size);
+    return lent;
+}
+
+static void give_back(const char *what, Lent lent)
+{
+    uint8_t guard[GUARD + 1];
+    memset(guard, GUARD_BYTE, sizeof guard);
+    same_bytes(what, guard, lent.all, lent.guard);
+    same_bytes(what, guard, lent.start + lent.size, lent.guard);
+    free(lent.all);
+}
+
+/* a file, a table and, where a call takes it, a name */
+typedef struct Loan {
+    const uint8_t *bytes;
+    Lent file;
+    Lent table;
+    Lent name;
+} Loan;
+
+static Loan begin(const uint8_t *bytes, size_t len, size_t words, const char *name)
+{
+    Loan loan;
+    size_t at;
+    loan.bytes = bytes;
+    loan.file = lend_copy(bytes, len);
+    loan.table = lend(words * sizeof(uint32_t), 32);
+    for (at = 0; at < words; at++)
+        ((uint32_t *)(void *)loan.table.start)[at] = garbage(at);
+    loan.name = lend_copy(name, strlen(name));
+    return loan;
+}
+
+#define FILE_AND_TABLE(loan) \
+    (loan).file.start, (loan).file.size, (uint32_t *)(void *)(loan).table.start, (loan).table.size / sizeof(uint32_t)
+#define NAME(loan) (loan).name.start, (loan).name.size
+
+static void end(Loan loan, const char *name)
+{
+    size_t at, left = 0;
+    for (at = 0; at < loan.table.size; at++)
+        left += loan.table.start[at] != 0;
+    equal("bytes of the table that are not 0", 0, left);
+    same_bytes("file", loan.bytes, loan.file.start, loan.file.size);
+    same_bytes("name", (const uint8_t *)name, loan.name.start, loan.name.size);
+    give_back("around the file", loan.file);
+    give_back("around the table", loan.table);
+    give_back("around the name", loan.name);
+}
+
+/* ---- the calls, each with the answer it must give */
+
+static void reading(const uint8_t *bytes, size_t len, size_t words, SiiReading expected)
+{
+    Loan loan = begin(bytes, len, words, "");
+    SiiReading got = sii_read(FILE_AND_TABLE(loan));
+    equal("sii_read, number", expected.number, got.number);
+    equal("sii_read, offset", expected.offset, got.offset);
+    equal("sii_read, prototypes", expected.prototypes, got.prototypes);
+    equal("sii_read, blocks", expected.blocks, got.blocks);
+    equal("sii_read, next", expected.next, got.next);
+    end(loan, "");
+}
+
+static void prototype(const uint8_t *bytes, size_t len, size_t words, uint32_t id, SiiPrototype expected)
+{
+    Loan loan = begin(bytes, len, words, "");
+    SiiPrototype got = sii_get_prototype(FILE_AND_TABLE(loan), id);
+    equal("sii_get_prototype, number", expected.number, got.number);
+    equal("sii_get_prototype, offset", expected.offset, got.offset);
+    equal("sii_get_prototype, name_offset", expected.name_offset, got.name_offset);
+    equal("sii_get_prototype, name_len", expected.name_len, got.name_len);
+    equal("sii_get_prototype, fields", expected.fields, got.fields);
+    end(loan, "");
+}
+
+static void block(const uint8_t *bytes, size_t len, size_t words, uint64_t n, SiiBlock expected)
+{
+    Loan loan = begin(bytes, len, words, "");
+    SiiBlock got = sii_block_at(FILE_AND_TABLE(loan), n);
+    equal("sii_block_at, number", expected.number, got.number);
+    equal("sii_block_at, offset", expected.offset, got.offset);
+    equal("sii_block_at, prototype_id", expected.prototype_id, got.prototype_id);
+    equal("sii_block_at, id_offset", expected.id_offset, got.id_offset);
+    equal("sii_block_at, id_len", expected.id_len, got.id_len);
+    end(loan, "");
+}
+
+static void named_block(const uint8_t *bytes, size_t len, size_t words, const char *name, uint64_t n, SiiNumber expected)
+{
+    Loan loan = begin(bytes, len, words, name);
+    SiiNumber got = sii_blocks_by_prototype_name(FILE_AND_TABLE(loan), NAME(loan), n);
+    equal("sii_blocks_by_prototype_name, number", expected.number, got.number);
+    equal("sii_blocks_by_prototype_name, offset", expected.offset, got.offset);
+    equal("sii_blocks_by_prototype_name, value", expected.value, got.value);
+    end(loan, name);
+}
+
+static void field(const uint8_t *bytes, size_t len, size_t words, uint64_t n, const char *name, SiiField expected)
+{
+    Loan loan = begin(bytes, len, words, name);
+    SiiField got = sii_field_of(FILE_AND_TABLE(loan), n, NAME(loan));
+    equal("sii_field_of, number", expected.number, got.number);
+    equal("sii_field_of, offset", expected.offset, got.offset);
+    equal("sii_field_of, type_id", expected.type_id, got.type_id);
+    equal("sii_field_of, part_offset", expected.part_offset, got.part_offset);
+    equal("sii_field_of, part_len", expected.part_len, got.part_len);
+    end(loan, name);
+}
+
+static void element(uint32_t type_id, const void *part, size_t len, uint64_t index, SiiElement expected)
+{
+    Lent lent = lend_copy(part, len);
+    SiiElement got = sii_element_of(type_id, lent.start, lent.size, index);
+    equal("sii_element_of, number", expected.number, got.number);
+    equal("sii_element_of, offset", expected.offset, got.offset);
+    equal("sii_element_of, kind", expected.kind, got.kind);
+    equal("sii_element_of, place_offset", expected.place_offset, got.place_offset);
+    equal("sii_element_of, place_len", expected.place_len, got.place_len);
+    equal("sii_element_of, value", expected.value, got.value);
+    equal("sii_element_of, a", expected.a, got.a);
+    equal("sii_element_of, b", expected.b, got.b);
+    equal("sii_element_of, c", expected.c, got.c);
+    equal("sii_element_of, d", expected.d, got.d);
+    equal("sii_element_of, e", expected.e, got.e);
+    equal("sii_element_of, f", expected.f, got.f);
+    equal("sii_element_of, g", expected.g, got.g);
+    equal("sii_element_of, h", expected.h, got.h);
+    same_bytes("part", part, lent.start, lent.size);
+    give_back("around the part", lent);
+}
+
+/* TEXT is what the output must start with: "" for a refusal. */
+static void text(const uint8_t *bytes, size_t len, size_t words, size_t output_len, SiiText expected, const char *text)
+{
+    Loan loan = begin(bytes, len, words, "");
+    Lent output = lend(output_len, GUARD);
+    size_t at, changed = 0, text_len = strlen(text);
+    SiiText got;
+    for (at = 0; at < output_len; at++)
+        output.start[at] = output_byte(at);
+    got = sii_to_siin(FILE_AND_TABLE(loan), output.start, output.size);
+    equal("sii_to_siin, number", expected.number, got.number);
+    equal("sii_to_siin, offset", expected.offset, got.offset);
+    equal("sii_to_siin, length", expected.length, got.length);
+    same_bytes("text", (const uint8_t *)text, output.start, text_len);
+    for (at = text_len; at < output_len; at++)
+        changed += output.start[at] != output_byte(at);
+    equal("bytes of the output beyond the text that changed", 0, changed);
+    give_back("around the output", output);
+    end(loan, "");
+}
+
+/* The text whole, into an output of just its length and into a longer one, and refused for an output that is a byte short and for none. */
+static void converts(const uint8_t *bytes, size_t len, size_t words, const char *expected)
+{
+    size_t length = strlen(expected);
+    text(bytes, len, words, length, (SiiText){0, 0, length}, expected);
+    text(bytes, len, words, length + 50, (SiiText){0, 0, length}, expected);
+    text(bytes, len, words, length - 1, (SiiText){SII_OUTPUT_SHORT, 0, length}, "");
+    text(bytes, len, words, 0, (SiiText){SII_OUTPUT_SHORT, 0, length}, "");
+}
+
+static SiiElement place(uint32_t kind, uint64_t offset, uint64_t len)
+{
+    return (SiiElement){.kind = kind, .place_offset = offset, .place_len = len};
+}
+
+static SiiElement value(uint32_t kind, uint64_t n)
+{
+    return (SiiElement){.kind = kind, .value = n};
+}
+
+static SiiElement no_element(uint32_t number, uint64_t offset)
+{
+    return (SiiElement){.number = number, .offset = offset};
+}
+
+/* A fault of the file is the answer of every call that takes it, whatever is asked for. */
+static void refused(const char *name, const uint8_t *bytes, size_t len, size_t words, uint32_t number, uint64_t offset)
+{
+    label = name;
+    reading(bytes, len, words, (SiiReading){number, offset, 0, 0, 0});
+    prototype(bytes, len, words, 7, (SiiPrototype){number, offset, 0, 0, 0});
+    prototype(bytes, len, words, 8, (SiiPrototype){number, offset, 0, 0, 0});
+    block(bytes, len, words, 0, (SiiBlock){number, offset, 0, 0, 0});
+    block(bytes, len, words, 9, (SiiBlock){number, offset, 0, 0, 0});
+    named_block(bytes, len, words, "trip", 0, (SiiNumber){number, offset, 0});
+    named_block(bytes, len, words, "", 0, (SiiNumber){number, offset, 0});
+    field(bytes, len, words, 0, "km", (SiiField){number, offset, 0, 0, 0});
+    field(bytes, len, words, 0, "", (SiiField){number, offset, 0, 0, 0});
+    text(bytes, len, words, 100, (SiiText){number, offset, 0}, "");
+    text(bytes, len, words, 0, (SiiText){number, offset, 0}, "");
+}
+
+/* ---- the worked file, and files made from it */
+
+enum { WORKED = 82 };
+
+static const uint8_t worked[WORKED] = {
+    'B', 'S', 'I', 'I', 2, 0, 0, 0,
+    /* 8: the prototype, its name at 21, the definitions at 25 and 35 */
+    0, 0, 0, 0, 1, 7, 0, 0, 0, 4, 0, 0, 0, 't', 'r', 'i', 'p',
+    0x27, 0, 0, 0, 2, 0, 0, 0, 'k', 'm',
+    0x06, 0, 0, 0, 1, 0, 0, 0, 'w',
+    0, 0, 0, 0,
+    /* 48: the block, its id at 52, the values at 61 and 65 */
+    7, 0, 0, 0, 1, 0x57, 0, 0, 0, 0, 0, 0, 0,
+    0x2c, 1, 0, 0,
+    2, 0, 0, 0, 0, 0, 0xc0, 0x3f, 0, 0, 0, 0xc0,
+    /* 77: the end record */
+    0, 0, 0, 0, 0,
+};
+
+static const char worked_text[] =
+    "SiiNunit\n"
+    "{\n"
+    "trip : a1 {\n"
+    "  km: 300\n"
+    "  w: 2\n"
+    "  w[0]: &3fc00000\n"
+    "  w[1]: -2\n"
+    "}\n"
+    "}\n";
+
+static uint8_t made[256];
+static size_t made_len;
+
+static void start(void)
+{
+    memcpy(made, worked, WORKED);
+    made_len = WORKED;
+}
+
+static void insert(size_t at, const void *bytes, size_t count)
+{
+    memmove(made + at + count, made + at, made_len - at);
+    memcpy(made + at, bytes, count);
+    made_len += count;
+}
+
+/* The worked file with one byte changed is refused. */
+static void damaged(const char *name, size_t at, uint8_t byte, uint32_t number, uint64_t offset)
+{
+    start();
+    made[at] = byte;
+    refused(name, made, made_len, 3, number, offset);
+}
+
+/* a number whose low 32 bits are 0: it must not be taken for 0 */
+#define ABOVE_32_BITS ((uint64_t)1 << 32)
+
+static void the_worked_file(void)
+{
+    size_t words;
+    for (words = 3; words <= 12; words += 3) {
+        label = "worked file";
+        reading(worked, WORKED, words, (SiiReading){0, 0, 1, 1, 82});
+        prototype(worked, WORKED, words, 7, (SiiPrototype){0, 0, 21, 4, 2});
+        block(worked, WORKED, words, 0, (SiiBlock){0, 0, 7, 52, 9});
+        named_block(worked, WORKED, words, "trip", 0, (SiiNumber){0, 0, 0});
+        field(worked, WORKED, words, 0, "km", (SiiField){0, 0, 0x27, 61, 4});
+        field(worked, WORKED, words, 0, "w", (SiiField){0, 0, 0x06, 65, 12});
+        converts(worked, WORKED, words, worked_text);
+    }
+    element(0x27, worked + 61, 4, 0, value(SII_KIND_U32, 300));
+    element(0x06, worked + 65, 12, 0, (SiiElement){.kind = SII_KIND_F32, .a = 0x3fc00000});
+    element(0x06, worked + 65, 12, 1, (SiiElement){.kind = SII_KIND_F32, .a = 0xc0000000});
+
+    label = "worked file, bytes behind the end record";
+    start();
+    insert(82, "BSII\1\0\0\0", 8);
+    reading(made, made_len, 3, (SiiReading){0, 0, 1, 1, 82});
+    converts(made, made_len, 3, worked_text);
+
+    label = "worked file, what is not there";
+    prototype(worked, WORKED, 3, 8, (SiiPrototype){SII_ABSENT, 0, 0, 0, 0});
+    prototype(worked, WORKED, 3, 0x107, (SiiPrototype){SII_ABSENT, 0, 0, 0, 0});
+    prototype(worked, WORKED, 3, 0x10007, (SiiPrototype){SII_ABSENT, 0, 0, 0, 0});
+    prototype(worked, WORKED, 3, 0, (SiiPrototype){SII_ABSENT, 0, 0, 0, 0});
+    block(worked, WORKED, 3, 1, (SiiBlock){SII_ABSENT, 0, 0, 0, 0});
+    block(worked, WORKED, 3, ABOVE_32_BITS, (SiiBlock){SII_ABSENT, 0, 0, 0, 0});
+    block(worked, WORKED, 3, UINT64_MAX, (SiiBlock){SII_ABSENT, 0, 0, 0, 0});
+    named_block(worked, WORKED, 3, "trip", 1, (SiiNumber){SII_ABSENT, 0, 0});
+    named_block(worked, WORKED, 3, "trip", ABOVE_32_BITS, (SiiNumber){SII_ABSENT, 0, 0});
+    named_block(worked, WORKED, 3, "trip", UINT64_MAX, (SiiNumber){SII_ABSENT, 0, 0});
+    named_block(worked, WORKED, 3, "tri", 0, (SiiNumber){SII_ABSENT, 0, 0});
+    named_block(worked, WORKED, 3, "trips", 0, (SiiNumber){SII_ABSENT, 0, 0});
+    named_block(worked, WORKED, 3, "", 0, (SiiNumber){SII_ABSENT, 0, 0});
+    named_block(worked, WORKED, 3, "\xff", 0, (SiiNumber){SII_ABSENT, 0, 0});
+    field(worked, WORKED, 3, 0, "k", (SiiField){SII_ABSENT, 0, 0, 0, 0});
+    field(worked, WORKED, 3, 0, "kmh", (SiiField){SII_ABSENT, 0, 0, 0, 0});
+    field(worked, WORKED, 3, 0, "", (SiiField){SII_ABSENT, 0, 0, 0, 0});
+    field(worked, WORKED, 3, 1, "km", (SiiField){SII_ABSENT, 0, 0, 0, 0});
+    field(worked, WORKED, 3, ABOVE_32_BITS, "km", (SiiField){SII_ABSENT, 0, 0, 0, 0});
+    field(worked, WORKED, 3, UINT64_MAX, "km", (SiiField){SII_ABSENT, 0, 0, 0, 0});
+    element(0x27, worked + 61, 4, 1, no_element(SII_ABSENT, 0));
+    element(0x06, worked + 65, 12, 2, no_element(SII_ABSENT, 0));
+}
+
+static void damage(void)
+{
+    /* where the numbers, bytes and strings of the worked file start, behind its first four bytes */
+    static const size_t items[] = {4, 8, 12, 13, 17, 21, 25, 29, 33, 35, 39, 43, 44, 48, 52, 53, 61, 65, 69, 73, 77, 81, 82};
+    static const uint8_t other_prototype[] = {0, 0, 0, 0, 1, 7, 0, 0, 0, 1, 0, 0, 0, 'q', 0x27, 0, 0, 0, 1, 0, 0, 0, 'x', 0, 0, 0, 0};
+    static const uint8_t enum_list[] = {1, 0, 0, 0, 5, 0, 0, 0, 4, 0, 0, 0, 'f', 'i', 'v', 'e'};
+    size_t item, len;
+
+    for (len = 0; len < 4; len++)
+        refused("cut in the first 4 bytes", worked, len, 3, SII_INVALID_HEADER, 0);
+    for (item = 0; items[item] < WORKED; item++)
+        for (len = items[item]; len < items[item + 1]; len++)
+            refused("cut file", worked, len, 3, SII_MALFORMED, items[item]);
+
+    damaged("first byte", 0, 'b', SII_INVALID_HEADER, 0);
+    damaged("fourth byte", 3, 'i', SII_INVALID_HEADER, 0);
+    damaged("version 1", 4, 1, SII_UNSUPPORTED_VERSION, 8);
+    damaged("mark 2", 12, 2, SII_MALFORMED, 12);
+    damaged("prototype name not UTF-8", 21, 0xff, SII_NOT_UTF8, 21);
+    damaged("field name not UTF-8", 34, 0xc3, SII_NOT_UTF8, 33);
+    damaged("word 38", 53, 38, SII_ZERO_DIGIT, 53);
+    damaged("undefined prototype", 48, 8, SII_UNDEFINED_PROTOTYPE, 48);
+    damaged("unlisted type of the first field", 25, 0x08, SII_UNLISTED_TYPE, 61);
+    damaged("unlisted type of the second field", 36, 1, SII_UNLISTED_TYPE, 65);
+
+    for (len = 0; len < 3; len++)
+        refused("no room in the table", worked, WORKED, len, SII_TABLE_FULL, 8);
+
+    start();
+    insert(77, other_prototype, sizeof other_prototype);
+    label = "the last definition has fewer fields";
+    reading(made, made_len, 3, (SiiReading){0, 0, 1, 1, made_len});
+    prototype(made, made_len, 3, 7, (SiiPrototype){0, 0, 90, 1, 1});
+    field(made, made_len, 3, 0, "x", (SiiField){0, 0, 0x27, 61, 4});
+    field(made, made_len, 3, 0, "km", (SiiField){SII_ABSENT, 0, 0, 0, 0});
+    text(made, made_len, 3, 100, (SiiText){SII_FIELD_COUNT, 48, 0}, "");
+    text(made, made_len, 3, 0, (SiiText){SII_FIELD_COUNT, 48, 0}, "");
+
+    start();
+    made[25] = 0x37;
+    insert(35, enum_list, sizeof enum_list);
+    label = "an enum value that its list lacks";
+    reading(made, made_len, 3, (SiiReading){0, 0, 1, 1, made_len});
+    field(made, made_len, 3, 0, "km", (SiiField){0, 0, 0x37, 77, 4});
+    element(0x37, made + 77, 4, 0, value(SII_KIND_ENUM, 300));
+    text(made, made_len, 3, 100, (SiiText){SII_ENUM_VALUE, 77, 0}, "");
+    text(made, made_len, 3, 0, (SiiText){SII_ENUM_VALUE, 77, 0}, "");
+}
+
+/* two prototypes and two blocks, with an enum: the worked list of insertions of FORMAT.md, "Widening" */
+static void the_widened_file(void)
+{
+    static const uint8_t definition[] = {0x37, 0, 0, 0, 1, 0, 0, 0, 'e', 1, 0, 0, 0, 5, 0, 0, 0, 4, 0, 0, 0, 'f', 'i', 'v', 'e'};
+    static const uint8_t new_prototype[] = {0, 0, 0, 0, 1, 9, 0, 0, 0, 1, 0, 0, 0, 'p', 0x35, 0, 0, 0, 1, 0, 0, 0, 'b', 0, 0, 0, 0};
+    static const uint8_t new_block[] = {9, 0, 0, 0, 0, 1};
+    static const uint8_t five[] = {5, 0, 0, 0};
+    static const char expected[] =
+        "SiiNunit\n"
+        "{\n"
+        "trip : a1 {\n"
+        "  km: 300\n"
+        "  e: five\n"
+        "  w: 2\n"
+        "  w[0]: &3fc00000\n"
+        "  w[1]: -2\n"
+        "}\n"
+        "p : null {\n"
+        "  b: true\n"
+        "}\n"
+        "}\n";
+    start();
+    insert(77, new_block, sizeof new_block);
+    insert(65, five, sizeof five);
+    insert(35, definition, sizeof definition);
+    insert(8, new_prototype, sizeof new_prototype);
+    refused("widened file, 5 words", made, made_len, 5, SII_TABLE_FULL, 35);
+    label = "widened file";
+    reading(made, made_len, 6, (SiiReading){0, 0, 2, 2, 144});
+    prototype(made, made_len, 6, 7, (SiiPrototype){0, 0, 48, 4, 3});
+    prototype(made, made_len, 6, 9, (SiiPrototype){0, 0, 21, 1, 1});
+    block(made, made_len, 6, 0, (SiiBlock){0, 0, 7, 104, 9});
+    block(made, made_len, 6, 1, (SiiBlock){0, 0, 9, 137, 1});
+    named_block(made, made_len, 6, "trip", 0, (SiiNumber){0, 0, 0});
+    named_block(made, made_len, 6, "p", 0, (SiiNumber){0, 0, 1});
+    named_block(made, made_len, 6, "p", 1, (SiiNumber){SII_ABSENT, 0, 0});
+    field(made, made_len, 6, 0, "km", (SiiField){0, 0, 0x27, 113, 4});
+    field(made, made_len, 6, 0, "e", (SiiField){0, 0, 0x37, 117, 4});
+    field(made, made_len, 6, 0, "w", (SiiField){0, 0, 0x06, 121, 12});
+    field(made, made_len, 6, 1, "b", (SiiField){0, 0, 0x35, 138, 1});
+    field(made, made_len, 6, 1, "km", (SiiField){SII_ABSENT, 0, 0, 0, 0});
+    converts(made, made_len, 6, expected);
+}
+
+/* a prototype id defined again behind its block: FORMAT.md, "A prototype id defined again" */
+static void the_redefined_file(void)
+{
+    static const uint8_t file[] = {
+        'B', 'S', 'I', 'I', 2, 0, 0, 0,
+        0, 0, 0, 0, 1, 1, 0, 0, 0, 1, 0, 0, 0, 'p', 0x27, 0, 0, 0, 1, 0, 0, 0, 'f', 0, 0, 0, 0,
+        1, 0, 0, 0, 0, 9, 0, 0, 0,
+        0, 0, 0, 0, 1, 1, 0, 0, 0, 1, 0, 0, 0, 'q', 0x06, 0, 0, 0, 1, 0, 0, 0, 'g', 0, 0, 0, 0,
+        0, 0, 0, 0, 0,
+    };
+    label = "redefined prototype";
+    reading(file, sizeof file, 3, (SiiReading){0, 0, 1, 1, 76});
+    prototype(file, sizeof file, 3, 1, (SiiPrototype){0, 0, 57, 1, 1});
+    block(file, sizeof file, 3, 0, (SiiBlock){0, 0, 1, 39, 1});
+    named_block(file, sizeof file, 3, "q", 0, (SiiNumber){0, 0, 0});
+    named_block(file, sizeof file, 3, "p", 0, (SiiNumber){SII_ABSENT, 0, 0});
+    field(file, sizeof file, 3, 0, "g", (SiiField){0, 0, 0x27, 40, 4});
+    field(file, sizeof file, 3, 0, "f", (SiiField){SII_ABSENT, 0, 0, 0, 0});
+    converts(file, sizeof file, 3, "SiiNunit\n{\nq : null {\n  g: 9\n}\n}\n");
+}
+
+/* The smallest file, and the smallest prototypes: 17 bytes each, without a name and without fields. */
+static void small_files(void)
+{
+    static const uint8_t smallest[] = {'B', 'S', 'I', 'I', 2, 0, 0, 0, 0, 0, 0, 0, 0};
+    static const uint8_t nameless[] = {0, 0, 0, 0, 1, 1, 0, 0, 0, 0, 0, 0, 0, 0, 0, 0, 0};
+    static const uint8_t its_block[] = {1, 0, 0, 0, 0};
+    size_t count;
+
+    label = "smallest file";
+    reading(smallest, sizeof smallest, 0, (SiiReading){0, 0, 0, 0, 13});
+    reading(smallest, sizeof smallest, 2, (SiiReading){0, 0, 0, 0, 13});
+    block(smallest, sizeof smallest, 0, 0, (SiiBlock){SII_ABSENT, 0, 0, 0, 0});
+    converts(smallest, sizeof smallest, 0, "SiiNunit\n{\n}\n");
+
+    memcpy(made, smallest, sizeof smallest);
+    made_len = sizeof smallest;
+    for (count = 1; count <= 8; count++) {
+        insert(8, nameless, sizeof nameless);
+        made[13] = (uint8_t)count;
+        label = "smallest prototypes";
+        reading(made, made_len, made_len / 17 * 3, (SiiReading){0, 0, count, 0, made_len});
+        reading(made, made_len, made_len / 17 * 3 - 1, (SiiReading){SII_TABLE_FULL, 8 + 17 * (count - 1), 0, 0, 0});
+    }
+
+    memcpy(made, smallest, sizeof smallest);
+    made_len = sizeof smallest;
+    insert(8, its_block, sizeof its_block);
+    insert(8, nameless, sizeof nameless);
+    label = "empty names";
+    prototype(made, made_len, 3, 1, (SiiPrototype){0, 0, 21, 0, 0});
+    named_block(made, made_len, 3, "", 0, (SiiNumber){0, 0, 0});
+    field(made, made_len, 3, 0, "", (SiiField){SII_ABSENT, 0, 0, 0, 0});
+    converts(made, made_len, 3, "SiiNunit\n{\n : null {\n}\n}\n");
+}
+
+static void the_length_limit(void)
+{
+    uint8_t *file = calloc(1, (size_t)SII_LENGTH_LIMIT + 1);
+    if (file == NULL) {
+        printf("no memory for a file above the length limit\n");
+        exit(1);
+    }
+    memcpy(file, worked, WORKED);
+    label = "16,777,216 bytes";
+    reading(file, 16777216, 3, (SiiReading){0, 0, 1, 1, 82});
+    text(file, 16777216, 3, 73, (SiiText){0, 0, 73}, worked_text);
+    refused("16,777,217 bytes", file, 16777217, 3, SII_INPUT_LONG, 0);
+    file[0] = 0;
+    label = "16,777,217 bytes, and not BSII";
+    reading(file, 16777217, 4, (SiiReading){SII_INPUT_LONG, 0, 0, 0, 0});
+    free(file);
+}
+
+/* a needed length above 32 bits: an array of 2^20 bools, all false, under a name of 2^20 bytes */
+static void a_long_text(void)
+{
+    static const uint8_t head[] = {'B', 'S', 'I', 'I', 2, 0, 0, 0, 0, 0, 0, 0, 1, 1, 0, 0, 0, 1, 0, 0, 0, 'p', 0x36, 0, 0, 0, 0, 0, 0x10, 0};
+    static const uint8_t value[] = {0, 0, 0, 0, 1, 0, 0, 0, 0, 0, 0, 0x10, 0};
+    const size_t many = (size_t)1 << 20, len = sizeof head + many + sizeof value + many + 5;
+    uint8_t *file = calloc(1, len);
+    if (file == NULL) {
+        printf("no memory for a file with a long text\n");
+        exit(1);
+    }
+    memcpy(file, head, sizeof head);
+    memset(file + sizeof head, 'n', many);
+    memcpy(file + sizeof head + many, value, sizeof value);
+    label = "a long text";
+    reading(file, len, 3, (SiiReading){0, 0, 1, 1, len});
+    text(file, len, 3, 100, (SiiText){SII_OUTPUT_SHORT, 0, 1099531488224}, "");
+    free(file);
+}
+
+/* bytes without a terminator, and how many */
+#define BYTES(literal) (literal), sizeof(literal) - 1
+
+static void elements(void)
+{
+    label = "string";
+    element(0x01, BYTES("\2\0\0\0hi"), 0, place(SII_KIND_STRING, 4, 2));
+    element(0x01, BYTES("\0\0\0\0"), 0, place(SII_KIND_STRING, 4, 0));
+    element(0x02, BYTES("\2\0\0\0\1\0\0\0a\2\0\0\0bc"), 1, place(SII_KIND_STRING, 13, 2));
+    element(0x01, BYTES("\2\0\0\0h"), 0, no_element(SII_MALFORMED, 4));
+    element(0x01, BYTES("\2\0\0\0\xc3h"), 0, no_element(SII_NOT_UTF8, 4));
+    label = "encoded word";
+    element(0x03, BYTES("\xe2\xb9\x37\x86\0\0\0\x80"), 0, value(SII_KIND_WORD, 0x8637b9e2));
+    element(0x04, BYTES("\2\0\0\0\x57\0\0\0\0\0\0\0\1\0\0\0\0\0\0\0"), 0, value(SII_KIND_WORD, 0x57));
+    element(0x04, BYTES("\2\0\0\0\x57\0\0\0\0\0\0\0\x26\0\0\0\0\0\0\0"), 0, no_element(SII_ZERO_DIGIT, 12));
+    label = "floats";
+    element(0x05, BYTES("\0\0\xc0\x3f"), 0, (SiiElement){.kind = SII_KIND_F32, .a = 0x3fc00000});
+    element(0x05, BYTES("\0\0\0\x80"), 0, (SiiElement){.kind = SII_KIND_F32, .a = 0x80000000});
+    element(0x05, BYTES("\1\0\xc0\xff"), 0, (SiiElement){.kind = SII_KIND_F32, .a = 0x7fc00000});
+    element(0x07, BYTES("\1\0\0\0\2\0\0\0"), 0, (SiiElement){.kind = SII_KIND_TWO_F32, .a = 1, .b = 2});
+    element(0x09, BYTES("\1\0\0\0\2\0\0\0\3\0\0\0"), 0, (SiiElement){.kind = SII_KIND_THREE_F32, .a = 1, .b = 2, .c = 3});
+    element(0x18, BYTES("\1\0\0\0\1\0\0\0\2\0\0\0\3\0\0\0\4\0\0\0"), 0,
+            (SiiElement){.kind = SII_KIND_FOUR_F32, .a = 1, .b = 2, .c = 3, .d = 4});
+    element(0x19, BYTES("\1\0\0\0\2\0\0\0\3\0\0\0\4\0\0\0\5\0\0\0\6\0\0\0\7\0\0\0\x8\0\0\0"), 0,
+            (SiiElement){.kind = SII_KIND_PLACEMENT, .a = 1, .b = 2, .c = 3, .d = 4, .e = 5, .f = 6, .g = 7, .h = 8});
+    label = "whole numbers";
+    element(0x11, BYTES("\1\0\0\0\xfe\xff\xff\xff\3\0\0\0"), 0, (SiiElement){.kind = SII_KIND_THREE_I32, .a = 1, .b = 0xfffffffe, .c = 3});
+    element(0x25, BYTES("\xfe\xff\xff\xff"), 0, value(SII_KIND_I32, 0xfffffffffffffffe));
+    element(0x25, BYTES("\xfe\xff\xff\x7f"), 0, value(SII_KIND_I32, 0x7ffffffe));
+    element(0x27, BYTES("\xff\xff\xff\xff"), 0, value(SII_KIND_U32, 0xffffffff));
+    element(0x2f, BYTES("\1\2\3\4"), 0, value(SII_KIND_U32, 0x04030201));
+    element(0x2b, BYTES("\xff\xfe"), 0, value(SII_KIND_U16, 0xfeff));
+    element(0x31, BYTES("\0\0\0\0\0\0\0\x80"), 0, value(SII_KIND_I64, 0x8000000000000000));
+    element(0x33, BYTES("\1\2\3\4\5\6\7\x8"), 0, value(SII_KIND_U64, 0x0807060504030201));
+    label = "bool and enum";
+    element(0x35, BYTES("\2"), 0, value(SII_KIND_BOOL, 1));
+    element(0x36, BYTES("\2\0\0\0\1\0"), 1, value(SII_KIND_BOOL, 0));
+    element(0x37, BYTES("\5\0\0\0"), 0, value(SII_KIND_ENUM, 5));
+    label = "id";
+    element(0x39, BYTES("\0"), 0, place(SII_KIND_ID, 0, 1));
+    element(0x3b, BYTES("\2\1\0\0\0\0\0\0\0\2\0\0\0\0\0\0\0"), 0, place(SII_KIND_ID, 0, 17));
+    element(0x3d, BYTES("\xff\0\0\0\0\0\0\0\0"), 0, place(SII_KIND_ID, 0, 9));
+    element(0x3a, BYTES("\2\0\0\0\0\1\1\0\0\0\0\0\0\0"), 1, place(SII_KIND_ID, 5, 9));
+    element(0x39, BYTES("\2\1\0\0\0\0\0\0\0\x26\0\0\0\0\0\0\0"), 0, no_element(SII_ZERO_DIGIT, 9));
+    label = "element refused";
+    element(0x08, BYTES("\1\2\3\4"), 0, no_element(SII_UNLISTED_TYPE, 0));
+    element(0x127, BYTES(""), 3, no_element(SII_UNLISTED_TYPE, 0));
+    element(0x27, BYTES(""), 0, no_element(SII_MALFORMED, 0));
+    element(0x27, BYTES("\1\2\3"), 0, no_element(SII_MALFORMED, 0));
+    element(0x28, BYTES("\2\0\0\0\1\0\0\0\2\0"), 0, no_element(SII_MALFORMED, 8));
+    element(0x28, BYTES("\0\0\0\0"), 0, no_element(SII_ABSENT, 0));
+    element(0x27, BYTES("\1\2\3\4"), 1, no_element(SII_ABSENT, 0));
+    element(0x27, BYTES("\1\2\3\4"), ABOVE_32_BITS, no_element(SII_ABSENT, 0));
+    element(0x27, BYTES("\1\2\3\4"), UINT64_MAX, no_element(SII_ABSENT, 0));
+    label = "bytes behind the value";
+    element(0x27, BYTES("\1\0\0\0\2\0\0\0"), 0, value(SII_KIND_U32, 1));
+}
+
+/* the layout that the library was compiled for, on the machine it is built for */
+static void layout(void)
+{
+    label = "layout";
+#define SIZE(type, size) equal("size of " #type, size, sizeof(type))
+#define AT(type, member, at, width) \
+    (equal("place of " #type "." #member, at, offsetof(type, member)), equal("size of " #type "." #member, width, sizeof(((type *)0)->member)))
+    SIZE(SiiReading, 40);
+    AT(SiiReading, number, 0, 4);
+    AT(SiiReading, offset, 8, 8);
+    AT(SiiReading, prototypes, 16, 8);
+    AT(SiiReading, blocks, 24, 8);
+    AT(SiiReading, next, 32, 8);
+    SIZE(SiiPrototype, 40);
+    AT(SiiPrototype, number, 0, 4);
+    AT(SiiPrototype, offset, 8, 8);
+    AT(SiiPrototype, name_offset, 16, 8);
+    AT(SiiPrototype, name_len, 24, 8);
+    AT(SiiPrototype, fields, 32, 8);
+    SIZE(SiiBlock, 40);
+    AT(SiiBlock, number, 0, 4);
+    AT(SiiBlock, offset, 8, 8);
+    AT(SiiBlock, prototype_id, 16, 4);
+    AT(SiiBlock, id_offset, 24, 8);
+    AT(SiiBlock, id_len, 32, 8);
+    SIZE(SiiNumber, 24);
+    AT(SiiNumber, number, 0, 4);
+    AT(SiiNumber, offset, 8, 8);
+    AT(SiiNumber, value, 16, 8);
+    SIZE(SiiField, 40);
+    AT(SiiField, number, 0, 4);
+    AT(SiiField, offset, 8, 8);
+    AT(SiiField, type_id, 16, 4);
+    AT(SiiField, part_offset, 24, 8);
+    AT(SiiField, part_len, 32, 8);
+    SIZE(SiiText, 24);
+    AT(SiiText, number, 0, 4);
+    AT(SiiText, offset, 8, 8);
+    AT(SiiText, length, 16, 8);
+    SIZE(SiiElement, 80);
+    AT(SiiElement, number, 0, 4);
+    AT(SiiElement, offset, 8, 8);
+    AT(SiiElement, kind, 16, 4);
+    AT(SiiElement, place_offset, 24, 8);
+    AT(SiiElement, place_len, 32, 8);
+    AT(SiiElement, value, 40, 8);
+    AT(SiiElement, a, 48, 4);
+    AT(SiiElement, b, 52, 4);
+    AT(SiiElement, c, 56, 4);
+    AT(SiiElement, d, 60, 4);
+    AT(SiiElement, e, 64, 4);
+    AT(SiiElement, f, 68, 4);
+    AT(SiiElement, g, 72, 4);
+    AT(SiiElement, h, 76, 4);
+}
+
+/* the header's constants by their numbers in the scope: the other checks use them by name */
+static void constants(void)
+{
+    static const int refusals[] = {
+        SII_INVALID_HEADER, SII_UNSUPPORTED_VERSION, SII_MALFORMED, SII_NOT_UTF8, SII_ZERO_DIGIT, SII_UNDEFINED_PROTOTYPE, SII_UNLISTED_TYPE,
+        SII_FIELD_COUNT, SII_ENUM_VALUE, SII_TABLE_FULL, SII_OUTPUT_SHORT, SII_INPUT_LONG, SII_ABSENT,
+    };
+    static const int kinds[] = {
+        SII_KIND_STRING, SII_KIND_WORD, SII_KIND_F32, SII_KIND_TWO_F32, SII_KIND_THREE_F32, SII_KIND_THREE_I32, SII_KIND_FOUR_F32, SII_KIND_PLACEMENT,
+        SII_KIND_I32, SII_KIND_U32, SII_KIND_U16, SII_KIND_I64, SII_KIND_U64, SII_KIND_BOOL, SII_KIND_ENUM, SII_KIND_ID,
+    };
+    size_t at;
+    label = "constants";
+    for (at = 0; at < sizeof refusals / sizeof refusals[0]; at++)
+        equal("refusal", at + 1, (uint64_t)refusals[at]);
+    for (at = 0; at < sizeof kinds / sizeof kinds[0]; at++)
+        equal("kind", at + 1, (uint64_t)kinds[at]);
+    equal("length limit", 16777216, SII_LENGTH_LIMIT);
+}
+
+int main(void)
+{
+    layout();
+    constants();
+    /* each round only if all is well so far: with another layout no answer means anything, and a byte written outside damages the allocator */
+    for (guarded = 1; guarded >= 0 && failures == 0; guarded--) {
+        the_worked_file();
+        damage();
+        the_widened_file();
+        the_redefined_file();
+        small_files();
+        the_length_limit();
+        a_long_text();
+        elements();
+    }
+    printf("%lu checks, %lu failed\n", checks, failures);
+    return failures != 0;
+}

@@ -1,0 +1,120 @@
+/*
+ * The calls with one thing made wrong, by the number WRONG; with 0 nothing is. Linked in front of the library (ld's --wrap), each wrong one must
+ * make use_each_call fail, 19 only under valgrind. So its checks are known to notice.
+ */
+#include <string.h>
+
+#include "sii_decode.h"
+
+SiiReading __real_sii_read(const uint8_t *, size_t, uint32_t *, size_t);
+SiiPrototype __real_sii_get_prototype(const uint8_t *, size_t, uint32_t *, size_t, uint32_t);
+SiiBlock __real_sii_block_at(const uint8_t *, size_t, uint32_t *, size_t, uint64_t);
+SiiNumber __real_sii_blocks_by_prototype_name(const uint8_t *, size_t, uint32_t *, size_t, const uint8_t *, size_t, uint64_t);
+SiiField __real_sii_field_of(const uint8_t *, size_t, uint32_t *, size_t, uint64_t, const uint8_t *, size_t);
+SiiElement __real_sii_element_of(uint32_t, const uint8_t *, size_t, uint64_t);
+SiiText __real_sii_to_siin(const uint8_t *, size_t, uint32_t *, size_t, uint8_t *, size_t);
+
+SiiReading __wrap_sii_read(const uint8_t *file, size_t file_len, uint32_t *table, size_t words)
+{
+    SiiReading r = __real_sii_read(file, file_len, table, words);
+#if WRONG == 1 /* a member in another's place */
+    uint64_t blocks = r.blocks;
+    r.blocks = r.next;
+    r.next = blocks;
+#elif WRONG == 2 /* a word of the table is left */
+    if (words > 0)
+        table[words - 1] = 1;
+#elif WRONG == 3 /* a word behind the table is written */
+    table[words] = 0;
+#elif WRONG == 4 /* a byte behind the file is read */
+    r.next += file[file_len] == 0xc5;
+#elif WRONG == 19 /* the same without any effect */
+    volatile uint8_t beyond = file[file_len];
+    (void)beyond;
+#elif WRONG == 5 /* the refusal's offset is lost */
+    r.offset = 0;
+#endif
+    return r;
+}
+
+SiiPrototype __wrap_sii_get_prototype(const uint8_t *file, size_t file_len, uint32_t *table, size_t words, uint32_t id)
+{
+    SiiPrototype r = __real_sii_get_prototype(file, file_len, table, words, id);
+#if WRONG == 6 /* a refusal with an answer */
+    if (r.number == SII_ABSENT)
+        r.fields = 1;
+#elif WRONG == 7 /* the table is not cleared after a refusal */
+    if (r.number != 0 && words > 0)
+        table[0] = id;
+#endif
+    return r;
+}
+
+SiiBlock __wrap_sii_block_at(const uint8_t *file, size_t file_len, uint32_t *table, size_t words, uint64_t n)
+{
+#if WRONG == 8 /* only 32 bits of the number count */
+    n = (uint32_t)n;
+#endif
+    return __real_sii_block_at(file, file_len, table, words, n);
+}
+
+SiiNumber __wrap_sii_blocks_by_prototype_name(const uint8_t *file, size_t file_len, uint32_t *table, size_t words, const uint8_t *name,
+                                              size_t name_len, uint64_t n)
+{
+#if WRONG == 9 /* a name is found by its start */
+    if (name_len == 5)
+        name_len = 4;
+#endif
+    return __real_sii_blocks_by_prototype_name(file, file_len, table, words, name, name_len, n);
+}
+
+SiiField __wrap_sii_field_of(const uint8_t *file, size_t file_len, uint32_t *table, size_t words, uint64_t block, const uint8_t *name,
+                             size_t name_len)
+{
+    SiiField r = __real_sii_field_of(file, file_len, table, words, block, name, name_len);
+#if WRONG == 10 /* an array's part without its count */
+    if (r.number == 0 && r.type_id == 0x06) {
+        r.part_offset += 4;
+        r.part_len -= 4;
+    }
+#endif
+    return r;
+}
+
+SiiElement __wrap_sii_element_of(uint32_t type_id, const uint8_t *part, size_t part_len, uint64_t index)
+{
+    SiiElement r = __real_sii_element_of(type_id, part, part_len, index);
+#if WRONG == 11 /* a NaN as it stands */
+    if (r.kind == SII_KIND_F32 && r.a == 0x7fc00000)
+        r.a = 0xffc00001;
+#elif WRONG == 12 /* an i32 without its sign */
+    if (r.kind == SII_KIND_I32)
+        r.value = (uint32_t)r.value;
+#endif
+    return r;
+}
+
+SiiText __wrap_sii_to_siin(const uint8_t *file, size_t file_len, uint32_t *table, size_t words, uint8_t *output, size_t output_len)
+{
+    SiiText r = __real_sii_to_siin(file, file_len, table, words, output, output_len);
+#if WRONG == 13 /* a terminator behind the text */
+    if (r.number == 0 && r.length < output_len)
+        output[r.length] = 0;
+#elif WRONG == 14 /* a terminator behind the output */
+    if (r.number == 0 && r.length == output_len)
+        output[r.length] = 0;
+#elif WRONG == 15 /* the output is touched by a refusal */
+    if (r.number == SII_OUTPUT_SHORT && output_len > 0)
+        output[output_len - 1] = 0;
+#elif WRONG == 16 /* the needed length is left out */
+    if (r.number == SII_OUTPUT_SHORT)
+        r.length = 0;
+#elif WRONG == 17 /* a length and no text */
+    if (r.number == 0)
+        memset(output, 0, output_len);
+#elif WRONG == 18 /* the limit is a byte higher */
+    if (r.number == SII_INPUT_LONG)
+        return __real_sii_to_siin(file, SII_LENGTH_LIMIT, table, words, output, output_len);
+#endif
+    return r;
+}
