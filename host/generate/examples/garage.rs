@@ -96,17 +96,17 @@ fn garage() -> Vec<(u32, &'static str, Vec<u8>)> {
         (0x2f, "edition", 2u32.to_le_bytes().to_vec()),
         (0x31, "profit", (-9_000_000_000i64).to_le_bytes().to_vec()),
         (0x32, "history", array(&[i64::MIN.to_le_bytes().to_vec()])),
-        (
-            0x33,
-            "serial",
-            12_345_678_901_234u64.to_le_bytes().to_vec(),
-        ),
+        (0x33, "serial", 12_345_678_901_234u64.to_le_bytes().to_vec()),
         (0x34, "keys", array(&[u64::MAX.to_le_bytes().to_vec()])),
         (0x35, "open", vec![1]),
         (0x36, "lights", array(&[vec![0], vec![1], vec![2]])),
         (0x37, "state", 3u32.to_le_bytes().to_vec()),
         (0x39, "owner", id("player")),
-        (0x3a, "trucks", array(&[nameless(0x1_2b40_f8a0), nameless(0)])),
+        (
+            0x3a,
+            "trucks",
+            array(&[nameless(0x1_2b40_f8a0), nameless(0)]),
+        ),
         (0x3b, "depot", named(&[])),
         (
             0x3c,

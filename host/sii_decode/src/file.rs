@@ -164,7 +164,11 @@ impl<'a> BsiiFile<'a> {
             let refusal = Refusal {
                 number: answer.number,
                 offset: answer.offset,
-                needed: if answer.number == 11 { answer.length } else { 0 },
+                needed: if answer.number == 11 {
+                    answer.length
+                } else {
+                    0
+                },
             };
             match answer.number {
                 0 => return Ok(text),

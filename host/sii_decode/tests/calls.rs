@@ -4,7 +4,8 @@ use generate::{worked_bytes, Random};
 use sii_decode::{BsiiFile, DataField, DataValue, Id, Refusal, LENGTH_LIMIT};
 use std::path::Path;
 
-const WORKED: &str = "SiiNunit\n{\ntrip : a1 {\n  km: 300\n  w: 2\n  w[0]: &3fc00000\n  w[1]: -2\n}\n}\n";
+const WORKED: &str =
+    "SiiNunit\n{\ntrip : a1 {\n  km: 300\n  w: 2\n  w[0]: &3fc00000\n  w[1]: -2\n}\n}\n";
 
 fn refusal(number: u32, offset: u64) -> Refusal {
     Refusal {
@@ -226,9 +227,9 @@ fn every_type_of_the_sample() {
     let file = BsiiFile::parse(&bytes).unwrap();
     let names = [
         "label", "remarks", "city", "tags", "rating", "prices", "gate", "camera", "sector",
-        "sectors", "turns", "spot", "spots", "balance", "ledger", "slots", "loads", "level", "days",
-        "edition", "profit", "history", "serial", "keys", "open", "lights", "state", "owner",
-        "trucks", "depot", "drivers", "parent",
+        "sectors", "turns", "spot", "spots", "balance", "ledger", "slots", "loads", "level",
+        "days", "edition", "profit", "history", "serial", "keys", "open", "lights", "state",
+        "owner", "trucks", "depot", "drivers", "parent",
     ];
     let mut types: Vec<_> = names
         .iter()
