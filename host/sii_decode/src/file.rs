@@ -51,7 +51,8 @@ fn answered(number: u32, offset: u64) -> Result<(), Refusal> {
 }
 
 impl<'a> BsiiFile<'a> {
-    /// Reads the whole file. Refused with 1 to 7 and 12; what passes is refused by the questions
+    /// Reads the whole file. Refused with 1 to 7 and 12, and with 10 if there is no memory for the
+    /// table; what passes is refused by the questions
     /// below with 13 only, and by the text with 8, 9 and 11.
     pub fn parse(content: &'a [u8]) -> Result<Self, Refusal> {
         // Room for as many prototypes as can stand in the file. One that is too long is refused
@@ -61,7 +62,12 @@ impl<'a> BsiiFile<'a> {
         } else {
             0
         };
-        let mut table = vec![0; room];
+        // Without memory for it the table stays empty, and the library refuses the first prototype
+        // with 10.
+        let mut table = Vec::new();
+        if table.try_reserve_exact(room).is_ok() {
+            table.resize(room, 0);
+        }
         let reading = library::read(content, &mut table);
         answered(reading.number, reading.offset)?;
         Ok(BsiiFile {

@@ -26,7 +26,7 @@ impl Refusal {
             7 => "a value is of a type that is not known, so where it ends is not known either",
             8 => "the last definition of the block's prototype has another number of fields than the block has values",
             9 => "an enum's number is not in the last definition's list, or there is no list",
-            10 => "the file has more prototypes than the table has room for",
+            10 => "there is not enough memory for the table of prototypes",
             11 => "there is not enough memory for the text",
             12 => "the file is longer than 16777216 bytes",
             13 => "there is no such prototype, block, name or element",

@@ -74,7 +74,7 @@ impl<'a> DataField<'a> {
             0x33 | 0x34 => "u64",
             0x35 | 0x36 => "bool",
             0x37 => "enum",
-            0x39 | 0x3a | 0x3b | 0x3c | 0x3d => "id",
+            0x39..=0x3d => "id",
             _ => "unlisted",
         }
     }
