@@ -1,5 +1,7 @@
 //! The command `sii-decode`. `man/sii-decode.1` has all that it does.
 
+#![forbid(unsafe_code)]
+
 mod arguments;
 mod input;
 mod output;
@@ -100,8 +102,12 @@ fn answer(content: &[u8], asked: &arguments::Asked) -> Result<(), Failure> {
         Question::Blocks(name) => {
             file.nth_by_prototype_name(name, 0)?;
             output::write(output, |out| {
-                file.blocks_by_prototype_name(name)
-                    .try_for_each(|number| writeln!(out, "{number}"))
+                // Each line costs a reading of the save, so none waits for the next, and none is
+                // asked for when the reader has gone.
+                file.blocks_by_prototype_name(name).try_for_each(|number| {
+                    writeln!(out, "{number}")?;
+                    out.flush()
+                })
             })
         }
         Question::Field(block, name) => {
