@@ -1,5 +1,6 @@
 //! Reproducible test files: file `index` of `seed` is always the same bytes.
 
+pub mod bytes;
 mod corners;
 mod damage;
 mod random;

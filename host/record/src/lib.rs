@@ -2,12 +2,12 @@
 //! `crates/replay/README.md` says what is in it.
 
 mod answer;
-mod bytes;
 mod cases;
 mod features;
 
 use answers::{Entry, LONGEST_RECORD};
 use features::features;
+use generate::bytes;
 use std::collections::BTreeSet;
 
 /// The generator's files: this seed, and so many of them, of which few are kept.

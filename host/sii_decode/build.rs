@@ -9,15 +9,12 @@ const NAME: &str = "sii_decode_c";
 
 fn main() {
     println!("cargo:rerun-if-env-changed=SII_LIBRARY");
-    if env::var_os("CARGO_FEATURE_LINKED").is_none() {
-        return;
-    }
     let root = Path::new(&env::var("CARGO_MANIFEST_DIR").unwrap()).join("../..");
     let folder = root.join(env::var_os("SII_LIBRARY").unwrap_or("target/staticlib".into()));
     let archive = folder.join(format!("lib{NAME}.a"));
     if !archive.is_file() {
         eprintln!(
-            "differential: no {}: run `rt staticlib {NAME}`",
+            "sii_decode: no {}: run `rt staticlib {NAME}`",
             archive.display()
         );
         exit(1);

@@ -1,0 +1,26 @@
+//! The sample save has its stored text by the unchanged Rust and by the model.
+
+use calls::Implementation;
+use model::Model;
+use std::path::Path;
+
+fn sample(name: &str) -> Vec<u8> {
+    let samples = Path::new(env!("CARGO_MANIFEST_DIR")).join("../../samples");
+    std::fs::read(samples.join(name)).unwrap()
+}
+
+#[test]
+fn has_the_text_of_the_rust() {
+    let (save, text) = (sample("garage.bsii"), sample("garage.sii"));
+    let file = oracle::parse(&save).unwrap();
+    assert_eq!(oracle::to_siin(&file).unwrap().as_bytes(), text);
+}
+
+#[test]
+fn has_the_text_of_the_model() {
+    let (save, text) = (sample("garage.bsii"), sample("garage.sii"));
+    let (mut table, mut out) = ([7; 9], vec![7; text.len()]);
+    let answer = Model::default().to_siin(&save, &mut table, &mut out);
+    assert_eq!((answer.number, answer.length), (0, text.len() as u64));
+    assert_eq!(out, text);
+}

@@ -1,0 +1,89 @@
+//! The library's C functions, each with slices in place of pointers and lengths. All of the
+//! workspace's unsafe code that touches the library is here.
+
+use calls::{Block, Element, Field, Number, Prototype, Reading, Text};
+
+extern "C" {
+    fn sii_read(file: *const u8, len: usize, table: *mut u32, words: usize) -> Reading;
+    fn sii_get_prototype(
+        file: *const u8,
+        len: usize,
+        table: *mut u32,
+        words: usize,
+        id: u32,
+    ) -> Prototype;
+    fn sii_block_at(file: *const u8, len: usize, table: *mut u32, words: usize, n: u64) -> Block;
+    fn sii_blocks_by_prototype_name(
+        file: *const u8,
+        len: usize,
+        table: *mut u32,
+        words: usize,
+        name: *const u8,
+        name_len: usize,
+        n: u64,
+    ) -> Number;
+    fn sii_field_of(
+        file: *const u8,
+        len: usize,
+        table: *mut u32,
+        words: usize,
+        block: u64,
+        name: *const u8,
+        name_len: usize,
+    ) -> Field;
+    fn sii_element_of(type_id: u32, part: *const u8, len: usize, index: u64) -> Element;
+    fn sii_to_siin(
+        file: *const u8,
+        len: usize,
+        table: *mut u32,
+        words: usize,
+        out: *mut u8,
+        out_len: usize,
+    ) -> Text;
+}
+
+pub fn read(file: &[u8], table: &mut [u32]) -> Reading {
+    let (words, table) = (table.len(), table.as_mut_ptr());
+    // SAFETY: each pointer comes from a slice and goes with its length. The library keeps none of
+    // them, writes only to table and output, and asks for nothing more, whatever the bytes are.
+    // That is so for all of the calls below.
+    unsafe { sii_read(file.as_ptr(), file.len(), table, words) }
+}
+
+pub fn get_prototype(file: &[u8], table: &mut [u32], id: u32) -> Prototype {
+    let (words, table) = (table.len(), table.as_mut_ptr());
+    // SAFETY: as in `read`.
+    unsafe { sii_get_prototype(file.as_ptr(), file.len(), table, words, id) }
+}
+
+pub fn block_at(file: &[u8], table: &mut [u32], n: u64) -> Block {
+    let (words, table) = (table.len(), table.as_mut_ptr());
+    // SAFETY: as in `read`.
+    unsafe { sii_block_at(file.as_ptr(), file.len(), table, words, n) }
+}
+
+pub fn blocks_by_prototype_name(file: &[u8], table: &mut [u32], name: &[u8], n: u64) -> Number {
+    let (words, table) = (table.len(), table.as_mut_ptr());
+    let (len, file) = (file.len(), file.as_ptr());
+    // SAFETY: as in `read`.
+    unsafe { sii_blocks_by_prototype_name(file, len, table, words, name.as_ptr(), name.len(), n) }
+}
+
+pub fn field_of(file: &[u8], table: &mut [u32], block: u64, name: &[u8]) -> Field {
+    let (words, table) = (table.len(), table.as_mut_ptr());
+    let (len, file) = (file.len(), file.as_ptr());
+    // SAFETY: as in `read`.
+    unsafe { sii_field_of(file, len, table, words, block, name.as_ptr(), name.len()) }
+}
+
+pub fn element_of(type_id: u32, part: &[u8], index: u64) -> Element {
+    // SAFETY: as in `read`.
+    unsafe { sii_element_of(type_id, part.as_ptr(), part.len(), index) }
+}
+
+pub fn to_siin(file: &[u8], table: &mut [u32], out: &mut [u8]) -> Text {
+    let (words, table) = (table.len(), table.as_mut_ptr());
+    let (len, file) = (file.len(), file.as_ptr());
+    // SAFETY: as in `read`.
+    unsafe { sii_to_siin(file, len, table, words, out.as_mut_ptr(), out.len()) }
+}

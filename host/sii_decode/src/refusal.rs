@@ -1,0 +1,49 @@
+//! Why a call has no answer.
+
+use std::error::Error;
+use std::fmt;
+
+/// A refusal of the library: its number from 1 to 13, and the offset that it is about, counted
+/// from the first byte of the input.
+#[derive(Clone, Copy, Debug, PartialEq, Eq)]
+pub struct Refusal {
+    pub number: u32,
+    pub offset: u64,
+    /// The text's length for number 11, else 0.
+    pub needed: u64,
+}
+
+impl Refusal {
+    /// The number in plain words.
+    pub fn sentence(&self) -> &'static str {
+        match self.number {
+            1 => "this is not a BSII file: its first four bytes are not BSII",
+            2 => "the file has version 1 of the format, which is not read",
+            3 => "the file ends in the middle of what stands here, or a record has a mark above 1",
+            4 => "a string is not UTF-8",
+            5 => "an encoded word has a digit 0, which stands for no character",
+            6 => "a block is of a prototype that is not defined in front of it",
+            7 => "a value is of a type that is not known, so where it ends is not known either",
+            8 => "the last definition of the block's prototype has another number of fields than the block has values",
+            9 => "an enum's number is not in the last definition's list, or there is no list",
+            10 => "there is not enough memory for the table of prototypes",
+            11 => "there is not enough memory for the text",
+            12 => "the file is longer than 16777216 bytes",
+            13 => "there is no such prototype, block, name or element",
+            _ => "the library gave a number that has no meaning",
+        }
+    }
+}
+
+impl fmt::Display for Refusal {
+    fn fmt(&self, f: &mut fmt::Formatter<'_>) -> fmt::Result {
+        let sentence = self.sentence();
+        write!(f, "refused {} at {}: {sentence}", self.number, self.offset)?;
+        if self.number == 11 {
+            write!(f, ", which has {} bytes", self.needed)?;
+        }
+        Ok(())
+    }
+}
+
+impl Error for Refusal {}

@@ -1,0 +1,189 @@
+//! A field's value and its elements.
+
+use crate::library;
+use crate::{Id, Refusal};
+use calls::{kind, Element};
+
+/// Eight floats, as they stand in the file: the text shows sums of them.
+pub type Placement = (f32, f32, f32, f32, f32, f32, f32, f32);
+
+/// One element: a single value, or one of an array.
+#[derive(Clone, Debug, PartialEq)]
+pub enum DataValue<'a> {
+    String(&'a str),
+    EncodedString(String),
+    Float(f32),
+    FloatVec2((f32, f32)),
+    FloatVec3((f32, f32, f32)),
+    Int32Vec3((i32, i32, i32)),
+    FloatVec4((f32, f32, f32, f32)),
+    FloatVec8(Placement),
+    Int32(i32),
+    UInt32(u32),
+    UInt16(u16),
+    Int64(i64),
+    UInt64(u64),
+    Bool(bool),
+    /// The number as it stands: the strings are in the prototype.
+    Enum(u32),
+    Id(Id),
+}
+
+/// A block's value under a name: its type, and the bytes of the file that encode it.
+#[derive(Clone, Copy, Debug, PartialEq, Eq)]
+pub struct DataField<'a> {
+    pub type_id: u32,
+    pub part: &'a [u8],
+}
+
+impl<'a> DataField<'a> {
+    pub fn is_array(&self) -> bool {
+        matches!(
+            self.type_id,
+            0x02 | 0x04
+                | 0x06
+                | 0x12
+                | 0x18
+                | 0x1a
+                | 0x26
+                | 0x28
+                | 0x2c
+                | 0x32
+                | 0x34
+                | 0x36
+                | 0x3a
+                | 0x3c
+        )
+    }
+
+    /// What one element is, in a word.
+    pub fn kind_name(&self) -> &'static str {
+        match self.type_id {
+            0x01 | 0x02 => "string",
+            0x03 | 0x04 => "word",
+            0x05 | 0x06 => "f32",
+            0x07 => "two-f32",
+            0x09 => "three-f32",
+            0x11 | 0x12 => "three-i32",
+            0x18 => "four-f32",
+            0x19 | 0x1a => "placement",
+            0x25 | 0x26 => "i32",
+            0x27 | 0x28 | 0x2f => "u32",
+            0x2b | 0x2c => "u16",
+            0x31 | 0x32 => "i64",
+            0x33 | 0x34 => "u64",
+            0x35 | 0x36 => "bool",
+            0x37 => "enum",
+            0x39..=0x3d => "id",
+            _ => "unlisted",
+        }
+    }
+
+    /// Element `index`, from 0; a single value has element 0 only. The offset of a refusal counts
+    /// from the part's first byte. The whole value is read for it: `elements` is the way to all.
+    pub fn element(&self, index: u64) -> Result<DataValue<'a>, Refusal> {
+        let answer = library::element_of(self.type_id, self.part, index);
+        answered(&answer).map(|()| value_of(&answer, self.part))
+    }
+
+    /// All elements in order, each read once.
+    pub fn elements(&self) -> Elements<'a> {
+        let (left, rest) = match (self.is_array(), self.part.first_chunk()) {
+            (true, Some(&count)) => (u32::from_le_bytes(count), &self.part[4..]),
+            (true, None) => (0, self.part),
+            (false, _) => (1, self.part),
+        };
+        Elements {
+            type_id: self.type_id,
+            array: self.is_array(),
+            left,
+            rest,
+        }
+    }
+}
+
+/// The elements of a value from front to back.
+#[derive(Clone, Debug)]
+pub struct Elements<'a> {
+    type_id: u32,
+    array: bool,
+    left: u32,
+    rest: &'a [u8],
+}
+
+impl<'a> Iterator for Elements<'a> {
+    type Item = DataValue<'a>;
+
+    fn next(&mut self) -> Option<DataValue<'a>> {
+        self.left = self.left.checked_sub(1)?;
+        let answer = match (self.array, self.type_id) {
+            (false, single) => library::element_of(single, self.rest, 0),
+            // Four floats have no type as a single value, so they are shown as an array of one.
+            (true, 0x18) => {
+                let mut array = [0; 20];
+                array[0] = 1;
+                array[4..].copy_from_slice(self.rest.get(..16)?);
+                library::element_of(0x18, &array, 0)
+            }
+            // An array's type is the single one's plus 1.
+            (true, array) => library::element_of(array - 1, self.rest, 0),
+        };
+        answered(&answer).ok()?;
+        let value = value_of(&answer, self.rest);
+        self.rest = &self.rest[size_of(&answer)..];
+        Some(value)
+    }
+}
+
+fn answered(answer: &Element) -> Result<(), Refusal> {
+    match answer.number {
+        0 => Ok(()),
+        number => Err(Refusal {
+            number,
+            offset: answer.offset,
+            needed: 0,
+        }),
+    }
+}
+
+/// How many bytes the element at the start of the slice has.
+fn size_of(answer: &Element) -> usize {
+    match answer.kind {
+        kind::BOOL => 1,
+        kind::U16 => 2,
+        kind::F32 | kind::I32 | kind::U32 | kind::ENUM => 4,
+        kind::WORD | kind::TWO_F32 | kind::I64 | kind::U64 => 8,
+        kind::THREE_F32 | kind::THREE_I32 => 12,
+        kind::FOUR_F32 => 16,
+        kind::PLACEMENT => 32,
+        _ => (answer.place_offset + answer.place_len) as usize,
+    }
+}
+
+fn value_of<'a>(answer: &Element, part: &'a [u8]) -> DataValue<'a> {
+    let place = || {
+        let start = answer.place_offset as usize;
+        &part[start..start + answer.place_len as usize]
+    };
+    let [a, b, c, d, e, f, g, h] = answer.parts.map(f32::from_bits);
+    let [i, j, k, ..] = answer.parts.map(|bits| bits as i32);
+    match answer.kind {
+        kind::STRING => DataValue::String(crate::utf8(place())),
+        kind::WORD => DataValue::EncodedString(crate::id::word(answer.value)),
+        kind::F32 => DataValue::Float(a),
+        kind::TWO_F32 => DataValue::FloatVec2((a, b)),
+        kind::THREE_F32 => DataValue::FloatVec3((a, b, c)),
+        kind::THREE_I32 => DataValue::Int32Vec3((i, j, k)),
+        kind::FOUR_F32 => DataValue::FloatVec4((a, b, c, d)),
+        kind::PLACEMENT => DataValue::FloatVec8((a, b, c, d, e, f, g, h)),
+        kind::I32 => DataValue::Int32(answer.value as i32),
+        kind::U32 => DataValue::UInt32(answer.value as u32),
+        kind::U16 => DataValue::UInt16(answer.value as u16),
+        kind::I64 => DataValue::Int64(answer.value as i64),
+        kind::U64 => DataValue::UInt64(answer.value),
+        kind::BOOL => DataValue::Bool(answer.value != 0),
+        kind::ENUM => DataValue::Enum(answer.value as u32),
+        kind::ID => DataValue::Id(Id::from_bytes(place())),
+        other => unreachable!("an element of kind {other}"),
+    }
+}

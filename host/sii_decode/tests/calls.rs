@@ -1,0 +1,247 @@
+//! Every call on the worked bytes and on the sample, and every refusal that a caller can meet.
+
+use generate::{worked_bytes, Random};
+use sii_decode::{BsiiFile, DataField, DataValue, Id, Refusal, LENGTH_LIMIT};
+use std::path::Path;
+
+const WORKED: &str =
+    "SiiNunit\n{\ntrip : a1 {\n  km: 300\n  w: 2\n  w[0]: &3fc00000\n  w[1]: -2\n}\n}\n";
+
+fn refusal(number: u32, offset: u64) -> Refusal {
+    Refusal {
+        number,
+        offset,
+        needed: 0,
+    }
+}
+
+/// Prototype `p` with one field `x` of a type, and one block of it.
+fn one_field(type_id: u32, value: &[u8]) -> Vec<u8> {
+    let mut file = b"BSII\x02\0\0\0\0\0\0\0\x01\x01\0\0\0\x01\0\0\0p".to_vec();
+    file.extend(type_id.to_le_bytes());
+    file.extend(b"\x01\0\0\0x");
+    if type_id == 0x37 {
+        file.extend(b"\x01\0\0\0\x05\0\0\0\x04\0\0\0five");
+    }
+    file.extend(b"\0\0\0\0\x01\0\0\0\0");
+    file.extend(value);
+    file.extend([0; 5]);
+    file
+}
+
+fn garage() -> Vec<u8> {
+    let root = Path::new(env!("CARGO_MANIFEST_DIR")).join("../..");
+    std::fs::read(root.join("samples/garage.bsii")).unwrap()
+}
+
+#[test]
+fn the_worked_bytes() {
+    let bytes = worked_bytes();
+    let file = BsiiFile::parse(&bytes).unwrap();
+    assert_eq!((file.header(), file.version()), (b"BSII".as_slice(), 2));
+    let counts = (file.prototype_count(), file.block_count(), file.end());
+    assert_eq!(counts, (1, 1, 82));
+    assert_eq!(file.to_siin().unwrap(), WORKED.as_bytes());
+
+    let prototype = file.get_prototype(7).unwrap();
+    let parts = (prototype.id, prototype.name, prototype.fields);
+    assert_eq!(parts, (7, "trip", 2));
+    let block = file.block(0).unwrap();
+    assert_eq!((block.number, block.prototype_id), (0, 7));
+    assert_eq!(block.id, Id::Named(vec!["a1".into()]));
+    assert_eq!(block.prototype(&file), Ok(prototype));
+
+    let km = block.field(&file, "km").unwrap();
+    assert_eq!((km.type_id, km.part), (0x27, &b"\x2c\x01\0\0"[..]));
+    assert_eq!(km, file.field(0, b"km").unwrap());
+    assert_eq!(km.element(0), Ok(DataValue::UInt32(300)));
+    assert_eq!(km.element(1), Err(refusal(13, 0)));
+    let w = file.field(0, "w").unwrap();
+    let floats = [DataValue::Float(1.5), DataValue::Float(-2.0)];
+    assert_eq!(w.elements().collect::<Vec<_>>(), floats);
+}
+
+#[test]
+fn what_is_not_there() {
+    let bytes = worked_bytes();
+    let file = BsiiFile::parse(&bytes).unwrap();
+    let absent = refusal(13, 0);
+    assert_eq!(file.get_prototype(8), Err(absent));
+    assert_eq!(file.block(1), Err(absent));
+    assert_eq!(file.block(u64::MAX), Err(absent));
+    assert_eq!(file.field(0, "k"), Err(absent));
+    assert_eq!(file.field(1, "km"), Err(absent));
+    assert_eq!(file.field(0, [0xff]), Err(absent));
+    assert_eq!(file.nth_by_prototype_name("trip", 1), Err(absent));
+    assert_eq!(file.blocks_by_prototype_name("tri").count(), 0);
+}
+
+#[test]
+fn blocks_under_a_name_in_order() {
+    let mut bytes = worked_bytes();
+    bytes.truncate(77);
+    let block = bytes[48..].to_vec();
+    bytes.extend(b"\0\0\0\0\x01\x09\0\0\0\x01\0\0\0p\0\0\0\0");
+    bytes.extend(b"\x09\0\0\0\0");
+    bytes.extend(&block);
+    bytes.extend([0; 5]);
+    let file = BsiiFile::parse(&bytes).unwrap();
+    let numbers = |name| file.blocks_by_prototype_name(name).collect::<Vec<_>>();
+    assert_eq!(numbers("trip"), [0, 2]);
+    assert_eq!(numbers("p"), [1]);
+}
+
+#[test]
+fn refusals_of_a_file() {
+    let cases: [(Vec<u8>, u32, u64); 9] = [
+        (vec![], 1, 0),
+        (b"BSIJ\x02\0\0\0".to_vec(), 1, 0),
+        (b"BSII\x01\0\0\0".to_vec(), 2, 8),
+        (worked_bytes()[..81].to_vec(), 3, 81),
+        (one_field(0x01, b"\x01\0\0\0\xff"), 4, 44),
+        (one_field(0x03, &[38, 0, 0, 0, 0, 0, 0, 0]), 5, 40),
+        (b"BSII\x02\0\0\0\x07\0\0\0".to_vec(), 6, 8),
+        (one_field(0x08, b""), 7, 40),
+        (vec![0; LENGTH_LIMIT + 1], 12, 0),
+    ];
+    for (bytes, number, offset) in cases {
+        assert_eq!(BsiiFile::parse(&bytes).err(), Some(refusal(number, offset)));
+    }
+}
+
+#[test]
+fn refusals_of_the_text() {
+    let bytes = one_field(0x37, &[6, 0, 0, 0]);
+    let file = BsiiFile::parse(&bytes).unwrap();
+    assert_eq!(file.to_siin(), Err(refusal(9, bytes.len() as u64 - 9)));
+    assert_eq!(
+        file.field(0, "x").unwrap().element(0),
+        Ok(DataValue::Enum(6))
+    );
+
+    let mut bytes = one_field(0x35, &[1]);
+    bytes.truncate(41);
+    bytes.extend(b"\0\0\0\0\x01\x01\0\0\0\x01\0\0\0p\0\0\0\0");
+    bytes.extend([0; 5]);
+    let file = BsiiFile::parse(&bytes).unwrap();
+    assert_eq!(file.to_siin(), Err(refusal(8, 35)));
+}
+
+/// The text of an array of bools under a name of as many bytes is far longer than the file.
+#[test]
+fn a_text_that_no_memory_holds() {
+    const HALF: usize = 8_000_000;
+    let mut bytes = b"BSII\x02\0\0\0\0\0\0\0\x01\x01\0\0\0\x01\0\0\0p\x36\0\0\0".to_vec();
+    bytes.extend((HALF as u32).to_le_bytes());
+    bytes.extend(vec![b'n'; HALF]);
+    bytes.extend(b"\0\0\0\0\x01\0\0\0\0");
+    bytes.extend((HALF as u32).to_le_bytes());
+    bytes.extend(vec![1; HALF]);
+    bytes.extend([0; 5]);
+    let refusal = BsiiFile::parse(&bytes).unwrap().to_siin().unwrap_err();
+    assert_eq!((refusal.number, refusal.offset), (11, 0));
+    assert!(refusal.needed > 64_000_000_000_000);
+    let shown = format!(
+        "refused 11 at 0: there is not enough memory for the text, which has {} bytes",
+        refusal.needed
+    );
+    assert_eq!(refusal.to_string(), shown);
+}
+
+/// As many prototypes as their bytes allow: the table has room for all.
+#[test]
+fn the_table_fits() {
+    let mut bytes = b"BSII\x02\0\0\0".to_vec();
+    for id in 0..1000u32 {
+        bytes.extend(b"\0\0\0\0\x01");
+        bytes.extend(id.to_le_bytes());
+        bytes.extend([0; 8]);
+    }
+    bytes.extend([0; 5]);
+    let file = BsiiFile::parse(&bytes).unwrap();
+    assert_eq!(file.prototype_count(), 1000);
+    assert_eq!(file.get_prototype(999).unwrap().name, "");
+}
+
+#[test]
+fn each_refusal_has_a_sentence() {
+    let sentences: Vec<_> = (1..=13).map(|n| refusal(n, 0).sentence()).collect();
+    for (at, sentence) in sentences.iter().enumerate() {
+        assert!(!sentences[..at].contains(sentence));
+    }
+    assert!(!sentences.contains(&refusal(14, 0).sentence()));
+    let shown = "refused 4 at 44: a string is not UTF-8";
+    assert_eq!(refusal(4, 44).to_string(), shown);
+}
+
+#[test]
+fn ids_are_shown_as_in_the_text() {
+    let nameless = |number| Id::Nameless(number).to_string();
+    assert_eq!(nameless(0), "_nameless.0");
+    assert_eq!(nameless(0x10000), "_nameless.1.0000");
+    assert_eq!(nameless(0x1_2b40_f8a0), "_nameless.1.2b40.f8a0");
+    assert_eq!(nameless(u64::MAX), "_nameless.ffff.ffff.ffff.ffff");
+    let named = |words: &[&str]| Id::Named(words.iter().map(|w| w.to_string()).collect());
+    assert_eq!(named(&[]).to_string(), "null");
+    assert_eq!(named(&["a1", "", "b"]).to_string(), "a1..b");
+}
+
+/// The walk over the elements gives what the element call gives for each index.
+fn walk_is_the_call(field: DataField) {
+    let walked: Vec<_> = field.elements().collect();
+    for (index, value) in walked.iter().enumerate() {
+        // a NaN is equal to nothing, so the shown forms are compared
+        let called = field.element(index as u64).unwrap();
+        assert_eq!(format!("{value:?}"), format!("{called:?}"));
+    }
+    let behind = field.element(walked.len() as u64);
+    assert_eq!(behind, Err(refusal(13, 0)));
+    assert!(field.is_array() || walked.len() == 1);
+}
+
+#[test]
+fn elements_of_random_values() {
+    let mut random = Random::new(1, 1);
+    let (mut whole, mut longest) = (0, 0);
+    for _ in 0..20_000 {
+        let (type_id, bytes) = generate::element(&mut random);
+        let field = DataField {
+            type_id,
+            part: &bytes,
+        };
+        match field.element(u64::MAX) {
+            Err(Refusal { number: 13, .. }) => {
+                whole += 1;
+                longest = longest.max(field.elements().count());
+                walk_is_the_call(field);
+            }
+            other => assert!(other.is_err()),
+        }
+    }
+    assert!(whole > 5000 && longest > 2, "{whole} {longest}");
+}
+
+#[test]
+fn every_type_of_the_sample() {
+    let bytes = garage();
+    let file = BsiiFile::parse(&bytes).unwrap();
+    let names = [
+        "label", "remarks", "city", "tags", "rating", "prices", "gate", "camera", "sector",
+        "sectors", "turns", "spot", "spots", "balance", "ledger", "slots", "loads", "level",
+        "days", "edition", "profit", "history", "serial", "keys", "open", "lights", "state",
+        "owner", "trucks", "depot", "drivers", "parent",
+    ];
+    let mut types: Vec<_> = names
+        .iter()
+        .map(|name| {
+            let field = file.field(0, name).unwrap();
+            walk_is_the_call(field);
+            assert_ne!(field.kind_name(), "unlisted");
+            field.type_id
+        })
+        .collect();
+    types.sort();
+    let mut listed = generate::LISTED[..32].to_vec();
+    listed.sort();
+    assert_eq!(types, listed);
+}
