@@ -74,6 +74,11 @@ fn step(length: f64) -> f64 {
     }
 }
 
+/// Without the digits that a product of a fraction ends in.
+fn number(mark: f64) -> f64 {
+    (mark * 1e6).round() / 1e6
+}
+
 /// Both axes are linear and start at zero, so that a time that grows linearly is a straight line
 /// through the corner. A bar at each point goes from the least to the most time.
 pub fn svg(timed: &[Timed]) -> String {
@@ -104,7 +109,7 @@ pub fn svg(timed: &[Timed]) -> String {
     let (bottom, right) = (TOP + up, LEFT + across);
     for mark in 0..=(high / step_up).round() as usize {
         let at = y(mark as f64 * step_up);
-        let shown = mark as f64 * step_up;
+        let shown = number(mark as f64 * step_up);
         put(format!(
             "<path d=\"M{LEFT} {at:.1}H{right}\" stroke=\"{GRID}\"/>\
              <text x=\"{}\" y=\"{:.1}\" text-anchor=\"end\">{shown}</text>",
@@ -113,11 +118,11 @@ pub fn svg(timed: &[Timed]) -> String {
         ));
     }
     for mark in 0..=(wide / step_across).round() as usize {
-        let shown = mark as f64 * step_across;
+        let place = x(mark as f64 * step_across);
+        let shown = number(mark as f64 * step_across);
         put(format!(
-            "<path d=\"M{0:.1} {bottom}v5\" stroke=\"{INK}\"/>\
-             <text x=\"{0:.1}\" y=\"{1}\" text-anchor=\"middle\">{shown}</text>",
-            x(shown),
+            "<path d=\"M{place:.1} {bottom}v5\" stroke=\"{INK}\"/>\
+             <text x=\"{place:.1}\" y=\"{}\" text-anchor=\"middle\">{shown}</text>",
             bottom + 20.0
         ));
     }

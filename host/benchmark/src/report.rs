@@ -297,7 +297,7 @@ mod tests {
         assert_eq!(grouped(999), "999");
         assert_eq!(grouped(1_000), "1,000");
         assert_eq!(grouped(16_777_216), "16,777,216");
-        assert_eq!(rounded(1234.5), "1234");
+        assert_eq!(rounded(1234.4), "1234");
         assert_eq!(rounded(99.96), "100");
         assert_eq!(rounded(12.345), "12.3");
         assert_eq!(rounded(1.234), "1.23");
