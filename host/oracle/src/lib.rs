@@ -2,16 +2,22 @@
 
 extern crate sii_decode;
 
+#[cfg(feature = "lazy")]
 mod lazy;
 mod panics;
 mod silence;
 
+#[cfg(feature = "lazy")]
 pub use lazy::huge_requests;
 pub use panics::Fault;
 pub use sii_decode::bsii_file::{BsiiFile, DataBlock, DataValue, Id};
 pub use silence::silence_stdout;
 
 use sii_decode::bsii_parse::ParseError;
+
+/// Whether large requests go to the allocator of `lazy.rs`, which takes another time than the usual
+/// one.
+pub const LAZY: bool = cfg!(feature = "lazy");
 
 /// The source that was compiled, by file name.
 pub const SOURCE: [(&str, &str); 3] = [

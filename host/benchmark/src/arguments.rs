@@ -1,0 +1,204 @@
+//! The command line.
+
+use crate::inputs;
+use std::ffi::OsString;
+use std::path::PathBuf;
+
+pub const USAGE: &str = "\
+Usage: benchmark [--rounds N] [--only INPUT]... [--markdown] [--plot FILE]
+       benchmark --memory SIDE INPUT
+       benchmark --write INPUT
+
+Times the library and the unchanged Rust on the same inputs, in one process and
+in turns: reading with the Rust's parse, the text call with the Rust's parse and
+to_siin. Then each side converts each input in a process of its own, for the
+peak of its memory. The table goes to standard output.
+
+  --rounds N           so many rounds, from 1 up; without it 9
+  --only INPUT         only this input; may be given again
+  --markdown           the table as Markdown, with machine and date
+  --plot FILE          write a plot of time against size as SVG
+  --memory SIDE INPUT  print the peak in bytes of one side, rust or ours;
+                       if INPUT is -, the file is read from standard input
+  --write INPUT        write the input's bytes to standard output
+  -h, --help           print this and exit
+
+INPUT is save-1 to save-16, a save of so many megabytes, or a hostile file:
+prototypes, names, long-text, arrays, redefinition, redefinitions, enums.
+
+Exit status: 0 if all was measured, 1 if the two texts differ or something
+failed, 2 for bad usage.
+";
+
+#[derive(Clone, Copy, Debug, PartialEq, Eq)]
+pub enum Side {
+    Ours,
+    Rust,
+}
+
+impl Side {
+    pub fn name(self) -> &'static str {
+        match self {
+            Side::Ours => "ours",
+            Side::Rust => "rust",
+        }
+    }
+}
+
+#[derive(Debug, PartialEq, Eq)]
+pub struct Run {
+    pub rounds: usize,
+    /// All of the table if there are none.
+    pub only: Vec<String>,
+    pub markdown: bool,
+    pub plot: Option<PathBuf>,
+}
+
+#[derive(Debug, PartialEq, Eq)]
+pub enum Arguments {
+    Help,
+    Run(Run),
+    Memory(Side, String),
+    Write(String),
+}
+
+/// The words behind the program's name, or what is wrong with them.
+pub fn parse(words: Vec<OsString>) -> Result<Arguments, String> {
+    let mut run = Run {
+        rounds: 9,
+        only: Vec::new(),
+        markdown: false,
+        plot: None,
+    };
+    let alone = words.len();
+    let mut words = words.into_iter();
+    while let Some(word) = words.next() {
+        let name = word.to_string_lossy().into_owned();
+        let mut next = |what: &str| words.next().ok_or(format!("{name} wants {what}"));
+        match name.as_str() {
+            "-h" | "--help" => return Ok(Arguments::Help),
+            "--memory" | "--write" => {
+                let found = if name == "--memory" {
+                    let side = side(&next("SIDE and INPUT")?)?;
+                    Arguments::Memory(side, input(next("an INPUT")?, true)?)
+                } else {
+                    Arguments::Write(input(next("an INPUT")?, false)?)
+                };
+                if alone != if name == "--memory" { 3 } else { 2 } {
+                    return Err(format!("{name} goes with nothing else"));
+                }
+                return Ok(found);
+            }
+            "--markdown" => run.markdown = true,
+            "--rounds" => run.rounds = rounds(&next("a number")?)?,
+            "--only" => run.only.push(input(next("an INPUT")?, false)?),
+            "--plot" => run.plot = Some(next("a FILE")?.into()),
+            _ => return Err(format!("what is {name}?")),
+        }
+    }
+    Ok(Arguments::Run(run))
+}
+
+fn rounds(word: &OsString) -> Result<usize, String> {
+    let text = word.to_string_lossy();
+    let number = text.parse().ok().filter(|number| *number > 0);
+    number.ok_or(format!("{text} is no number of rounds"))
+}
+
+fn side(word: &OsString) -> Result<Side, String> {
+    let text = word.to_string_lossy();
+    let sides = [Side::Ours, Side::Rust];
+    let found = sides.into_iter().find(|side| side.name() == text);
+    found.ok_or(format!("{text} is no side: ours or rust"))
+}
+
+fn input(word: OsString, or_standard_input: bool) -> Result<String, String> {
+    let name = word.to_string_lossy().into_owned();
+    if inputs::by_name(&name).is_some() || or_standard_input && name == "-" {
+        Ok(name)
+    } else {
+        Err(format!("{name} is no input"))
+    }
+}
+
+#[cfg(test)]
+mod tests {
+    use super::*;
+
+    fn parsed(words: &[&str]) -> Result<Arguments, String> {
+        parse(words.iter().map(OsString::from).collect())
+    }
+
+    fn run() -> Run {
+        Run {
+            rounds: 9,
+            only: Vec::new(),
+            markdown: false,
+            plot: None,
+        }
+    }
+
+    #[test]
+    fn well_used() {
+        assert_eq!(parsed(&[]), Ok(Arguments::Run(run())));
+        assert_eq!(parsed(&["--markdown", "-h"]), Ok(Arguments::Help));
+        let words = [
+            "--rounds",
+            "3",
+            "--only",
+            "save-7",
+            "--only",
+            "enums",
+            "--markdown",
+            "--plot",
+            "a.svg",
+        ];
+        let all = Run {
+            rounds: 3,
+            only: vec!["save-7".into(), "enums".into()],
+            markdown: true,
+            plot: Some("a.svg".into()),
+        };
+        assert_eq!(parsed(&words), Ok(Arguments::Run(all)));
+        let memory = |side, input: &str| Ok(Arguments::Memory(side, input.into()));
+        assert_eq!(
+            parsed(&["--memory", "ours", "names"]),
+            memory(Side::Ours, "names")
+        );
+        assert_eq!(parsed(&["--memory", "rust", "-"]), memory(Side::Rust, "-"));
+        assert_eq!(
+            parsed(&["--write", "save-1"]),
+            Ok(Arguments::Write("save-1".into()))
+        );
+    }
+
+    #[test]
+    fn badly_used() {
+        let bad: [&[&str]; 14] = [
+            &["save-7"],
+            &["--what"],
+            &["--rounds"],
+            &["--rounds", "0"],
+            &["--rounds", "-1"],
+            &["--rounds", "x"],
+            &["--only", "save-17"],
+            &["--only", "-"],
+            &["--plot"],
+            &["--memory", "ours"],
+            &["--memory", "theirs", "save-1"],
+            &["--memory", "ours", "save-1", "--markdown"],
+            &["--write", "-"],
+            &["--markdown", "--write", "save-1"],
+        ];
+        for words in bad {
+            assert!(parsed(words).is_err(), "{words:?}");
+        }
+    }
+
+    #[test]
+    fn the_usage_names_every_hostile_file() {
+        for (name, ..) in crate::hostile::ALL {
+            assert!(USAGE.contains(name), "{name}");
+        }
+    }
+}

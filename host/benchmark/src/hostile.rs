@@ -1,0 +1,231 @@
+//! Files that are well-formed and as awkward as the format allows. Each has one cause that makes
+//! it so, a table of at most 4,096 rows, and a text that fits into memory.
+
+use generate::bytes::{array, block, choice, definition, file, floats, prototype, string};
+use generate::Random;
+
+/// The table has so many rows in every run.
+pub const ROWS: usize = 4096;
+
+const SEED: u64 = 21;
+const SIZE: usize = 1_000_000;
+
+type Maker = fn() -> Vec<u8>;
+
+/// Names, what they are, and the files.
+pub const ALL: [(&str, &str, Maker); 7] = [
+    (
+        "prototypes",
+        "4,096 prototypes, and the smallest blocks of the last one",
+        prototypes,
+    ),
+    ("names", "names of 20,000 bytes, each used once", names),
+    (
+        "long-text",
+        "names of 2,000 bytes in a text 32 times as long as the file",
+        long_text,
+    ),
+    ("arrays", "three giant arrays", arrays),
+    (
+        "redefinition",
+        "one prototype defined again in front of each block",
+        redefinition,
+    ),
+    (
+        "redefinitions",
+        "4,096 prototypes, all defined again and again in front of a block",
+        redefinitions,
+    ),
+    (
+        "enums",
+        "an enum with a list of 4,096 pairs, and many values of it",
+        enums,
+    ),
+];
+
+/// Ids without an order, so that neither sorting nor their size helps.
+fn ids() -> Vec<u32> {
+    let mut random = Random::new(SEED, 0);
+    let mut ids: Vec<u32> = (0..ROWS)
+        // The low bits make them different.
+        .map(|row| (random.number() as u32) << 12 | row as u32)
+        .collect();
+    // Zero would be an id that no block can have.
+    ids[0] |= 1 << 31;
+    ids
+}
+
+pub fn prototypes() -> Vec<u8> {
+    let ids = ids();
+    let mut records: Vec<Vec<u8>> = ids.iter().map(|id| prototype(*id, b"", &[])).collect();
+    let smallest = block(ids[ROWS - 1], &[]);
+    let left = SIZE - records.iter().map(Vec::len).sum::<usize>();
+    records.extend(vec![smallest.clone(); left / smallest.len()]);
+    file(&records)
+}
+
+/// Letters, and now and then a character of two bytes.
+fn name(random: &mut Random, len: usize) -> Vec<u8> {
+    let mut name = Vec::with_capacity(len);
+    while name.len() + 2 <= len {
+        match random.chance(2) {
+            true => name.extend("ö".as_bytes()),
+            false => name.push(b'a' + random.below(26) as u8),
+        }
+    }
+    name.resize(len, b'_');
+    name
+}
+
+fn long_names(random: &mut Random, id: u32, len: usize) -> Vec<u8> {
+    let definitions = [0x35, 0x27, 0x35].map(|type_id| definition(type_id, &name(random, len)));
+    prototype(id, &name(random, len), &definitions)
+}
+
+const VALUES: [u8; 6] = [1, 7, 0, 0, 0, 0];
+
+pub fn names() -> Vec<u8> {
+    let mut random = Random::new(SEED, 1);
+    const LEN: usize = 20_000;
+    let count = SIZE / (4 * LEN);
+    let records: Vec<Vec<u8>> = (1..=count as u32)
+        .flat_map(|id| [long_names(&mut random, id, LEN), block(id, &VALUES)])
+        .collect();
+    file(&records)
+}
+
+pub fn long_text() -> Vec<u8> {
+    let mut random = Random::new(SEED, 2);
+    const LEN: usize = 2000;
+    const TIMES: usize = 32;
+    let count = SIZE / (4 * LEN);
+    let records: Vec<Vec<u8>> = (1..=count as u32)
+        .flat_map(|id| {
+            let mut records = vec![long_names(&mut random, id, LEN)];
+            records.extend(vec![block(id, &VALUES); TIMES]);
+            records
+        })
+        .collect();
+    file(&records)
+}
+
+/// Of bytes, of strings, of placements: a third of the file each.
+pub fn arrays() -> Vec<u8> {
+    let mut random = Random::new(SEED, 3);
+    let third = SIZE / 3;
+    let flags: Vec<Vec<u8>> = (0..third).map(|_| vec![random.below(2) as u8]).collect();
+    let strings: Vec<Vec<u8>> = (0..third / 8)
+        .map(|_| {
+            let len = random.below(9);
+            string(&name(&mut random, len))
+        })
+        .collect();
+    let placements: Vec<Vec<u8>> = (0..third / 32)
+        .map(|_| {
+            let bits = [(); 8].map(|()| (random.below(4000) as f32 / 16.0).to_bits());
+            floats(&bits)
+        })
+        .collect();
+    let definitions = [
+        definition(0x36, b"flags"),
+        definition(0x02, b"strings"),
+        definition(0x1a, b"placements"),
+    ];
+    let values = [array(&flags), array(&strings), array(&placements)].concat();
+    file(&[prototype(1, b"giant", &definitions), block(1, &values)])
+}
+
+/// A definition under a new name each time, and a block of it.
+fn again(id: u32, number: usize) -> [Vec<u8>; 2] {
+    let name = format!("n{number}");
+    let definitions = [definition(0x35, name.as_bytes())];
+    [
+        prototype(id, name.as_bytes(), &definitions),
+        block(id, &[1]),
+    ]
+}
+
+/// Both have so many bytes, on average.
+const AGAIN: usize = 42;
+
+pub fn redefinition() -> Vec<u8> {
+    let records: Vec<Vec<u8>> = (0..SIZE / AGAIN)
+        .flat_map(|number| again(1, number))
+        .collect();
+    file(&records)
+}
+
+pub fn redefinitions() -> Vec<u8> {
+    let ids = ids();
+    let records: Vec<Vec<u8>> = (0..SIZE / AGAIN)
+        .flat_map(|number| again(ids[number % ROWS], number))
+        .collect();
+    file(&records)
+}
+
+/// Smaller than the others, for the time is the list's length times the number of values.
+pub fn enums() -> Vec<u8> {
+    const PAIRS: u32 = 4096;
+    let texts: Vec<String> = (0..PAIRS).map(|number| format!("s{number}")).collect();
+    let pairs: Vec<(u32, &[u8])> = (0..PAIRS).zip(texts.iter().map(String::as_bytes)).collect();
+    let mut records = vec![prototype(1, b"p", &[choice(b"state", &pairs)])];
+    let carrier = block(1, &(PAIRS - 1).to_le_bytes());
+    let left = SIZE / 4 - records[0].len();
+    records.extend(vec![carrier.clone(); left / carrier.len()]);
+    file(&records)
+}
+
+#[cfg(test)]
+mod tests {
+    use super::*;
+
+    /// The number of prototypes and of blocks, and the length of the text.
+    fn counts(bytes: &[u8]) -> (usize, usize, usize) {
+        let parsed = oracle::parse(bytes).expect("the Rust reads it");
+        let text = oracle::to_siin(&parsed).expect("the Rust writes it");
+        (
+            parsed.prototypes.len(),
+            parsed.data_blocks.len(),
+            text.len(),
+        )
+    }
+
+    fn within(found: usize, wanted: usize) {
+        assert!(
+            found.abs_diff(wanted) * 20 <= wanted,
+            "{found} for {wanted}"
+        );
+    }
+
+    #[test]
+    fn sizes_and_rows() {
+        for (name, _, make) in ALL {
+            let bytes = make();
+            within(bytes.len(), if name == "enums" { SIZE / 4 } else { SIZE });
+            let (prototypes, blocks, _) = counts(&bytes);
+            assert!((1..=ROWS).contains(&prototypes) && blocks > 0, "{name}");
+            assert!(bytes == make(), "{name}");
+        }
+    }
+
+    #[test]
+    fn as_many_prototypes_as_rows() {
+        let (count, blocks, _) = counts(&prototypes());
+        assert_eq!(count, ROWS);
+        within(blocks, (SIZE - 17 * ROWS) / 5);
+        assert_eq!(counts(&redefinitions()).0, ROWS);
+    }
+
+    #[test]
+    fn one_prototype_again_and_again() {
+        let (count, blocks, _) = counts(&redefinition());
+        assert_eq!(count, 1);
+        within(blocks, SIZE / AGAIN);
+    }
+
+    #[test]
+    fn lengths_of_the_text() {
+        within(counts(&names()).2, SIZE);
+        within(counts(&long_text()).2, 32 * SIZE);
+    }
+}

@@ -1,0 +1,116 @@
+//! Times the library against the unchanged Rust; `benchmark --help` says how.
+
+#![forbid(unsafe_code)]
+
+mod arguments;
+mod hostile;
+mod inputs;
+mod machine;
+mod memory;
+mod plot;
+mod report;
+mod saves;
+mod sides;
+mod statistics;
+
+use arguments::{Arguments, Run, Side, USAGE};
+use inputs::Input;
+use report::Row;
+use sides::Timed;
+use std::fs;
+use std::io::{self, Write};
+use std::process::ExitCode;
+
+fn main() -> ExitCode {
+    let arguments = match arguments::parse(std::env::args_os().skip(1).collect()) {
+        Ok(arguments) => arguments,
+        Err(what) => {
+            eprint!("benchmark: {what}\n{USAGE}");
+            return ExitCode::from(2);
+        }
+    };
+    match answer(arguments) {
+        Ok(()) => ExitCode::SUCCESS,
+        Err(what) => {
+            eprintln!("benchmark: {what}");
+            ExitCode::FAILURE
+        }
+    }
+}
+
+fn show(bytes: &[u8]) -> Result<(), String> {
+    let mut out = io::stdout().lock();
+    let written = out.write_all(bytes).and_then(|()| out.flush());
+    written.map_err(|error| format!("standard output: {error}"))
+}
+
+fn input(name: &str) -> Input {
+    inputs::by_name(name).expect("the arguments were looked up")
+}
+
+fn answer(arguments: Arguments) -> Result<(), String> {
+    match arguments {
+        Arguments::Help => show(USAGE.as_bytes()),
+        Arguments::Write(name) => show(&(input(&name).make)()),
+        Arguments::Memory(side, name) => {
+            let peak = match name.as_str() {
+                "-" => memory::own(side)?,
+                _ => memory::of_child(side, &(input(&name).make)())?,
+            };
+            show(format!("{peak}\n").as_bytes())
+        }
+        Arguments::Run(run) => measure(&run),
+    }
+}
+
+/// The input's bytes and its times. Some inputs take a while, so each is announced.
+fn timed(input: &Input, rounds: usize) -> Result<(Vec<u8>, Timed), String> {
+    eprintln!("{} ...", input.name);
+    let file = (input.make)();
+    let timed = sides::time(&file, rounds).map_err(|what| format!("{}: {what}", input.name))?;
+    Ok((file, timed))
+}
+
+fn row(input: Input, rounds: usize) -> Result<Row, String> {
+    let (file, timed) = timed(&input, rounds)?;
+    Ok(Row {
+        timed,
+        ours_peak: memory::of_child(Side::Ours, &file)?,
+        rust_peak: memory::of_child(Side::Rust, &file)?,
+        name: input.name,
+        about: input.about,
+    })
+}
+
+fn measure(run: &Run) -> Result<(), String> {
+    if oracle::LAZY {
+        eprintln!("benchmark: the Rust has the allocator of the differential tests, which is not its usual one: build with -p benchmark alone");
+    }
+    let inputs = if run.only.is_empty() {
+        inputs::table()
+    } else {
+        run.only.iter().map(|name| input(name)).collect()
+    };
+    let mut rows = Vec::new();
+    for input in inputs {
+        rows.push(row(input, run.rounds)?);
+    }
+    let text = if run.markdown {
+        report::markdown(&rows, run.rounds)
+    } else {
+        report::plain(&rows, run.rounds)
+    };
+    show(text.as_bytes())?;
+    if let Some(path) = &run.plot {
+        let mut all = Vec::new();
+        for input in inputs::saves_for_plot() {
+            // What the table has is not measured twice.
+            match rows.iter().position(|row| row.name == input.name) {
+                Some(at) => all.push(rows.swap_remove(at).timed),
+                None => all.push(timed(&input, run.rounds)?.1),
+            }
+        }
+        fs::write(path, plot::svg(&all)).map_err(|error| format!("{}: {error}", path.display()))?;
+    }
+    Ok(())
+}

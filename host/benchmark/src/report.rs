@@ -1,0 +1,337 @@
+//! The tables, as plain text and as Markdown, and what they say about the bar.
+
+use crate::inputs::{is_hostile, NORMAL};
+use crate::machine;
+use crate::sides::{Compared, Timed};
+use crate::statistics::Spread;
+
+/// One input with all that was measured.
+pub struct Row {
+    pub name: String,
+    pub about: String,
+    pub timed: Timed,
+    /// The peaks in bytes.
+    pub ours_peak: u64,
+    pub rust_peak: u64,
+}
+
+/// The Rust takes at least so many times as long as we do.
+const FASTER: f64 = 2.0;
+/// A byte of a hostile file takes at most so many times as long as one of the normal save.
+const HOSTILE: f64 = 10.0;
+/// A byte of the largest save takes at most so many times as long as one of the smallest: linear
+/// but for caches and noise.
+const LINEAR: f64 = 1.25;
+
+struct Table {
+    heads: Vec<&'static str>,
+    /// How many columns in front hold words and not numbers.
+    words: usize,
+    lines: Vec<Vec<String>>,
+}
+
+impl Table {
+    fn plain(&self) -> String {
+        let heads: Vec<String> = self.heads.iter().map(|head| head.to_string()).collect();
+        let mut widths = vec![0; heads.len()];
+        for line in self.lines.iter().chain([&heads]) {
+            for (width, cell) in widths.iter_mut().zip(line) {
+                *width = (*width).max(cell.chars().count());
+            }
+        }
+        let mut text = String::new();
+        for line in [&heads].into_iter().chain(&self.lines) {
+            let mut shown = String::new();
+            for (column, (cell, width)) in line.iter().zip(&widths).enumerate() {
+                if column < self.words {
+                    shown += &format!("{cell:width$}  ");
+                } else {
+                    shown += &format!("{cell:>width$}  ");
+                }
+            }
+            text += shown.trim_end();
+            text += "\n";
+        }
+        text
+    }
+
+    fn markdown(&self) -> String {
+        let mut text = format!("| {} |\n|", self.heads.join(" | "));
+        for column in 0..self.heads.len() {
+            text += if column < self.words { "---|" } else { "---:|" };
+        }
+        text += "\n";
+        for line in &self.lines {
+            text += &format!("| {} |\n", line.join(" | "));
+        }
+        text
+    }
+}
+
+/// With commas between groups of three digits.
+fn grouped(number: u64) -> String {
+    let digits = number.to_string();
+    let mut text = String::new();
+    for (place, digit) in digits.chars().enumerate() {
+        if place > 0 && (digits.len() - place).is_multiple_of(3) {
+            text.push(',');
+        }
+        text.push(digit);
+    }
+    text
+}
+
+/// Three digits that count, and all in front of the point.
+fn rounded(number: f64) -> String {
+    let places = match number.abs() {
+        n if n >= 99.95 => 0,
+        n if n >= 9.995 => 1,
+        _ => 2,
+    };
+    format!("{number:.places$}")
+}
+
+fn spread(spread: Spread) -> String {
+    format!(
+        "{} ({} to {})",
+        rounded(spread.median),
+        rounded(spread.least),
+        rounded(spread.most)
+    )
+}
+
+fn per_byte(time: Spread, bytes: usize) -> f64 {
+    time.median * 1e9 / bytes as f64
+}
+
+fn times(rows: &[Row]) -> Table {
+    let mut lines = Vec::new();
+    for row in rows {
+        let timed = &row.timed;
+        let calls: [(&str, &Compared); 2] = [("reading", &timed.reading), ("text", &timed.text)];
+        for (call, compared) in calls {
+            lines.push(vec![
+                row.name.clone(),
+                call.into(),
+                grouped(timed.bytes as u64),
+                grouped(timed.text_bytes as u64),
+                spread(compared.ours.times(1e3)),
+                spread(compared.rust.times(1e3)),
+                rounded(per_byte(compared.ours, timed.bytes)),
+                rounded(per_byte(compared.rust, timed.bytes)),
+                spread(compared.ratio),
+            ]);
+        }
+    }
+    Table {
+        heads: vec![
+            "input",
+            "call",
+            "bytes",
+            "text bytes",
+            "ours, ms",
+            "Rust, ms",
+            "ours, ns/byte",
+            "Rust, ns/byte",
+            "Rust / ours",
+        ],
+        words: 2,
+        lines,
+    }
+}
+
+fn memory(rows: &[Row]) -> Table {
+    let mega = |bytes: u64| rounded(bytes as f64 / 1e6);
+    let lines = rows
+        .iter()
+        .map(|row| {
+            vec![
+                row.name.clone(),
+                mega(row.timed.bytes as u64),
+                mega(row.timed.text_bytes as u64),
+                mega(row.ours_peak),
+                mega(row.rust_peak),
+                rounded(row.rust_peak as f64 / row.ours_peak as f64),
+            ]
+        })
+        .collect();
+    Table {
+        heads: vec![
+            "input",
+            "file, MB",
+            "text, MB",
+            "ours, peak MB",
+            "Rust, peak MB",
+            "Rust / ours",
+        ],
+        words: 1,
+        lines,
+    }
+}
+
+fn inputs(rows: &[Row]) -> Table {
+    Table {
+        heads: vec!["input", "what it is"],
+        words: 2,
+        lines: rows
+            .iter()
+            .map(|row| vec![row.name.clone(), row.about.clone()])
+            .collect(),
+    }
+}
+
+fn verdict(met: bool) -> String {
+    if met { "met" } else { "not met" }.into()
+}
+
+type Call = (&'static str, fn(&Timed) -> &Compared);
+const CALLS: [Call; 2] = [
+    ("reading", |timed| &timed.reading),
+    ("text", |timed| &timed.text),
+];
+
+/// The bar against the rows that were measured; what needs others is left out.
+fn bar(rows: &[Row]) -> Table {
+    let mut lines = Vec::new();
+    let find = |name: &str| rows.iter().find(|row| row.name == name);
+    let normal = find(NORMAL);
+    for (call, of) in CALLS {
+        if let Some(normal) = normal {
+            let found = of(&normal.timed).ratio.median;
+            lines.push(vec![
+                format!("{call}, {NORMAL}: times as fast as the Rust"),
+                format!("at least {FASTER}"),
+                rounded(found),
+                verdict(found >= FASTER),
+            ]);
+        }
+        if let (Some(small), Some(large)) = (find("save-1"), find("save-16")) {
+            let cost = |row: &Row| per_byte(of(&row.timed).ours, row.timed.bytes);
+            let found = cost(large) / cost(small);
+            lines.push(vec![
+                format!("{call}: a byte of save-16 to one of save-1"),
+                format!("at most {LINEAR}"),
+                rounded(found),
+                verdict(found <= LINEAR),
+            ]);
+        }
+    }
+    if let Some(normal) = normal {
+        for row in rows.iter().filter(|row| is_hostile(&row.name)) {
+            for (call, of) in CALLS {
+                let cost = |row: &Row| per_byte(of(&row.timed).ours, row.timed.bytes);
+                let found = cost(row) / cost(normal);
+                lines.push(vec![
+                    format!("{call}, {}: a byte to one of {NORMAL}", row.name),
+                    format!("at most {HOSTILE}"),
+                    rounded(found),
+                    verdict(found <= HOSTILE),
+                ]);
+            }
+        }
+    }
+    Table {
+        heads: vec!["bar", "wanted", "found", ""],
+        words: 2,
+        lines,
+    }
+}
+
+pub fn plain(rows: &[Row], rounds: usize) -> String {
+    format!(
+        "{}\n{rounds} rounds in turns; median (least to most)\n\n{}\n{}\n{}",
+        machine::line(),
+        times(rows).plain(),
+        memory(rows).plain(),
+        bar(rows).plain()
+    )
+}
+
+pub fn markdown(rows: &[Row], rounds: usize) -> String {
+    format!(
+        "{}; {rounds} rounds in turns.\n\n### Inputs\n\n{}\n### Times\n\n{}\n### Peak memory\n\n{}\n### The bar\n\n{}",
+        machine::line(),
+        inputs(rows).markdown(),
+        times(rows).markdown(),
+        memory(rows).markdown(),
+        bar(rows).markdown()
+    )
+}
+
+#[cfg(test)]
+mod tests {
+    use super::*;
+
+    fn flat(median: f64) -> Spread {
+        Spread {
+            median,
+            least: median,
+            most: median,
+        }
+    }
+
+    /// A million bytes; the Rust takes so many times as long.
+    fn row(name: &str, seconds: f64, ratio: f64) -> Row {
+        let compared = || Compared {
+            ours: flat(seconds),
+            rust: flat(seconds * ratio),
+            ratio: flat(ratio),
+        };
+        Row {
+            name: name.into(),
+            about: "made up".into(),
+            timed: Timed {
+                bytes: 1_000_000,
+                text_bytes: 2_000_000,
+                reading: compared(),
+                text: compared(),
+            },
+            ours_peak: 4_000_000,
+            rust_peak: 8_000_000,
+        }
+    }
+
+    #[test]
+    fn numbers() {
+        assert_eq!(grouped(0), "0");
+        assert_eq!(grouped(999), "999");
+        assert_eq!(grouped(1_000), "1,000");
+        assert_eq!(grouped(16_777_216), "16,777,216");
+        assert_eq!(rounded(1234.4), "1234");
+        assert_eq!(rounded(99.96), "100");
+        assert_eq!(rounded(12.345), "12.3");
+        assert_eq!(rounded(1.234), "1.23");
+        assert_eq!(spread(flat(2.0)), "2.00 (2.00 to 2.00)");
+    }
+
+    #[test]
+    fn the_bar_is_met_or_not() {
+        let verdicts = |rows: &[Row]| -> Vec<String> {
+            bar(rows).lines.iter().map(|line| line[3].clone()).collect()
+        };
+        assert_eq!(verdicts(&[row("save-7", 0.01, 2.0)]), ["met", "met"]);
+        assert_eq!(
+            verdicts(&[row("save-7", 0.01, 1.9)]),
+            ["not met", "not met"]
+        );
+        let slow = [row("save-7", 0.01, 2.0), row("names", 0.2, 1.0)];
+        assert_eq!(verdicts(&slow), ["met", "met", "not met", "not met"]);
+        let curved = [row("save-1", 0.01, 1.0), row("save-16", 0.02, 1.0)];
+        assert_eq!(verdicts(&curved), ["not met", "not met"]);
+        assert!(verdicts(&[row("names", 0.2, 1.0)]).is_empty());
+    }
+
+    #[test]
+    fn tables_have_a_cell_for_each_head() {
+        let rows = [row("save-7", 0.01, 2.0), row("names", 0.2, 1.0)];
+        for table in [times(&rows), memory(&rows), bar(&rows), inputs(&rows)] {
+            assert!(table
+                .lines
+                .iter()
+                .all(|line| line.len() == table.heads.len()));
+            let lines = table.markdown().lines().count();
+            assert_eq!(lines, 2 + table.lines.len());
+            assert_eq!(table.plain().lines().count(), 1 + table.lines.len());
+        }
+    }
+}

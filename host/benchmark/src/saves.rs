@@ -1,0 +1,388 @@
+//! Saves shaped like real ones: a few hundred prototypes, of which some sixteen make up most
+//! blocks, ids of words and nameless ones, and values of every listed type. All names and values
+//! are made up.
+
+use generate::bytes::{choice, definition, file, floats, named, nameless, prototype, string, word};
+use generate::Random;
+
+/// A megabyte has so many bytes here, so that 16 of them are within the length limit.
+pub const MEGABYTE: usize = 1_000_000;
+pub const LARGEST: usize = 16;
+
+const SEED: u64 = 20;
+/// Streams of random numbers: one for each prototype, and one for the blocks.
+const BLOCKS: u64 = 1 << 32;
+
+/// How many prototypes most blocks are of.
+const POPULAR: usize = 16;
+
+/// How many prototypes a save of so many megabytes has.
+pub fn prototypes(megabytes: usize) -> usize {
+    140 + 10 * megabytes
+}
+
+/// How many blocks a save of so many megabytes has: 40,000 in one of seven.
+pub fn blocks(megabytes: usize) -> usize {
+    40_000 * megabytes / 7
+}
+
+/// Types of fields with their weights. Every listed type is there.
+const TYPES: [(u32, usize); 32] = [
+    (0x27, 13),
+    (0x05, 12),
+    (0x25, 9),
+    (0x35, 9),
+    (0x03, 8),
+    (0x01, 7),
+    (0x39, 7),
+    (0x31, 5),
+    (0x3b, 4),
+    (0x37, 3),
+    (0x3a, 3),
+    (0x2b, 3),
+    (0x19, 2),
+    (0x28, 2),
+    (0x06, 2),
+    (0x33, 2),
+    (0x3d, 2),
+    (0x2f, 2),
+    (0x09, 2),
+    (0x04, 1),
+    (0x02, 1),
+    (0x07, 1),
+    (0x11, 1),
+    (0x12, 1),
+    (0x18, 1),
+    (0x1a, 1),
+    (0x26, 1),
+    (0x2c, 1),
+    (0x32, 1),
+    (0x34, 1),
+    (0x36, 1),
+    (0x3c, 1),
+];
+
+const WORDS: [&str; 48] = [
+    "cargo", "truck", "trailer", "driver", "garage", "company", "job", "offer", "time", "distance",
+    "damage", "wear", "fuel", "route", "city", "profit", "bank", "loan", "skill", "level", "count",
+    "state", "start", "target", "last", "next", "total", "current", "planned", "paint", "wheel",
+    "engine", "chassis", "cabin", "spoiler", "plate", "position", "node", "point", "order",
+    "delivery", "log", "entry", "bonus", "penalty", "talent", "record", "expiry",
+];
+
+const CITIES: [&str; 8] = [
+    "dresden", "gdansk", "lille", "brno", "odense", "trieste", "cork", "x_42",
+];
+
+/// A prototype and its fields' types.
+struct Kind {
+    id: u32,
+    record: Vec<u8>,
+    types: Vec<u32>,
+}
+
+/// The numbers and strings of every enum.
+const STATES: [(u32, &[u8]); 5] = [
+    (0, b"none"),
+    (1, b"in_progress"),
+    (2, b"on the way"),
+    (5, b"delivered"),
+    (9, b""),
+];
+
+fn words_joined(random: &mut Random, count: usize) -> String {
+    let words: Vec<&str> = (0..count).map(|_| random.pick(&WORDS)).collect();
+    words.join("_")
+}
+
+fn type_of_field(random: &mut Random) -> u32 {
+    let sum = TYPES.iter().map(|(_, weight)| weight).sum();
+    let mut drawn = random.below(sum);
+    for (type_id, weight) in TYPES {
+        if drawn < weight {
+            return type_id;
+        }
+        drawn -= weight;
+    }
+    TYPES[0].0
+}
+
+/// Prototype `number` is the same in saves of all sizes.
+fn kind(number: usize) -> Kind {
+    let mut random = Random::new(SEED, number as u64);
+    let mut fields = 3 + random.below(9);
+    if random.chance(25) {
+        fields += random.below(20);
+    }
+    let mut types: Vec<u32> = (0..fields).map(|_| type_of_field(&mut random)).collect();
+    // Each listed type has a field of its own, whatever was drawn.
+    types[0] = TYPES[number % TYPES.len()].0;
+    let id = 2 + 3 * number as u32;
+    let mut definitions = Vec::new();
+    for (field, type_id) in types.iter().enumerate() {
+        let count = 1 + random.below(3);
+        let name = format!("{}_{field}", words_joined(&mut random, count));
+        definitions.push(match type_id {
+            0x37 => choice(name.as_bytes(), &STATES),
+            _ => definition(*type_id, name.as_bytes()),
+        });
+    }
+    let name = format!("{}_{number}", words_joined(&mut random, 2));
+    Kind {
+        id,
+        record: prototype(id, name.as_bytes(), &definitions),
+        types,
+    }
+}
+
+fn some_word(random: &mut Random) -> u64 {
+    const CHARACTERS: &[u8] = b"0123456789abcdefghijklmnopqrstuvwxyz_";
+    if random.chance(30) {
+        return word(random.pick(&CITIES).as_bytes());
+    }
+    let len = 2 + random.below(11);
+    word(
+        &(0..len)
+            .map(|_| random.pick(CHARACTERS))
+            .collect::<Vec<u8>>(),
+    )
+}
+
+fn nameless_id(random: &mut Random) -> Vec<u8> {
+    // Addresses of a process: three groups of digits.
+    nameless(0x1a0_0000_0000 + (random.number() >> 30) * 16)
+}
+
+fn id(random: &mut Random) -> Vec<u8> {
+    match random.below(100) {
+        0..55 => nameless_id(random),
+        55..62 => named(&[]),
+        _ => {
+            let count = 1 + random.below(4);
+            named(&(0..count).map(|_| some_word(random)).collect::<Vec<_>>())
+        }
+    }
+}
+
+fn text(random: &mut Random) -> Vec<u8> {
+    let count = 1 + random.below(3);
+    let words = words_joined(random, count);
+    match random.below(100) {
+        0..15 => string(b""),
+        15..50 => string(words.as_bytes()),
+        50..90 => string(format!("/def/{words}/{}.sii", random.pick(&CITIES)).as_bytes()),
+        _ => string(format!("Köln, {words}, 東").as_bytes()),
+    }
+}
+
+/// Whole numbers, zero above all, and fractions.
+fn single(random: &mut Random) -> u32 {
+    let number = match random.below(10) {
+        0..3 => 0.0,
+        3..5 => random.below(1000) as f32,
+        _ => random.below(1 << 24) as f32 / 4096.0 - 1024.0,
+    };
+    number.to_bits()
+}
+
+fn singles(random: &mut Random, count: usize) -> Vec<u8> {
+    floats(&(0..count).map(|_| single(random)).collect::<Vec<_>>())
+}
+
+fn placement(random: &mut Random) -> Vec<u8> {
+    let sector = (2000 + random.below(96)) * 4096 + 2000 + random.below(96);
+    let mut bits: Vec<u32> = (0..3).map(|_| single(random)).collect();
+    bits.push((sector as f32).to_bits());
+    for _ in 0..4 {
+        bits.push((random.below(2001) as f32 / 1000.0 - 1.0).to_bits());
+    }
+    floats(&bits)
+}
+
+/// Small more often than large, and every tenth one `nil`.
+fn number(random: &mut Random) -> u64 {
+    match random.below(10) {
+        0 => u64::MAX,
+        1..6 => random.below(100) as u64,
+        _ => random.below(10_000_000) as u64,
+    }
+}
+
+fn elements(random: &mut Random, element: impl Fn(&mut Random) -> Vec<u8>) -> Vec<u8> {
+    let count = match random.below(1000) {
+        0..400 => 0,
+        400..800 => 1 + random.below(4),
+        800..997 => 5 + random.below(10),
+        _ => 50 + random.below(100),
+    };
+    let mut bytes = (count as u32).to_le_bytes().to_vec();
+    for _ in 0..count {
+        bytes.extend(element(random));
+    }
+    bytes
+}
+
+fn value(random: &mut Random, type_id: u32) -> Vec<u8> {
+    let cut =
+        |width: usize| move |random: &mut Random| number(random).to_le_bytes()[..width].to_vec();
+    let three = |random: &mut Random| [cut(4)(random), cut(4)(random), cut(4)(random)].concat();
+    let encoded = |random: &mut Random| match random.chance(5) {
+        true => vec![0; 8],
+        false => some_word(random).to_le_bytes().to_vec(),
+    };
+    let flag = |random: &mut Random| vec![random.below(2) as u8];
+    match type_id {
+        0x01 => text(random),
+        0x02 => elements(random, text),
+        0x03 => encoded(random),
+        0x04 => elements(random, encoded),
+        0x05 => singles(random, 1),
+        0x06 => elements(random, |random| singles(random, 1)),
+        0x07 => singles(random, 2),
+        0x09 => singles(random, 3),
+        0x11 => three(random),
+        0x12 => elements(random, three),
+        0x18 => elements(random, |random| singles(random, 4)),
+        0x19 => placement(random),
+        0x1a => elements(random, placement),
+        0x25 | 0x27 | 0x2f => cut(4)(random),
+        0x26 | 0x28 => elements(random, cut(4)),
+        0x2b => cut(2)(random),
+        0x2c => elements(random, cut(2)),
+        0x31 | 0x33 => cut(8)(random),
+        0x32 | 0x34 => elements(random, cut(8)),
+        0x35 => flag(random),
+        0x36 => elements(random, flag),
+        0x37 => random.pick(&STATES).0.to_le_bytes().to_vec(),
+        0x39 | 0x3b | 0x3d => id(random),
+        _ => elements(random, id),
+    }
+}
+
+fn block(random: &mut Random, kind: &Kind) -> Vec<u8> {
+    let mut bytes = kind.id.to_le_bytes().to_vec();
+    bytes.extend(match random.chance(60) {
+        true => nameless_id(random),
+        false => id(random),
+    });
+    for type_id in &kind.types {
+        bytes.extend(value(random, *type_id));
+    }
+    bytes
+}
+
+/// Which of the first `defined` prototypes the next block is of. The popular ones stand far apart
+/// in the part that saves of all sizes have.
+fn drawn(random: &mut Random, defined: usize) -> usize {
+    if random.chance(80) {
+        // The first of them are drawn more often than the others.
+        let rank = random.below(POPULAR).min(random.below(POPULAR));
+        return (rank * 59 + 7) % prototypes(1) % defined;
+    }
+    random.below(defined)
+}
+
+/// The save of so many megabytes, from 1 to 16.
+pub fn save(megabytes: usize) -> Vec<u8> {
+    let mut random = Random::new(SEED, BLOCKS);
+    let kinds: Vec<Kind> = (0..prototypes(megabytes)).map(kind).collect();
+    let blocks = blocks(megabytes);
+    // A prototype stands in front of its first block, and all do in the first quarter.
+    let apart = blocks / 4 / kinds.len();
+    let mut records = Vec::with_capacity(kinds.len() + blocks);
+    let mut len = 13;
+    let mut defined = 0;
+    for number in 0..blocks {
+        let made = if number % apart == 0 && defined < kinds.len() {
+            let kind = &kinds[defined];
+            len += kind.record.len();
+            records.push(kind.record.clone());
+            defined += 1;
+            block(&mut random, kind)
+        } else {
+            // Of two blocks the one that keeps the length on its way to the whole.
+            let mut pair = [(); 2].map(|()| {
+                let kind = drawn(&mut random, defined);
+                block(&mut random, &kinds[kind])
+            });
+            pair.sort_by_key(Vec::len);
+            let wanted = (megabytes * MEGABYTE) as u64 * number as u64 / blocks as u64;
+            let [short, long] = pair;
+            if len as u64 > wanted {
+                short
+            } else {
+                long
+            }
+        };
+        len += made.len();
+        records.push(made);
+    }
+    file(&records)
+}
+
+#[cfg(test)]
+mod tests {
+    use super::*;
+    use std::collections::HashSet;
+
+    fn check(megabytes: usize) {
+        let bytes = save(megabytes);
+        let wanted = megabytes * MEGABYTE;
+        assert!(
+            bytes.len().abs_diff(wanted) * 20 <= wanted,
+            "{}",
+            bytes.len()
+        );
+        assert!(bytes.len() <= sii_decode::LENGTH_LIMIT);
+        let parsed = oracle::parse(&bytes).expect("the Rust reads it");
+        assert_eq!(parsed.prototypes.len(), prototypes(megabytes));
+        assert_eq!(parsed.data_blocks.len(), blocks(megabytes));
+        let used: HashSet<u32> = parsed.data_blocks.iter().map(|b| b.prototype_id).collect();
+        assert_eq!(used.len(), prototypes(megabytes));
+        assert!(oracle::to_siin(&parsed).is_ok());
+    }
+
+    #[test]
+    fn of_one() {
+        check(1);
+    }
+
+    #[test]
+    fn of_seven() {
+        assert_eq!(blocks(7), 40_000);
+        check(7);
+    }
+
+    #[test]
+    fn of_the_largest() {
+        check(LARGEST);
+    }
+
+    #[test]
+    fn same_bytes_again() {
+        assert!(save(1) == save(1));
+    }
+
+    #[test]
+    fn counts_of_prototypes() {
+        assert_eq!((prototypes(1), prototypes(LARGEST)), (150, 300));
+    }
+
+    #[test]
+    fn every_listed_type() {
+        let types: HashSet<u32> = (0..prototypes(1)).flat_map(|n| kind(n).types).collect();
+        assert_eq!(types, HashSet::from(generate::LISTED));
+    }
+
+    #[test]
+    fn both_kinds_of_ids() {
+        let bytes = save(1);
+        let parsed = oracle::parse(&bytes).unwrap();
+        let nameless = |block: &&oracle::DataBlock<'_>| matches!(block.id, oracle::Id::Nameless(_));
+        let count = parsed.data_blocks.iter().filter(nameless).count();
+        assert!(
+            count > blocks(1) / 4 && count < blocks(1) * 9 / 10,
+            "{count}"
+        );
+    }
+}
