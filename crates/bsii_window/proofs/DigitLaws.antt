@@ -2,10 +2,12 @@
 use Prim.Native.Nat.{ℕ, zero, suc, _+_, _-_, _*_, _/_, _%_, _^_, _≤_, _<_}
 use mathlib.Core.Path.{_≡_, refl, sym, ap, _∙_}
 use mathlib.Core.Logic.{⊎-elim}
-use mathlib.Core.List.{List, [], _∷_, _++_}
+use mathlib.Core.Bool.{Bool, true, false}
+use mathlib.Core.List.{List, [], _∷_, _++_, append-assoc}
 use native.Mathlib.Nat.{le-trans, lt-of-lt-of-le}
 use native.Mathlib.Omega.{arith}
 use lib.Dec.{ltb}
+use lib.ListN.{length, length-append}
 use lib.Pow.{pow-add, pow-pos, pow-mono}
 use lib.Count.{leadingZeros, leading-top}
 use borrow.Author.Tests.{lt-ltb, le-ltb}
@@ -86,3 +88,74 @@ decimal-more = more 10 ten
 pub hex-zero : hexadecimal 0 ≡ 48 ∷ []
 unfolding digits digitsFrom digit
 hex-zero = refl
+
+-- ---- how many
+
+count-fuel : (fuel : ℕ) (small : Bool) (n : ℕ) → length (digitsFrom 10 fuel small n) ≤ fuel
+unfolding digitsFrom
+count-fuel zero small n = omega arith
+count-fuel (suc f) true n = omega arith
+count-fuel (suc f) false n =
+    let h = count-fuel f (ltb (n / 10) 10) (n / 10) in
+    rw (length-append (digitsFrom 10 f (ltb (n / 10) 10) (n / 10)) (digit (n % 10) ∷ [])) (omega (arith, h))
+
+count-all : (n : ℕ) → length (decimal n) ≤ suc n
+unfolding digits
+count-all n = count-fuel (suc n) (ltb n 10) n
+
+pub count-one : (n : ℕ) → n < 10 → length (decimal n) ≡ 1
+count-one n h = ap length (decimal-one n h)
+
+pub count-more : (n : ℕ) → 10 ≤ n → length (decimal n) ≡ suc (length (decimal (n / 10)))
+count-more n h = ap length (decimal-more n h) ∙ length-append (decimal (n / 10)) (digit (n % 10) ∷ []) ∙ omega arith
+
+-- fewer than a number of 64 bits can say
+pub count-most : (n : ℕ) → length (decimal n) ≤ 2 + n / 10
+count-most n =
+    ⊎-elim
+    (λ l. let e = count-one n l in omega (arith, e))
+    (λ l. let e = count-more n l in let h = count-all (n / 10) in omega (arith, e, h))
+    (lt-or-le n 10)
+
+pub count-four : (n : ℕ) → 10000 ≤ n → length (decimal n) ≡ 4 + length (decimal (n / 10000))
+count-four n h =
+    let z : n / 10 / 10 / 10 / 10 ≡ n / 10000 = omega arith in
+    let a = count-more n (omega arith) in
+    let b = count-more (n / 10) (omega arith) in
+    let c = count-more (n / 10 / 10) (omega arith) in
+    let d = count-more (n / 10 / 10 / 10) (omega arith) in
+    let e = ap (λ (m : ℕ). length (decimal m)) z in
+    omega (arith, a, b, c, d, e)
+
+-- two digits by one division
+pub decimal-two : (n : ℕ) → 100 ≤ n → decimal n ≡ decimal (n / 100) ++ (digit (n % 100 / 10) ∷ digit (n % 100 % 10) ∷ [])
+decimal-two n h =
+    let z : n / 10 / 10 ≡ n / 100 = omega arith in
+    let x : n / 10 % 10 ≡ n % 100 / 10 = omega arith in
+    let y : n % 10 ≡ n % 100 % 10 = omega arith in
+    decimal-more n (omega arith)
+    ∙ ap (λ (l : List ℕ). l ++ (digit (n % 10) ∷ [])) (decimal-more (n / 10) (omega arith) ∙ ap (λ (m : ℕ). decimal m ++ (digit (n / 10 % 10) ∷ [])) z)
+    ∙ append-assoc (decimal (n / 100)) (digit (n / 10 % 10) ∷ []) (digit (n % 10) ∷ [])
+    ∙ ap (λ (d : ℕ). decimal (n / 100) ++ (digit d ∷ digit (n % 10) ∷ [])) x
+    ∙ ap (λ (d : ℕ). decimal (n / 100) ++ (digit (n % 100 / 10) ∷ digit d ∷ [])) y
+
+pub decimal-pair : (n : ℕ) → 10 ≤ n → n < 100 → decimal n ≡ digit (n / 10) ∷ digit (n % 10) ∷ []
+decimal-pair n h l = decimal-more n h ∙ ap (λ (d : List ℕ). d ++ (digit (n % 10) ∷ [])) (decimal-one (n / 10) (omega arith))
+
+pub padded-length : (w n : ℕ) → length (hexPadded w n) ≡ w
+unfolding hexPadded
+padded-length zero n = refl
+padded-length (suc w) n =
+    length-append (hexPadded w (n / 16)) (digit (n % 16) ∷ []) ∙ let e = padded-length w (n / 16) in omega (arith, e)
+
+pub count-two : (n : ℕ) → 10 ≤ n → n < 100 → length (decimal n) ≡ 2
+count-two n h l = count-more n h ∙ ap suc (count-one (n / 10) (omega arith))
+
+pub count-three : (n : ℕ) → 100 ≤ n → n < 1000 → length (decimal n) ≡ 3
+count-three n h l = count-more n (omega arith) ∙ ap suc (count-two (n / 10) (omega arith) (omega arith))
+
+pub count-last : (n : ℕ) → 1000 ≤ n → n < 10000 → length (decimal n) ≡ 4
+count-last n h l = count-more n (omega arith) ∙ ap suc (count-three (n / 10) (omega arith) (omega arith))
+
+pub two-more : (n : ℕ) {i : ℕ} → 100 ≤ n → length (decimal n) ≤ i → 2 ≤ i
+two-more n h l = omega (arith, count-more n (omega arith), count-more (n / 10) (omega arith))

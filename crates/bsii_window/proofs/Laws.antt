@@ -1,6 +1,6 @@
 -- Writes one after the other.
 use Prim.Native.Nat.{ℕ, suc, _+_, _-_, _≤_, _<_, min}
-use mathlib.Core.Path.{_≡_, refl, sym, ap, _∙_}
+use mathlib.Core.Path.{_≡_, refl, sym, ap, _∙_, subst}
 use mathlib.Core.Logic.{_⊎_, inl, inr, ⊎-elim}
 use mathlib.Core.Bool.{Bool, true, false}
 use mathlib.Core.List.{List, [], _∷_, _++_}
@@ -11,6 +11,9 @@ use lib.ListN.{set, length, getD, take, drop, length-append, length-drop, take-a
 use lib.Seq.{sets, length-take-le, take-suc, take-all, set-out, length-sets, drop-append-le, drop-append-add, drop-nil}
 use borrow.Author.Tests.{le-leb, lt-leb, ltb-true, ltb-false}
 use Rattle.bsii_window.specs.Window.{capped, written, Wrote}
+use Rattle.bsii_window.specs.Places.{PlaceOf}
+use Rattle.bsii_window.specs.declared.window.Place.{Place}
+use Rattle.bsii_window.specs.declared.window.Place.the-variants as place
 
 bool-cases : (b : Bool) → (b ≡ true) ⊎ (b ≡ false)
 bool-cases true = inl refl
@@ -166,6 +169,24 @@ nothing {a} {at} e h = record { next = e; window = ap (sets a (at - 0x8000_0000_
 -- a position that was answered is at most the last one, so that nothing written there leaves it where it is
 pub stays : {a b : List ℕ} {at r : ℕ} {x : List ℕ} → Wrote a at x r b → capped r 0 ≡ r
 stays {a} {b} {at} {r} {x} f = rw (f .next) (capped-twice at (length x) 0 ∙ ap (capped at) (add-zero (length x)))
+
+-- a text past the window's end, of so many bytes
+pub past : {a : List ℕ} {at r n : ℕ} {x : List ℕ} {p : Place} → p ≡ place.Past → PlaceOf (length a) at n p → n ≡ length x → r ≡ capped at n
+    → length a < 0x8000_0000_0000_0000 → Wrote a at x r a
+past {a} {at} {r} {n} {x} q h k e l =
+    let g : length a + 0x8000_0000_0000_0000 ≤ at = subst (PlaceOf (length a) at n) q h in
+    record { next = e ∙ ap (capped at) k; window = sym (written-past a at x (omega arith) (omega arith)); room = l }
+
+-- where a text of so many bytes starts, if all of it lies in the window
+pub starts : {room at start : ℕ} (n : ℕ) {p : Place} → p ≡ place.Inside start → PlaceOf room at n p → (at ≡ start + 0x8000_0000_0000_0000) × (start + n ≤ room)
+starts {room} {at} n q h = subst (PlaceOf room at n) q h
+
+pub inside : {a b : List ℕ} {at r n start : ℕ} {x : List ℕ} {p : Place} → p ≡ place.Inside start → PlaceOf (length a) at n p → n ≡ length x → r ≡ capped at n
+    → b ≡ sets a start x → length a < 0x8000_0000_0000_0000 → Wrote a at x r b
+inside {a} {b} {at} {r} {n} {start} {x} q h k e w l =
+    let g = starts n q h in
+    let z : start ≡ at - 0x8000_0000_0000_0000 = omega (arith, g .0) in
+    record { next = e ∙ ap (capped at) k; window = w ∙ ap (λ (i : ℕ). sets a i x) z ∙ sym (written-in a at x (omega (arith, g .0))); room = l }
 
 -- ---- bytes that are stored one by one
 

@@ -1,3 +1,4 @@
 pub mod Laws
 pub mod DigitLaws
 pub mod Loops
+pub mod Fills

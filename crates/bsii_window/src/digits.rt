@@ -1,8 +1,13 @@
 // Decimal and hexadecimal digits.
+use crate::window::Place;
 use crate::window::further;
+use crate::window::place_of;
 use crate::window::put;
 ghost use mathlib.Core.Path.{_≡_};
-ghost use Prim.Native.Nat.{_≤_, _<_};
+ghost use Prim.Native.Nat.{_+_, _-_, _/_, _%_, _≤_, _<_};
+ghost use mathlib.Core.List.{[], _∷_};
+ghost use lib.ListN.{length};
+ghost use lib.Seq.{sets};
 ghost use Rattle.bsii_format.specs.Digits.{digit as digitOf, decimal, hexadecimal, hexPadded};
 ghost use Rattle.bsii_window.specs.Window.{Wrote};
 
@@ -15,14 +20,122 @@ fn digit(d: u64) -> u8
     DIGITS[d as usize]
 }
 
-pub fn write_decimal(out: &mut [u8], at: usize, n: u64) -> usize
+fn short_count(n: u64) -> usize
+    requires { ⌜ n < 10000 ⌝ }
+    ensures { λ r. ⌜ r ≡ length (decimal n) ⌝ }
+{
+    if n < 10 {
+        return 1;
+    }
+    if n < 100 {
+        return 2;
+    }
+    if n < 1000 {
+        return 3;
+    }
+    4
+}
+
+// How many digits there are: four for each division.
+fn decimal_count(n: u64) -> usize
+    ensures { λ r. ⌜ r ≡ length (decimal n) ⌝ }
+{
+    let mut rest = n;
+    let mut count: usize = 0;
+    while 9999 < rest {
+        rest = rest / 10000;
+        count += 4;
+    }
+    count + short_count(rest)
+}
+
+fn fill_pair(out: &mut [u8], at: usize, n: u64)
+    requires { ⌜ (n < 100) × (at + 2 ≤ length (now out)) ⌝ }
+    ensures { λ _. ⌜ now (out .exit) ≡ sets (now (out .entry)) at (digitOf (n / 10) ∷ digitOf (n % 10) ∷ []) ⌝ }
+{
+    out[at] = digit(n / 10);
+    out[at + 1] = digit(n % 10);
+}
+
+// The digits of a number below 100, up to an index.
+fn fill_first(out: &mut [u8], end: usize, n: u64)
+    requires { ⌜ (n < 100) × (length (decimal n) ≤ end) × (end ≤ length (now out)) ⌝ }
+    ensures { λ _. ⌜ now (out .exit) ≡ sets (now (out .entry)) (end - length (decimal n)) (decimal n) ⌝ }
+{
+    if n < 10 {
+        out[end - 1] = digit(n);
+        return;
+    }
+    fill_pair(out, end - 2, n);
+}
+
+// The digits up to an index, from the last ones on: two for each division.
+fn fill_decimal(out: &mut [u8], end: usize, n: u64)
+    requires { ⌜ (length (decimal n) ≤ end) × (end ≤ length (now out)) ⌝ }
+    ensures { λ _. ⌜ now (out .exit) ≡ sets (now (out .entry)) (end - length (decimal n)) (decimal n) ⌝ }
+{
+    let mut i = end;
+    let mut rest = n;
+    while 99 < rest {
+        i -= 2;
+        fill_pair(out, i, rest % 100);
+        rest = rest / 100;
+    }
+    fill_first(out, i, rest);
+}
+
+// One digit after the other, for a text across an edge of the window.
+fn put_decimal(out: &mut [u8], at: usize, n: u64) -> usize
     ensures { λ r. ⌜ Wrote (now (out .entry)) at (decimal n) r (now (out .exit)) ⌝ }
 {
     if n < 10 {
         return put(out, at, digit(n));
     }
-    let next = write_decimal(out, at, n / 10);
+    let next = put_decimal(out, at, n / 10);
     put(out, next, digit(n % 10))
+}
+
+pub fn write_decimal(out: &mut [u8], at: usize, n: u64) -> usize
+    ensures { λ r. ⌜ Wrote (now (out .entry)) at (decimal n) r (now (out .exit)) ⌝ }
+{
+    let count = decimal_count(n);
+    let place = place_of(out.len(), at, count);
+    match place {
+        Place::Past => return further(at, count),
+        Place::Across => return put_decimal(out, at, n),
+        Place::Inside(start) => {
+            fill_decimal(out, start + count, n);
+            return further(at, count);
+        }
+    }
+}
+
+// The last so many digits up to an index, from the last one on.
+fn fill_hex(out: &mut [u8], end: usize, n: u64, count: u32)
+    requires { ⌜ (count ≤ end) × (end ≤ length (now out)) ⌝ }
+    ensures { λ _. ⌜ now (out .exit) ≡ sets (now (out .entry)) (end - count) (hexPadded count n) ⌝ }
+{
+    let mut i = end;
+    let mut rest = n;
+    let mut left = count;
+    while 0 < left {
+        i -= 1;
+        out[i] = digit(rest % 16);
+        rest = rest / 16;
+        left -= 1;
+    }
+}
+
+// The last so many digits, one after the other, for a text across an edge of the window.
+fn put_hex(out: &mut [u8], at: usize, n: u64, count: u32) -> usize
+    requires { ⌜ count ≤ 16 ⌝ }
+    ensures { λ r. ⌜ Wrote (now (out .entry)) at (hexPadded count n) r (now (out .exit)) ⌝ }
+{
+    if count == 0 {
+        return further(at, 0);
+    }
+    let next = put_hex(out, at, n / 16, count - 1);
+    put(out, next, digit(n % 16))
 }
 
 // The last so many digits.
@@ -30,11 +143,16 @@ pub fn write_hex_padded(out: &mut [u8], at: usize, n: u64, count: u32) -> usize
     requires { ⌜ count ≤ 16 ⌝ }
     ensures { λ r. ⌜ Wrote (now (out .entry)) at (hexPadded count n) r (now (out .exit)) ⌝ }
 {
-    if count == 0 {
-        return further(at, 0);
+    let width = count as usize;
+    let place = place_of(out.len(), at, width);
+    match place {
+        Place::Past => return further(at, width),
+        Place::Across => return put_hex(out, at, n, count),
+        Place::Inside(start) => {
+            fill_hex(out, start + width, n, count);
+            return further(at, width);
+        }
     }
-    let next = write_hex_padded(out, at, n / 16, count - 1);
-    put(out, next, digit(n % 16))
 }
 
 // Without leading zeros: the bits that are none give the number of digits.

@@ -5,6 +5,31 @@ ghost use Prim.Native.Nat.{_≤_, min};
 ghost use lib.ListN.{length};
 ghost use lib.Seq.{sets};
 ghost use Rattle.bsii_window.specs.Window.{capped, Wrote};
+ghost use Rattle.bsii_window.specs.Places.{PlaceOf};
+
+// Where a text lies: all of it in the window, from an index on; past the window's end; or, for all that is known, across an edge.
+pub enum Place {
+    Inside(usize),
+    Past,
+    Across,
+}
+
+// The place of a text of so many bytes, for a window of so many.
+pub fn place_of(room: usize, at: usize, count: usize) -> Place
+    ensures { λ r. ⌜ PlaceOf room at count r ⌝ }
+{
+    if at < 0x8000_0000_0000_0000 {
+        return Place::Across;
+    }
+    let start = at - 0x8000_0000_0000_0000;
+    if room <= start {
+        return Place::Past;
+    }
+    if room - start < count {
+        return Place::Across;
+    }
+    Place::Inside(start)
+}
 
 pub fn further(at: usize, count: usize) -> usize
     ensures { λ r. ⌜ r ≡ capped at count ⌝ }

@@ -1,0 +1,84 @@
+use Prim.Native.Nat.{ℕ, _+_, _-_}
+use mathlib.Core.Path.{_≡_, sym, ap, _∙_}
+use native.Mathlib.Omega.{arith}
+use denote.Ref.{now}
+use lib.Seq.{sets}
+use Rattle.bsii_format.specs.Digits.{hexPadded}
+use Rattle.bsii_window.proofs.Laws.{past, starts, inside}
+use Rattle.bsii_window.proofs.DigitLaws.{padded-length}
+use borrow.Author.Needs.{needs}
+use Rattle.bsii_window.proofs.digits.write_hex_padded.Statement.{statement}
+use Rattle.bsii_window.proofs.digits.write_hex_padded.Tie as tie
+use Rattle.bsii_window.proofs.digits.write_hex_padded.Reads as reads
+use Rattle.bsii_window.proofs.digits.write_hex_padded.Lts as lts
+use Rattle.bsii_window.proofs.digits.fill_hex.Reads as fill-hex-reads
+use Rattle.bsii_window.proofs.digits.put_hex.Reads as put-hex-reads
+use Rattle.bsii_window.proofs.window.further.Reads as further-reads
+use Rattle.bsii_window.proofs.window.place_of.Reads as place-of-reads
+
+place-of-requires : tie.Need-place-of-requires
+place-of-requires c κs = search needs
+
+enum-told : tie.Need-enum-told
+enum-told c = search needs
+
+further-requires : tie.Need-further-requires
+further-requires c κs = search needs
+
+returns : tie.Need-returns
+returns c =
+    let a = c .before .before .before .before .before .args in
+    past (c .before .enum-told .given .1) (c .before .before .before .place-of .ensures) (sym (padded-length (a .count) (a .n))) (c .further .ensures) (omega arith)
+
+enum-told-2 : tie.Need-enum-told-2
+enum-told-2 c = search needs
+
+put-hex-requires : tie.Need-put-hex-requires
+put-hex-requires c κs = search needs
+
+same-length : tie.Need-same-length
+same-length c = search needs
+
+returns-2 : tie.Need-returns-2
+returns-2 c = search needs
+
+enum-known-place : tie.Need-enum-known-place
+enum-known-place c = search needs
+
+add-fill-hex : tie.Need-add-fill-hex
+add-fill-hex c = omega (arith, starts (c .before .before .before .before .before .before .args .count) (c .before .before .place .given .1) (c .before .before .before .before .place-of .ensures))
+
+fill-hex-requires : tie.Need-fill-hex-requires
+fill-hex-requires c κs = (omega arith, starts (c .before .before .before .before .before .before .args .count) (c .before .before .place .given .1) (c .before .before .before .before .place-of .ensures) .1)
+
+further-requires-2 : tie.Need-further-requires-2
+further-requires-2 c κs = search needs
+
+same-length-2 : tie.Need-same-length-2
+same-length-2 c = search needs
+
+returns-3 : tie.Need-returns-3
+returns-3 c =
+    let a = c .before .before .before .before .before .before .before .before .before .before .args in
+    let z : c .before .before .before .before .before .before .place .given .0 .0 + a .count - a .count ≡ c .before .before .before .before .before .before .place .given .0 .0 = omega arith in
+    inside (c .before .before .before .before .before .before .place .given .1) (c .before .before .before .before .before .before .before .before .place-of .ensures) (sym (padded-length (a .count) (a .n))) (c .further2 .ensures)
+    (c .before .before .before .fill-hex .ensures ∙ ap (λ (k : ℕ). sets (now (a .out)) k (hexPadded (a .count) (a .n))) z) (omega arith)
+
+pub write-hex-padded-spec : {M : Type 1} → statement M
+write-hex-padded-spec =
+    tie.close
+    (tie.spec
+    place-of-requires
+    enum-told
+    further-requires
+    returns
+    enum-told-2
+    put-hex-requires
+    same-length
+    returns-2
+    enum-known-place
+    add-fill-hex
+    fill-hex-requires
+    further-requires-2
+    same-length-2
+    returns-3)
