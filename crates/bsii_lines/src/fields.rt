@@ -1,6 +1,8 @@
 // Fields.
 use crate::elements::Scalar;
 use crate::elements::write_scalar_data_value;
+use crate::openings::put_index;
+use crate::openings::put_opening;
 use bsii_definition::pairs::Definition;
 use bsii_past::element_past;
 use bsii_value::answers::Num;
@@ -11,7 +13,6 @@ use bsii_value::types::Shape;
 use bsii_value::types::shape_of;
 use bsii_window::digits::write_decimal;
 use bsii_window::window::put;
-use bsii_window::window::put_all;
 ghost use mathlib.Core.List.{_++_};
 ghost use Prim.Native.Nat.{_-_};
 ghost use Rattle.bsii_format.specs.Ascii.{ascii};
@@ -26,24 +27,14 @@ pub enum Lines {
     NotInList,
 }
 
-// `  NAME`
-fn write_name(out: &mut [u8], to: usize, s: &[u8], d: Definition) -> usize
-    requires { ⌜ InFile (now s) d ⌝ }
-    ensures { λ r. ⌜ Wrote (now (out .entry)) to (ascii "  " ++ nameOf (now (s .entry)) d) r (now (out .exit)) ⌝ }
-{
-    let next = put_all(out, to, b"  ");
-    let name = d.name;
-    let name_end = d.name_end;
-    put_all(out, next, &s[name..name_end])
-}
-
 // `  NAME: `
 fn write_opening(out: &mut [u8], to: usize, s: &[u8], d: Definition) -> usize
     requires { ⌜ InFile (now s) d ⌝ }
     ensures { λ r. ⌜ Wrote (now (out .entry)) to (ascii "  " ++ nameOf (now (s .entry)) d ++ ascii ": ") r (now (out .exit)) ⌝ }
 {
-    let next = write_name(out, to, s, d);
-    put_all(out, next, b": ")
+    let name = d.name;
+    let name_end = d.name_end;
+    put_opening(out, to, &s[name..name_end])
 }
 
 // `  NAME[i]: `
@@ -51,10 +42,9 @@ fn write_index(out: &mut [u8], to: usize, s: &[u8], d: Definition, i: u32) -> us
     requires { ⌜ InFile (now s) d ⌝ }
     ensures { λ r. ⌜ Wrote (now (out .entry)) to (ascii "  " ++ indexed (nameOf (now (s .entry)) d) i ++ ascii ": ") r (now (out .exit)) ⌝ }
 {
-    let next = write_name(out, to, s, d);
-    let open = put(out, next, b'[');
-    let close = write_decimal(out, open, i as u64);
-    put_all(out, close, b"]: ")
+    let name = d.name;
+    let name_end = d.name_end;
+    put_index(out, to, &s[name..name_end], i)
 }
 
 // The element at an offset, and the end of its line.

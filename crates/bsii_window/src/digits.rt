@@ -37,7 +37,7 @@ fn short_count(n: u64) -> usize
 }
 
 // How many digits there are: four for each division.
-fn decimal_count(n: u64) -> usize
+pub fn decimal_count(n: u64) -> usize
     ensures { λ r. ⌜ r ≡ length (decimal n) ⌝ }
 {
     let mut rest = n;
@@ -70,7 +70,7 @@ fn fill_first(out: &mut [u8], end: usize, n: u64)
 }
 
 // The digits up to an index, from the last ones on: two for each division.
-fn fill_decimal(out: &mut [u8], end: usize, n: u64)
+pub fn fill_decimal(out: &mut [u8], end: usize, n: u64)
     requires { ⌜ (length (decimal n) ≤ end) × (end ≤ length (now out)) ⌝ }
     ensures { λ _. ⌜ now (out .exit) ≡ sets (now (out .entry)) (end - length (decimal n)) (decimal n) ⌝ }
 {

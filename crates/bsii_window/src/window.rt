@@ -61,7 +61,7 @@ fn least(a: usize, b: usize) -> usize
 }
 
 // As much of the text as there is room for, from an index on.
-fn store(out: &mut [u8], start: usize, text: &[u8])
+pub fn store(out: &mut [u8], start: usize, text: &[u8])
     requires { ⌜ start ≤ length (now out) ⌝ }
     ensures { λ r. ⌜ now (out .exit) ≡ sets (now (out .entry)) start (now (text .entry)) ⌝ }
 {
