@@ -2,8 +2,8 @@
 // definition). It may come in with anything in it. A zero id is a valid id, so the number of rows is carried beside the table.
 // The reading walk defines ids; a second walk over an accepted file enters each definition again as it meets it.
 //
-// The rows stand in the order of their ids, so that a look-up halves the rows that are left with each word it reads, where a new id moves
-// the rows of the greater ids up.
+// The rows stand in the order of their ids: a look-up halves the rows that are left with each id it reads, and the row of a new id moves
+// those of the greater ids up.
 //
 // `find`, `define` and `enter` require `Rows`, that the rows are in the table and in that order: callers have it from the relation to the
 // definitions so far that they carry anyway.
@@ -89,15 +89,15 @@ pub fn define(table: &mut [u32], rows: usize, id: u32, offset: u32) -> Defined
             table[row + 2] = offset;
             return Defined::Rows(rows);
         }
-        Slot::Free(at) => {
+        Slot::Free(free) => {
             let end = 3 * rows;
             if table.len() - end < 3 {
                 return Defined::Full;
             }
-            open_row(table, at, end);
-            table[at] = id;
-            table[at + 1] = offset;
-            table[at + 2] = offset;
+            open_row(table, free, end);
+            table[free] = id;
+            table[free + 1] = offset;
+            table[free + 2] = offset;
             return Defined::Rows(rows + 1);
         }
     }

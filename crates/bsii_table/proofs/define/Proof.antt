@@ -23,11 +23,11 @@ ends c =
 
 -- so is the room that was made
 opens : (c : lts.After-slice-known2 (locate-reads.Asked, locate-reads.Learnt, open-row-reads.Asked, open-row-reads.Learnt) reads.Pre reads.Post)
-    → c .before .before .before .before .before .before .at .given .0 .0 + 3 ≤ length (c .before .before .open-row .last .0)
+    → c .before .before .before .before .before .before .free .given .0 .0 + 3 ≤ length (c .before .before .open-row .last .0)
 opens c =
     let p = c .before .before .before .before .before .before in
     let a = p .before .before .before .before .before in
-    omega (arith, free-below (a .pre) (a .args .id) (p .at .given .1) (p .before .before .locate .ensures), c .before .before .open-row .ensures .size)
+    omega (arith, free-below (a .pre) (a .args .id) (p .free .given .1) (p .before .before .locate .ensures), c .before .before .open-row .ensures .size)
 
 locate-requires : tie.Need-locate-requires
 locate-requires c κs = search needs
@@ -61,8 +61,8 @@ returns c =
     let a = c .before .before .before .before .before .before in
     put (row-redefined (a .pre) (a .args .id) (c .before .row .given .1) (c .before .before .before .locate .ensures) (a .args .offset))
 
-enum-known-at : tie.Need-enum-known-at
-enum-known-at c = search needs
+enum-known-free : tie.Need-enum-known-free
+enum-known-free c = search needs
 
 mul-end : tie.Need-mul-end
 mul-end c = search needs
@@ -77,13 +77,13 @@ returns-2 : tie.Need-returns-2
 returns-2 c =
     let p = c .before .before in
     let a = p .before .before .before .before .before in
-    full (record { new = free-misses (a .pre) (a .args .id) (p .at .given .1) (p .before .before .locate .ensures); short = omega arith; same = refl })
+    full (record { new = free-misses (a .pre) (a .args .id) (p .free .given .1) (p .before .before .locate .ensures); short = omega arith; same = refl })
 
 open-row-requires : tie.Need-open-row-requires
 open-row-requires c κs =
     let p = c .before .before .before in
     let a = p .before .before .before .before .before in
-    (free-below (a .pre) (a .args .id) (p .at .given .1) (p .before .before .locate .ensures), omega arith)
+    (free-below (a .pre) (a .args .id) (p .free .given .1) (p .before .before .locate .ensures), omega arith)
 
 mul-table-3 : tie.Need-mul-table-3
 mul-table-3 c = omega (arith, opens c)
@@ -120,7 +120,7 @@ returns-3 c =
     let p = c .before .before .before .before .before .before in
     let a = p .before .before .before .before .before in
     put
-    (free-defined (a .pre) (a .args .id) (p .at .given .1) (p .before .before .locate .ensures) (a .args .offset) (omega arith)
+    (free-defined (a .pre) (a .args .id) (p .free .given .1) (p .before .before .locate .ensures) (a .args .offset) (omega arith)
     (c .before .before .open-row .ensures))
 
 pub define-spec : {M : Type 1} → statement M
@@ -137,7 +137,7 @@ define-spec =
     slice-write-table-2
     same-length
     returns
-    enum-known-at
+    enum-known-free
     mul-end
     sub-if1
     same-length-2
