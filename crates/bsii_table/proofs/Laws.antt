@@ -1,4 +1,4 @@
--- The laws of look-ups in the table: what a look-up finds, and what stays of it when a row is changed or added.
+-- The laws of the table: rows in order and the search among them, what a look-up finds, and what stays of it when a row is changed or added.
 use Prim.Native.Nat.{ℕ, zero, suc, _+_, _*_, _≤_, _<_}
 use native.Mathlib.Nat.{eq-or-lt-of-le}
 use native.Mathlib.Decide.{ℕ-discrete}
@@ -176,15 +176,11 @@ inserts {t} t′ {rows} {id} {i} h b room size new kept moved =
     kept-id : (j : ℕ) → j < i → idAt t′ j ≡ idAt t j
     kept-id j l = kept (3 * j) (omega arith)
 
-    up : (j w : ℕ) → i ≤ j → j < rows → w < 3 → getD t′ (3 * suc j + w) 0 ≡ getD t (3 * j + w) 0
-    up j w l m k =
-        let z : 3 * suc j + w ≡ 3 * j + w + 3 = omega arith in
-        ap (λ (n : ℕ). getD t′ n 0) z ∙ moved (3 * j + w) (omega arith) (omega arith)
+    up : (k n : ℕ) → n ≡ k + 3 → 3 * i ≤ k → k < 3 * rows → getD t′ n 0 ≡ getD t k 0
+    up k n e l m = ap (λ (n : ℕ). getD t′ n 0) e ∙ moved k l m
 
     moved-id : (j : ℕ) → i ≤ j → j < rows → idAt t′ (suc j) ≡ idAt t j
-    moved-id j l m =
-        let z : 3 * suc j ≡ 3 * j + 3 = omega arith in
-        ap (λ (n : ℕ). getD t′ n 0) z ∙ moved (3 * j) (omega arith) (omega arith)
+    moved-id j l m = up (3 * j) (3 * suc j) (omega arith) (omega arith) (omega arith)
 
     sorted : {j k : ℕ} → Place i j → Place i k → j < k → k < suc rows → idAt t′ j < idAt t′ k
     sorted {j} {k} (front p) (front q) l m = omega (arith, kept-id j p, kept-id k q, h .sorted j k l (omega (arith, b .within)))
@@ -206,13 +202,17 @@ inserts {t} t′ {rows} {id} {i} h b room size new kept moved =
     valid : Rows t′ (suc rows)
     valid = record { room = omega arith; sorted = λ j k. sorted (place i j) (place i k) }
 
-    Now : ℕ → ℕ → Type 0
-    Now x j = (k : ℕ) × (k < suc rows) × (idAt t′ k ≡ x) × (rowAt t′ k ≡ rowAt t j)
+    -- the new table has x with the offsets of the old row j
+    Has : ℕ → ℕ → Type 0
+    Has x j = (k : ℕ) × (k < suc rows) × (idAt t′ k ≡ x) × (rowAt t′ k ≡ rowAt t j)
 
-    to-moved : (x j : ℕ) → i ≤ j → j < rows → idAt t j ≡ x → Now x j
-    to-moved x j l m q = (suc j, omega arith, moved-id j l m ∙ q, ap₂ offsets (up j 1 l m (omega arith)) (up j 2 l m (omega arith)))
+    to-moved : (x j : ℕ) → i ≤ j → j < rows → idAt t j ≡ x → Has x j
+    to-moved x j l m q =
+        let one = up (3 * j + 1) (3 * suc j + 1) (omega arith) (omega arith) (omega arith) in
+        let two = up (3 * j + 2) (3 * suc j + 2) (omega arith) (omega arith) (omega arith) in
+        (suc j, omega arith, moved-id j l m ∙ q, ap₂ offsets one two)
 
-    to : (x : ℕ) {j : ℕ} → Place i j → j < rows → idAt t j ≡ x → Now x j
+    to : (x : ℕ) {j : ℕ} → Place i j → j < rows → idAt t j ≡ x → Has x j
     to x {j} (front l) m q =
         (j, omega arith, kept-id j l ∙ q, ap₂ offsets (kept (3 * j + 1) (omega arith)) (kept (3 * j + 2) (omega arith)))
     to x here m q = to-moved x i (omega arith) m q
@@ -385,14 +385,19 @@ opened-none t end = record { size = refl; kept = λ k l. refl; moved = λ k l m.
 pub opened-more : {t u : List ℕ} {j end : ℕ} → Opened t j end u → (i : ℕ) → i + 1 ≡ j → i + 3 < length t → Opened t i end (set u (i + 3) (getD u i 0))
 opened-more {t} {u} {j} {end} w i z room = record {
   size = simp length-set (w .size);
-  kept = λ k l. getD-set-other u (i + 3) k (getD u i 0) 0 (omega arith) ∙ w .kept k (omega arith);
+  kept = λ k l. other k (omega arith) ∙ w .kept k (omega arith);
   moved = λ k l m.
       ⊎-elim
-      (λ e.
-      ap (λ (n : ℕ). getD (set u (i + 3) (getD u i 0)) (n + 3) 0) (sym e)
-      ∙ getD-set-same u (i + 3) (getD u i 0) 0 (omega (arith, w .size))
-      ∙ w .kept i (omega arith)
-      ∙ ap (λ (n : ℕ). getD t n 0) e)
-      (λ q. getD-set-other u (i + 3) (k + 3) (getD u i 0) 0 (omega arith) ∙ w .moved k (omega arith) m)
+      (λ e. subst (λ (n : ℕ). getD t′ (n + 3) 0 ≡ getD t n 0) e first)
+      (λ q. other (k + 3) (omega arith) ∙ w .moved k (omega arith) m)
       (eq-or-lt-of-le l);
 }
+  where
+    t′ : List ℕ
+    t′ = set u (i + 3) (getD u i 0)
+
+    other : (k : ℕ) → (k ≡ i + 3 → ⊥) → getD t′ k 0 ≡ getD u k 0
+    other k n = getD-set-other u (i + 3) k (getD u i 0) 0 n
+
+    first : getD t′ (i + 3) 0 ≡ getD t i 0
+    first = getD-set-same u (i + 3) (getD u i 0) 0 (omega (arith, w .size)) ∙ w .kept i (omega arith)
