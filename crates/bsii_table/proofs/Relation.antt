@@ -40,7 +40,7 @@ module _ (At : ℕ → Prototype → Type 0) where
   pub holds-none : (t : List ℕ) → Holds At t 0 []
   unfolding findBy lookupFrom distinctIds
   holds-none t = record {
-    valid = record { room = omega arith; once = λ i j l. absurd (omega arith) };
+    valid = record { room = omega arith; sorted = λ i j l m. absurd (omega arith) };
     count = refl;
     each = λ id. tt;
   }

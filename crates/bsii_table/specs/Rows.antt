@@ -31,8 +31,8 @@ lookupFrom t i (suc left) id = cond (eqb id (idAt t i)) (some (rowAt t i)) (look
 abbrev pub lookup : List ℕ → ℕ → ℕ → Option Row
 lookup t rows id = lookupFrom t 0 rows id
 
--- What a number of rows means: the words are there, and no id has two rows. Callers carry it and never look into it: rows that are kept
--- sorted add a field here.
+-- What a number of rows means: the words are there, and the ids rise from row to row, so no id has two rows. Callers carry it and never
+-- look into it.
 pub record Rows (t : List ℕ) (rows : ℕ) : Type 0 where
   pub room : 3 * rows ≤ length t
-  pub once : (i j : ℕ) → i < rows → j < rows → idAt t i ≡ idAt t j → i ≡ j
+  pub sorted : (i j : ℕ) → i < j → j < rows → idAt t i < idAt t j

@@ -1,10 +1,10 @@
 -- What each function of the table answers and does, in terms of `lookup`: no contract that callers see says where a row stands.
-use Prim.Native.Nat.{ℕ, suc, _+_, _*_, _<_}
+use Prim.Native.Nat.{ℕ, suc, _+_, _*_, _≤_, _<_}
 use mathlib.Core.Path.{_≡_}
 use mathlib.Core.Bool.{cond}
 use mathlib.Core.Option.{Option, none, some, Option·map}
 use mathlib.Core.List.{List}
-use lib.ListN.{length}
+use lib.ListN.{length, getD}
 use lib.Dec.{eqb}
 use Rattle.bsii_table.specs.Rows.{Row, offsets, idAt, lookup, Rows}
 use Rattle.bsii_table.specs.declared.Found.{Found}
@@ -19,10 +19,17 @@ abbrev pub foundRow : Found → Option Row
 foundRow (found.At a b) = some (offsets a b)
 foundRow found.Nothing = none
 
--- inside this crate only: where an id's row starts, or where the next row would
+-- inside this crate only: where an id's row starts, or where its row would, behind the lesser ids and in front of the greater ones
 abbrev pub Locate : List ℕ → ℕ → ℕ → Slot → Type 0
 Locate t rows id (slot.Row at) = (i : ℕ) × (i < rows) × (at ≡ 3 * i) × (idAt t i ≡ id)
-Locate t rows id (slot.Free at) = (at ≡ 3 * rows) × ((i : ℕ) → i < rows → idAt t i ≡ id → ⊥)
+Locate t rows id (slot.Free at) =
+    (i : ℕ) × (i ≤ rows) × (at ≡ 3 * i) × ((j : ℕ) → j < i → idAt t j < id) × ((j : ℕ) → i ≤ j → j < rows → id < idAt t j)
+
+-- inside this crate only: the words from `at` up to `end` are now three further up, and those in front of these as they were
+pub record Opened (t : List ℕ) (at : ℕ) (end : ℕ) (t′ : List ℕ) : Type 0 where
+  pub size : length t′ ≡ length t
+  pub kept : (k : ℕ) → k < at + 3 → getD t′ k 0 ≡ getD t k 0
+  pub moved : (k : ℕ) → at ≤ k → k < end → getD t′ (k + 3) 0 ≡ getD t k 0
 
 -- the table t′ has the row r (or none) for the id, and for every other id what t has
 pub record Puts (t : List ℕ) (rows : ℕ) (id : ℕ) (r : Option Row) (t′ : List ℕ) (rows′ : ℕ) : Type 0 where

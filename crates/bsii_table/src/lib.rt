@@ -2,12 +2,16 @@
 // definition). It may come in with anything in it. A zero id is a valid id, so the number of rows is carried beside the table.
 // The reading walk defines ids; a second walk over an accepted file enters each definition again as it meets it.
 //
-// `find`, `define` and `enter` require `Rows`, that the rows are in the table and no id has two: callers have it from the relation to the
-// definitions so far that they carry anyway, and it is where sorted rows would say that they are sorted.
+// The rows stand in the order of their ids: a look-up halves the rows that are left with each id it reads, and the row of a new id moves
+// those of the greater ids up.
+//
+// `find`, `define` and `enter` require `Rows`, that the rows are in the table and in that order: callers have it from the relation to the
+// definitions so far that they carry anyway.
+ghost use Prim.Native.Nat.{_+_, _≤_};
 ghost use mathlib.Core.Path.{_≡_};
 ghost use lib.ListN.{length, replicate};
 ghost use Rattle.bsii_table.specs.Rows.{Rows, lookup};
-ghost use Rattle.bsii_table.specs.Table.{foundRow, Locate, Defines, Enters};
+ghost use Rattle.bsii_table.specs.Table.{foundRow, Locate, Opened, Defines, Enters};
 
 pub enum Found {
     At { in_force: u32, last: u32 },
@@ -21,7 +25,7 @@ pub enum Defined {
     Full,
 }
 
-// Where the row of an id starts, or where the next new row would.
+// Where the row of an id starts, or where its row would.
 enum Slot {
     Row(usize),
     Free(usize),
@@ -31,16 +35,33 @@ fn locate(table: &[u32], rows: usize, id: u32) -> Slot
     requires { ⌜ Rows (now table) rows ⌝ }
     ensures { λ r. ⌜ Locate (now (table .entry)) rows id r ⌝ }
 {
-    let mut at = 0;
-    let mut left = rows;
-    while 0 < left {
-        if table[at] == id {
-            return Slot::Row(at);
+    let mut low = 0;
+    let mut high = rows;
+    while low < high {
+        let middle = low + (high - low) / 2;
+        let held = table[3 * middle];
+        if held == id {
+            return Slot::Row(3 * middle);
         }
-        at += 3;
-        left -= 1;
+        if held < id {
+            low = middle + 1;
+        } else {
+            high = middle;
+        }
     }
-    Slot::Free(at)
+    Slot::Free(3 * low)
+}
+
+// Room for a row at an index: the words from `at` up to `end` move up by one row, the last one first.
+fn open_row(table: &mut [u32], at: usize, end: usize)
+    requires { ⌜ (at ≤ end) × (end + 3 ≤ length (now table)) ⌝ }
+    ensures { λ _. ⌜ Opened (now (table .entry)) at end (now (table .exit)) ⌝ }
+{
+    let mut i = end;
+    while at < i {
+        i -= 1;
+        table[i + 3] = table[i];
+    }
 }
 
 // The offsets of an id.
@@ -68,13 +89,15 @@ pub fn define(table: &mut [u32], rows: usize, id: u32, offset: u32) -> Defined
             table[row + 2] = offset;
             return Defined::Rows(rows);
         }
-        Slot::Free(end) => {
+        Slot::Free(free) => {
+            let end = 3 * rows;
             if table.len() - end < 3 {
                 return Defined::Full;
             }
-            table[end] = id;
-            table[end + 1] = offset;
-            table[end + 2] = offset;
+            open_row(table, free, end);
+            table[free] = id;
+            table[free + 1] = offset;
+            table[free + 2] = offset;
             return Defined::Rows(rows + 1);
         }
     }

@@ -1,53 +1,68 @@
--- `locate` meets its contract. The loop's invariant: `at` is where the row i starts, and no row in front of it has the id.
-use Prim.Native.Nat.{ℕ, _+_, _*_, _<_}
-use mathlib.Core.Path.{_≡_, sym, ap, _∙_}
+-- `locate` meets its contract. The loop's invariant: the rows in front of `low` have lesser ids, those from `high` on greater ones.
+use Prim.Native.Nat.{_+_, _-_, _/_}
+use mathlib.Core.Path.{_≡_, refl}
 use native.Mathlib.Omega.{arith}
-use lib.ListN.{getD}
 use denote.Ref.{now}
-use borrow.Author.Count.{below-none, below-more}
-use Rattle.bsii_table.specs.Rows.{idAt}
+use Rattle.bsii_table.proofs.Laws.{Bracket, bracket-all, bracket-up, bracket-down, bracket-free}
 use Rattle.bsii_table.proofs.locate.Statement.{statement}
 use Rattle.bsii_table.proofs.locate.Tie as tie
 
 abbrev Inv-loop : tie.InvT-loop
-Inv-loop table rows id at₀ left₀ at left = (i : ℕ) × (at ≡ 3 * i) × (i + left ≡ rows) × ((k : ℕ) → k < i → idAt table k ≡ id → ⊥)
+Inv-loop table rows id low₀ high₀ low high = Bracket table rows id low high
 
 abbrev μ-loop : tie.MeasureT-loop
-μ-loop table rows id at₀ left₀ at left = left
+μ-loop table rows id low₀ high₀ low high = high - low
 
 loop-holds : tie.Need-loop-holds Inv-loop μ-loop
-loop-holds c = (0, omega arith, omega arith, below-none _)
+loop-holds c = bracket-all (now (c .args .table)) (c .args .rows) (c .args .id)
 
-mul-if1 : tie.Need-mul-if1 Inv-loop μ-loop
-mul-if1 c = omega arith
+sub-middle : tie.Need-sub-middle Inv-loop μ-loop
+sub-middle c = omega arith
 
-shared-slice-read-if1 : tie.Need-shared-slice-read-if1 Inv-loop μ-loop
-shared-slice-read-if1 c = omega arith
+add-middle : tie.Need-add-middle Inv-loop μ-loop
+add-middle c = omega arith
+
+mul-held : tie.Need-mul-held Inv-loop μ-loop
+mul-held c = omega arith
+
+mul-held-2 : tie.Need-mul-held-2 Inv-loop μ-loop
+mul-held-2 c = omega arith
+
+shared-slice-read-held : tie.Need-shared-slice-read-held Inv-loop μ-loop
+shared-slice-read-held c = omega arith
+
+mul-t13 : tie.Need-mul-t13 Inv-loop μ-loop
+mul-t13 c = omega arith
 
 returns : tie.Need-returns Inv-loop μ-loop
 returns c =
-    let x = c .before .before .before .loop .inv in
-    (x .0, omega arith, x .1, ap (λ (n : ℕ). getD (now (c .before .before .before .before .args .table)) n 0) (sym (x .1)) ∙ c .if1 .taken)
+    let x = c .before .before .before .loop in
+    (x .low + (x .high - x .low) / 2, omega arith, refl, c .if1 .taken)
 
-add-at : tie.Need-add-at Inv-loop μ-loop
-add-at c = omega arith
-
-sub-left : tie.Need-sub-left Inv-loop μ-loop
-sub-left c = omega arith
+add-low : tie.Need-add-low Inv-loop μ-loop
+add-low c = omega arith
 
 loop-less : tie.Need-loop-less Inv-loop μ-loop
 loop-less c = omega arith
 
 loop-again : tie.Need-loop-again Inv-loop μ-loop
 loop-again c =
-    let x = c .before .before .before .loop .inv in
-    let t = now (c .before .before .before .before .args .table) in
-    (x .0 + 1, omega arith, omega arith, below-more _ (x .0) (x .3) (λ e. c .if1 .left (ap (λ (n : ℕ). getD t n 0) (x .1) ∙ e)))
+    let x = c .before .before .before .before in
+    bracket-up (x .before .pre) (x .loop .inv) _ (omega arith) (omega arith) (c .if2 .taken)
+
+loop-less-2 : tie.Need-loop-less-2 Inv-loop μ-loop
+loop-less-2 c = omega arith
+
+loop-again-2 : tie.Need-loop-again-2 Inv-loop μ-loop
+loop-again-2 c =
+    let x = c .before .before .before .before in
+    bracket-down (x .before .pre) (x .loop .inv) _ (omega arith) (omega arith) (omega arith)
+
+mul-t14 : tie.Need-mul-t14 Inv-loop μ-loop
+mul-t14 c = omega arith
 
 returns-2 : tie.Need-returns-2 Inv-loop μ-loop
-returns-2 c =
-    let x = c .before .loop .inv in
-    (omega arith, λ i h. x .3 i (omega arith))
+returns-2 c = bracket-free (c .before .loop .inv) (c .loop-test .left)
 
 pub locate-spec : {M : Type 1} → statement M
 locate-spec =
@@ -56,11 +71,17 @@ locate-spec =
     Inv-loop
     μ-loop
     loop-holds
-    mul-if1
-    shared-slice-read-if1
+    sub-middle
+    add-middle
+    mul-held
+    mul-held-2
+    shared-slice-read-held
+    mul-t13
     returns
-    add-at
-    sub-left
+    add-low
     loop-less
     loop-again
+    loop-less-2
+    loop-again-2
+    mul-t14
     returns-2)
