@@ -1,3 +1,4 @@
 pub mod LineLaws
+pub mod Stores
 pub mod ArrayLaws
 pub mod ScalarLaws

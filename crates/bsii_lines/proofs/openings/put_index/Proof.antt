@@ -1,3 +1,10 @@
+use Prim.Native.Nat.{_+_}
+use native.Mathlib.Omega.{arith}
+use denote.Ref.{now}
+use lib.ListN.{length}
+use Rattle.bsii_window.proofs.Laws.{past, starts, inside}
+use Rattle.bsii_window.proofs.DigitLaws.{count-most}
+use Rattle.bsii_lines.proofs.Stores.{index-length}
 use borrow.Author.Needs.{needs}
 use Rattle.bsii_lines.proofs.openings.put_index.Statement.{statement}
 use Rattle.bsii_lines.proofs.openings.put_index.Tie as tie
@@ -9,69 +16,61 @@ use Rattle.bsii_window.proofs.digits.decimal_count.Reads as decimal-count-reads
 use Rattle.bsii_window.proofs.window.further.Reads as further-reads
 use Rattle.bsii_window.proofs.window.place_of.Reads as place-of-reads
 
--- src/openings.rt:95:9
 decimal-count-requires : tie.Need-decimal-count-requires
 decimal-count-requires c κs = search needs
 
--- src/openings.rt:96:17
 add-count : tie.Need-add-count
-add-count c = ?
+add-count c = omega (arith, c .decimal-count .ensures, count-most (c .before .before .before .args .i))
 
--- src/openings.rt:96:17
 add-count-2 : tie.Need-add-count-2
-add-count-2 c = ?
+add-count-2 c = omega (arith, c .decimal-count .ensures, count-most (c .before .before .before .args .i))
 
--- src/openings.rt:97:9
 place-of-requires : tie.Need-place-of-requires
 place-of-requires c κs = search needs
 
--- src/openings.rt:99:24
 enum-told : tie.Need-enum-told
 enum-told c = search needs
 
--- src/openings.rt:99:24
 further-requires : tie.Need-further-requires
 further-requires c κs = search needs
 
--- src/openings.rt:99:24
 returns : tie.Need-returns
-returns c = ?
+returns c =
+    let a = c .before .before .before .before .before .before .before .args in
+    let d = c .before .before .before .before .decimal-count in
+    past (c .before .enum-told .given .1) (c .before .before .before .place-of .ensures) (index-length (now (a .name)) (a .i) (d .result) (d .ensures)) (c .further .ensures) (omega arith)
 
--- src/openings.rt:100:50
 enum-told-2 : tie.Need-enum-told-2
 enum-told-2 c = search needs
 
--- src/openings.rt:100:26
 put-index-across-requires : tie.Need-put-index-across-requires
 put-index-across-requires c κs = search needs
 
--- src/openings.rt:100:26
 same-length : tie.Need-same-length
 same-length c = search needs
 
--- src/openings.rt:100:26
 returns-2 : tie.Need-returns-2
 returns-2 c = search needs
 
--- src/openings.rt:101:23
 enum-known-place : tie.Need-enum-known-place
 enum-known-place c = search needs
 
--- src/openings.rt:102:13
 store-index-requires : tie.Need-store-index-requires
-store-index-requires c κs = ?
+store-index-requires c κs =
+    let d = c .before .before .before .before .before .decimal-count in
+    (d .ensures, starts (length (now (c .before .before .before .before .before .before .before .before .args .name)) + d .result + 6) (c .before .before .place .given .1) (c .before .before .before .before .place-of .ensures) .1)
 
--- src/openings.rt:103:13
 further-requires-2 : tie.Need-further-requires-2
 further-requires-2 c κs = search needs
 
--- src/openings.rt:103:13
 same-length-2 : tie.Need-same-length-2
 same-length-2 c = search needs
 
--- src/openings.rt:103:13
 returns-3 : tie.Need-returns-3
-returns-3 c = ?
+returns-3 c =
+    let a = c .before .before .before .before .before .before .before .before .before .before .before .before .args in
+    let d = c .before .before .before .before .before .before .before .before .before .decimal-count in
+    inside (c .before .before .before .before .before .before .place .given .1) (c .before .before .before .before .before .before .before .before .place-of .ensures) (index-length (now (a .name)) (a .i) (d .result) (d .ensures)) (c .further2 .ensures) (c .before .before .before .store-index .ensures) (omega arith)
 
 pub put-index-spec : {M : Type 1} → statement M
 put-index-spec =

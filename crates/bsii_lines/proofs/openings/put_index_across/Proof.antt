@@ -1,3 +1,6 @@
+use denote.Ref.{now}
+use Rattle.bsii_window.proofs.Laws.{then, being}
+use Rattle.bsii_lines.proofs.LineLaws.{index-text}
 use borrow.Author.Needs.{needs}
 use Rattle.bsii_lines.proofs.openings.put_index_across.Statement.{statement}
 use Rattle.bsii_lines.proofs.openings.put_index_across.Tie as tie
@@ -7,41 +10,35 @@ use Rattle.bsii_window.proofs.digits.write_decimal.Reads as write-decimal-reads
 use Rattle.bsii_window.proofs.window.put.Reads as put-reads
 use Rattle.bsii_window.proofs.window.put_all.Reads as put-all-reads
 
--- src/openings.rt:85:33
 slice-aggregate-put-all : tie.Need-slice-aggregate-put-all
 slice-aggregate-put-all c = search needs
 
--- src/openings.rt:85:9
 put-all-requires : tie.Need-put-all-requires
 put-all-requires c κs = search needs
 
--- src/openings.rt:86:9
 put-all-requires-2 : tie.Need-put-all-requires-2
 put-all-requires-2 c κs = search needs
 
--- src/openings.rt:87:9
 put-requires : tie.Need-put-requires
 put-requires c κs = search needs
 
--- src/openings.rt:88:9
 write-decimal-requires : tie.Need-write-decimal-requires
 write-decimal-requires c κs = search needs
 
--- src/openings.rt:89:25
 slice-aggregate-put-all-2 : tie.Need-slice-aggregate-put-all-2
 slice-aggregate-put-all-2 c = search needs
 
--- src/openings.rt:89:5
 put-all-requires-3 : tie.Need-put-all-requires-3
 put-all-requires-3 c κs = search needs
 
--- src/openings.rt:82:1
 same-length : tie.Need-same-length
 same-length c = search needs
 
--- src/openings.rt:82:1
 returns : tie.Need-returns
-returns c = ?
+returns c =
+    let a = c .before .before .before .before .before .before .before .before .before .before .before .before .before .before .before .before .before .before .before .before .before .before .before .before .args in
+    being (index-text (now (a .name)) (a .i))
+    (then (then (then (then (c .before .before .before .before .before .before .before .before .before .before .before .before .before .before .before .before .before .before .before .put-all .ensures) (c .before .before .before .before .before .before .before .before .before .before .before .before .before .before .before .put-all2 .ensures)) (c .before .before .before .before .before .before .before .before .before .before .before .put .ensures)) (c .before .before .before .before .before .before .before .write-decimal .ensures)) (c .before .before .put-all3 .ensures))
 
 pub put-index-across-spec : {M : Type 1} → statement M
 put-index-across-spec =

@@ -1,3 +1,10 @@
+use mathlib.Core.List.{_++_}
+use native.Mathlib.Omega.{arith}
+use denote.Ref.{now}
+use lib.ListN.{length-set}
+use Rattle.bsii_format.specs.Ascii.{ascii}
+use Rattle.bsii_format.specs.Text.{indexed}
+use Rattle.bsii_lines.proofs.Stores.{length-two, stored-length, open-at, close-at, number-length, index-stored}
 use borrow.Author.Needs.{needs}
 use Rattle.bsii_lines.proofs.openings.store_index.Statement.{statement}
 use Rattle.bsii_lines.proofs.openings.store_index.Tie as tie
@@ -6,61 +13,59 @@ use Rattle.bsii_lines.proofs.openings.store_index.Lts as lts
 use Rattle.bsii_lines.proofs.openings.store_name.Reads as store-name-reads
 use Rattle.bsii_window.proofs.digits.fill_decimal.Reads as fill-decimal-reads
 
--- src/openings.rt:71:5
 store-name-requires : tie.Need-store-name-requires
 store-name-requires c κs = search needs
 
--- src/openings.rt:72:16
 add-open : tie.Need-add-open
 add-open c = search needs
 
--- src/openings.rt:72:16
 add-open-2 : tie.Need-add-open-2
 add-open-2 c = search needs
 
--- src/openings.rt:73:5
 slice-write-out : tie.Need-slice-write-out
 slice-write-out c = search needs
 
--- src/openings.rt:74:17
 add-close : tie.Need-add-close
 add-close c = search needs
 
--- src/openings.rt:74:17
 add-close-2 : tie.Need-add-close-2
 add-close-2 c = search needs
 
--- src/openings.rt:75:5
 fill-decimal-requires : tie.Need-fill-decimal-requires
-fill-decimal-requires c κs = ?
+fill-decimal-requires c κs =
+    let a = c .before .before .before .before .before .before .before .args in
+    (omega (arith, c .before .before .before .before .before .before .before .pre .0), omega (arith, length-set (c .before .before .before .store-name .last .0) (open-at (a .start) (now (a .name))) 91))
 
--- src/openings.rt:76:5
 slice-write-out-2 : tie.Need-slice-write-out-2
-slice-write-out-2 c = ?
+slice-write-out-2 c =
+    let a = c .before .before .before .before .before .before .before .before .before .before .args in let p = c .before .before .before .before .before .before .before .before .before .before .pre .0 in let m = c .before .before .before .before .before .before .store-name in let f = c .before .before .fill-decimal in
+    omega (arith, number-length (now (a .out)) (a .start) (now (a .name)) (a .i) (a .digits) p (m .ensures) (f .ensures))
 
--- src/openings.rt:77:9
 add-out : tie.Need-add-out
 add-out c = search needs
 
--- src/openings.rt:77:5
 slice-write-out-3 : tie.Need-slice-write-out-3
-slice-write-out-3 c = ?
+slice-write-out-3 c =
+    let a = c .before .before .before .before .before .before .before .before .before .before .args in let p = c .before .before .before .before .before .before .before .before .before .before .pre .0 in let m = c .before .before .before .before .before .before .store-name in let f = c .before .before .fill-decimal in
+    omega (arith, number-length (now (a .out)) (a .start) (now (a .name)) (a .i) (a .digits) p (m .ensures) (f .ensures), length-set (f .last .0) (close-at (a .start) (now (a .name)) (a .digits)) 93)
 
--- src/openings.rt:78:9
 add-out-2 : tie.Need-add-out-2
 add-out-2 c = search needs
 
--- src/openings.rt:78:5
 slice-write-out-4 : tie.Need-slice-write-out-4
-slice-write-out-4 c = ?
+slice-write-out-4 c =
+    let a = c .before .before .before .before .before .before .before .before .before .before .args in let p = c .before .before .before .before .before .before .before .before .before .before .pre .0 in let m = c .before .before .before .before .before .before .store-name in let f = c .before .before .fill-decimal in
+    omega (arith, number-length (now (a .out)) (a .start) (now (a .name)) (a .i) (a .digits) p (m .ensures) (f .ensures), length-two (f .last .0) (close-at (a .start) (now (a .name)) (a .digits)) 93 58)
 
--- src/openings.rt:67:1
 same-length : tie.Need-same-length
-same-length c = ?
+same-length c =
+    let a = c .before .before .before .before .before .before .before .before .before .before .args in let p = c .before .before .before .before .before .before .before .before .before .before .pre .0 in let m = c .before .before .before .before .before .before .store-name in let f = c .before .before .fill-decimal in
+    stored-length (now (a .out)) (a .start) (ascii "  " ++ indexed (now (a .name)) (a .i) ++ ascii ": ") (index-stored (now (a .out)) (a .start) (now (a .name)) (a .i) (a .digits) p (m .ensures) (f .ensures))
 
--- src/openings.rt:67:1
 returns : tie.Need-returns
-returns c = ?
+returns c =
+    let a = c .before .before .before .before .before .before .before .before .before .before .args in let p = c .before .before .before .before .before .before .before .before .before .before .pre .0 in let m = c .before .before .before .before .before .before .store-name in let f = c .before .before .fill-decimal in
+    index-stored (now (a .out)) (a .start) (now (a .name)) (a .i) (a .digits) p (m .ensures) (f .ensures)
 
 pub store-index-spec : {M : Type 1} → statement M
 store-index-spec =

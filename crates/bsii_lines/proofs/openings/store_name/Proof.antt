@@ -1,3 +1,9 @@
+use mathlib.Core.List.{_++_}
+use native.Mathlib.Omega.{arith}
+use denote.Ref.{now}
+use lib.ListN.{length-set}
+use Rattle.bsii_format.specs.Ascii.{ascii}
+use Rattle.bsii_lines.proofs.Stores.{length-two, stored-length, name-stored}
 use borrow.Author.Needs.{needs}
 use Rattle.bsii_lines.proofs.openings.store_name.Statement.{statement}
 use Rattle.bsii_lines.proofs.openings.store_name.Tie as tie
@@ -5,33 +11,28 @@ use Rattle.bsii_lines.proofs.openings.store_name.Reads as reads
 use Rattle.bsii_lines.proofs.openings.store_name.Lts as lts
 use Rattle.bsii_window.proofs.window.store.Reads as store-reads
 
--- src/openings.rt:26:5
 slice-write-out : tie.Need-slice-write-out
 slice-write-out c = search needs
 
--- src/openings.rt:27:9
 add-out : tie.Need-add-out
 add-out c = search needs
 
--- src/openings.rt:27:5
 slice-write-out-2 : tie.Need-slice-write-out-2
-slice-write-out-2 c = ?
+slice-write-out-2 c = let a = c .before .before .args in omega (arith, length-set (a .out .now) (a .start) 32)
 
--- src/openings.rt:28:16
 add-store : tie.Need-add-store
 add-store c = search needs
 
--- src/openings.rt:28:5
 store-requires : tie.Need-store-requires
-store-requires c κs = ?
+store-requires c κs = let a = c .before .before .before .args in omega (arith, length-two (a .out .now) (a .start) 32 32)
 
--- src/openings.rt:22:1
 same-length : tie.Need-same-length
-same-length c = ?
+same-length c =
+    let a = c .before .before .before .before .before .before .args in
+    stored-length (now (a .out)) (a .start) (ascii "  " ++ now (a .name)) (name-stored (now (a .out)) (a .start) (now (a .name)) (c .before .before .store .ensures))
 
--- src/openings.rt:22:1
 returns : tie.Need-returns
-returns c = ?
+returns c = let a = c .before .before .before .before .before .before .args in name-stored (now (a .out)) (a .start) (now (a .name)) (c .before .before .store .ensures)
 
 pub store-name-spec : {M : Type 1} → statement M
 store-name-spec =
