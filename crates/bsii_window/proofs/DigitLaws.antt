@@ -128,16 +128,12 @@ count-four n h =
     omega (arith, a, b, c, d, e)
 
 -- two digits by one division
-pub decimal-two : (n : ℕ) → 100 ≤ n → decimal n ≡ decimal (n / 100) ++ (digit (n % 100 / 10) ∷ digit (n % 100 % 10) ∷ [])
+pub decimal-two : (n : ℕ) → 100 ≤ n → decimal n ≡ decimal (n / 100) ++ (digit (n / 10 % 10) ∷ digit (n % 10) ∷ [])
 decimal-two n h =
     let z : n / 10 / 10 ≡ n / 100 = omega arith in
-    let x : n / 10 % 10 ≡ n % 100 / 10 = omega arith in
-    let y : n % 10 ≡ n % 100 % 10 = omega arith in
     decimal-more n (omega arith)
     ∙ ap (λ (l : List ℕ). l ++ (digit (n % 10) ∷ [])) (decimal-more (n / 10) (omega arith) ∙ ap (λ (m : ℕ). decimal m ++ (digit (n / 10 % 10) ∷ [])) z)
     ∙ append-assoc (decimal (n / 100)) (digit (n / 10 % 10) ∷ []) (digit (n % 10) ∷ [])
-    ∙ ap (λ (d : ℕ). decimal (n / 100) ++ (digit d ∷ digit (n % 10) ∷ [])) x
-    ∙ ap (λ (d : ℕ). decimal (n / 100) ++ (digit (n % 100 / 10) ∷ digit d ∷ [])) y
 
 pub decimal-pair : (n : ℕ) → 10 ≤ n → n < 100 → decimal n ≡ digit (n / 10) ∷ digit (n % 10) ∷ []
 decimal-pair n h l = decimal-more n h ∙ ap (λ (d : List ℕ). d ++ (digit (n % 10) ∷ [])) (decimal-one (n / 10) (omega arith))
@@ -159,3 +155,14 @@ count-last n h l = count-more n (omega arith) ∙ ap suc (count-three (n / 10) (
 
 pub two-more : (n : ℕ) {i : ℕ} → 100 ≤ n → length (decimal n) ≤ i → 2 ≤ i
 two-more n h l = omega (arith, count-more n (omega arith), count-more (n / 10) (omega arith))
+
+-- two digits by one division
+pub padded-two : (w n : ℕ) → 1 < w → hexPadded w n ≡ hexPadded (w - 2) (n / 256) ++ (digit (n / 16 % 16) ∷ digit (n % 16) ∷ [])
+padded-two w n h =
+    let k : w - 1 - 1 ≡ w - 2 = omega arith in
+    let z : n / 16 / 16 ≡ n / 256 = omega arith in
+    padded-more w n (omega arith)
+    ∙ ap (λ (l : List ℕ). l ++ (digit (n % 16) ∷ [])) (padded-more (w - 1) (n / 16) (omega arith)
+    ∙ ap (λ (v : ℕ). hexPadded v (n / 16 / 16) ++ (digit (n / 16 % 16) ∷ [])) k
+    ∙ ap (λ (m : ℕ). hexPadded (w - 2) m ++ (digit (n / 16 % 16) ∷ [])) z)
+    ∙ append-assoc (hexPadded (w - 2) (n / 256)) (digit (n / 16 % 16) ∷ []) (digit (n % 16) ∷ [])

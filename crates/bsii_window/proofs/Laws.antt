@@ -32,6 +32,9 @@ pub capped-top : (a b : ℕ) → 0xffff_ffff_ffff_ffff ≤ a + b → capped a b 
 unfolding capped
 capped-top a b h = simp (le-leb 0xffff_ffff_ffff_ffff (a + b) h)
 
+pub capped-fits : (a b : ℕ) → a + b ≤ 0xffff_ffff_ffff_ffff → capped a b ≡ a + b
+capped-fits a b h = ⊎-elim (capped-less a b) (λ l. capped-top a b l ∙ omega arith) (lt-or-le (a + b) 0xffff_ffff_ffff_ffff)
+
 capped-twice : (a b c : ℕ) → capped (capped a b) c ≡ capped a (b + c)
 capped-twice a b c =
     ⊎-elim
@@ -187,6 +190,11 @@ inside {a} {b} {at} {r} {n} {start} {x} q h k e w l =
     let g = starts n q h in
     let z : start ≡ at - 0x8000_0000_0000_0000 = omega (arith, g .0) in
     record { next = e ∙ ap (capped at) k; window = w ∙ ap (λ (i : ℕ). sets a i x) z ∙ sym (written-in a at x (omega (arith, g .0))); room = l }
+
+-- the position behind it, without a test: no slice is so long that it could stay where it is
+pub inside-sum : {a b : List ℕ} {at n start : ℕ} {x : List ℕ} {p : Place} → p ≡ place.Inside start → PlaceOf (length a) at n p → n ≡ length x
+    → b ≡ sets a start x → length a < 0x8000_0000_0000_0000 → Wrote a at x (at + n) b
+inside-sum {at = at} {n} q h k w l = let g = starts n q h in inside q h k (sym (capped-fits at n (omega (arith, g)))) w l
 
 -- ---- bytes that are stored one by one
 

@@ -4,7 +4,7 @@ use crate::window::further;
 use crate::window::place_of;
 use crate::window::put;
 ghost use mathlib.Core.Path.{_≡_};
-ghost use Prim.Native.Nat.{_+_, _-_, _/_, _%_, _≤_, _<_};
+ghost use Prim.Native.Nat.{_+_, _-_, _≤_, _<_};
 ghost use mathlib.Core.List.{[], _∷_};
 ghost use lib.ListN.{length};
 ghost use lib.Seq.{sets};
@@ -49,12 +49,12 @@ pub fn decimal_count(n: u64) -> usize
     count + short_count(rest)
 }
 
-fn fill_pair(out: &mut [u8], at: usize, n: u64)
-    requires { ⌜ (n < 100) × (at + 2 ≤ length (now out)) ⌝ }
-    ensures { λ _. ⌜ now (out .exit) ≡ sets (now (out .entry)) at (digitOf (n / 10) ∷ digitOf (n % 10) ∷ []) ⌝ }
+fn fill_pair(out: &mut [u8], at: usize, high: u64, low: u64)
+    requires { ⌜ (high < 16) × (low < 16) × (at + 2 ≤ length (now out)) ⌝ }
+    ensures { λ _. ⌜ now (out .exit) ≡ sets (now (out .entry)) at (digitOf high ∷ digitOf low ∷ []) ⌝ }
 {
-    out[at] = digit(n / 10);
-    out[at + 1] = digit(n % 10);
+    out[at] = digit(high);
+    out[at + 1] = digit(low);
 }
 
 // The digits of a number below 100, up to an index.
@@ -66,7 +66,7 @@ fn fill_first(out: &mut [u8], end: usize, n: u64)
         out[end - 1] = digit(n);
         return;
     }
-    fill_pair(out, end - 2, n);
+    fill_pair(out, end - 2, n / 10, n % 10);
 }
 
 // The digits up to an index, from the last ones on: two for each division.
@@ -78,7 +78,7 @@ pub fn fill_decimal(out: &mut [u8], end: usize, n: u64)
     let mut rest = n;
     while 99 < rest {
         i -= 2;
-        fill_pair(out, i, rest % 100);
+        fill_pair(out, i, rest / 10 % 10, rest % 10);
         rest = rest / 100;
     }
     fill_first(out, i, rest);
@@ -105,12 +105,12 @@ pub fn write_decimal(out: &mut [u8], at: usize, n: u64) -> usize
         Place::Across => return put_decimal(out, at, n),
         Place::Inside(start) => {
             fill_decimal(out, start + count, n);
-            return further(at, count);
+            return at + count;
         }
     }
 }
 
-// The last so many digits up to an index, from the last one on.
+// The last so many digits up to an index, from the last ones on.
 fn fill_hex(out: &mut [u8], end: usize, n: u64, count: u32)
     requires { ⌜ (count ≤ end) × (end ≤ length (now out)) ⌝ }
     ensures { λ _. ⌜ now (out .exit) ≡ sets (now (out .entry)) (end - count) (hexPadded count n) ⌝ }
@@ -118,11 +118,14 @@ fn fill_hex(out: &mut [u8], end: usize, n: u64, count: u32)
     let mut i = end;
     let mut rest = n;
     let mut left = count;
-    while 0 < left {
-        i -= 1;
-        out[i] = digit(rest % 16);
-        rest = rest / 16;
-        left -= 1;
+    while 1 < left {
+        i -= 2;
+        fill_pair(out, i, rest / 16 % 16, rest % 16);
+        rest = rest / 256;
+        left -= 2;
+    }
+    if left == 1 {
+        out[i - 1] = digit(rest % 16);
     }
 }
 
@@ -150,7 +153,7 @@ pub fn write_hex_padded(out: &mut [u8], at: usize, n: u64, count: u32) -> usize
         Place::Across => return put_hex(out, at, n, count),
         Place::Inside(start) => {
             fill_hex(out, start + width, n, count);
-            return further(at, width);
+            return at + width;
         }
     }
 }

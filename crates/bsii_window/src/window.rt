@@ -51,7 +51,7 @@ pub fn put(out: &mut [u8], at: usize, byte: u8) -> usize
         return further(at, 1);
     }
     out[index] = byte;
-    further(at, 1)
+    at + 1
 }
 
 fn least(a: usize, b: usize) -> usize

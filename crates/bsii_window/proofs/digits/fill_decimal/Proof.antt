@@ -32,7 +32,7 @@ sub-i c = let l = c .before .loop in two-more (l .rest) (omega arith) (fill-room
 fill-pair-requires : tie.Need-fill-pair-requires Inv-loop μ-loop
 fill-pair-requires c κs =
     let l = c .before .before .loop in
-    (omega arith, omega (arith, two-more (l .rest) (omega arith) (fill-room (l .inv .0) (l .inv .1)), fill-within (l .inv .0) (l .inv .2)))
+    (omega arith, omega arith, omega (arith, two-more (l .rest) (omega arith) (fill-room (l .inv .0) (l .inv .1)), fill-within (l .inv .0) (l .inv .2)))
 
 loop-less : tie.Need-loop-less Inv-loop μ-loop
 loop-less c = omega arith
@@ -41,7 +41,7 @@ loop-again : tie.Need-loop-again Inv-loop μ-loop
 loop-again c =
     let l = c .before .before .before .before .before .loop in
     let r : l .i - 2 + 2 ≡ l .i = omega (arith, two-more (l .rest) (omega arith) (fill-room (l .inv .0) (l .inv .1))) in
-    let f = fill-more (digit (l .rest % 100 / 10) ∷ digit (l .rest % 100 % 10) ∷ []) (l .i - 2) (l .inv .0) r (decimal-two (l .rest) (omega arith)) in
+    let f = fill-more (digit (l .rest / 10 % 10) ∷ digit (l .rest % 10) ∷ []) (l .i - 2) (l .inv .0) r (decimal-two (l .rest) (omega arith)) in
     (rw (c .before .before .fill-pair .ensures) f, l .inv .1, l .inv .2)
 
 fill-first-requires : tie.Need-fill-first-requires Inv-loop μ-loop

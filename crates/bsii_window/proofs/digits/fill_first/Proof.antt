@@ -28,7 +28,8 @@ sub-fill-pair : tie.Need-sub-fill-pair
 sub-fill-pair c = omega (arith, count-two (c .before .before .before .args .n) (omega arith) (omega arith))
 
 fill-pair-requires : tie.Need-fill-pair-requires
-fill-pair-requires c κs = (omega arith, omega (arith, count-two (c .before .before .before .args .n) (omega arith) (omega arith)))
+fill-pair-requires c κs =
+    (omega arith, omega arith, omega (arith, count-two (c .before .before .before .args .n) (omega arith) (omega arith)))
 
 same-length-2 : tie.Need-same-length-2
 same-length-2 c = search needs

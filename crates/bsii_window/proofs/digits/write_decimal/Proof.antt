@@ -5,7 +5,7 @@ use denote.Ref.{now}
 use lib.ListN.{length}
 use lib.Seq.{sets}
 use Rattle.bsii_format.specs.Digits.{decimal}
-use Rattle.bsii_window.proofs.Laws.{past, starts, inside}
+use Rattle.bsii_window.proofs.Laws.{past, starts, inside-sum}
 use borrow.Author.Needs.{needs}
 use Rattle.bsii_window.proofs.digits.write_decimal.Statement.{statement}
 use Rattle.bsii_window.proofs.digits.write_decimal.Tie as tie
@@ -55,20 +55,20 @@ fill-decimal-requires : tie.Need-fill-decimal-requires
 fill-decimal-requires c κs =
     (omega (arith, c .before .before .before .before .before .decimal-count .ensures), starts (c .before .before .before .before .before .decimal-count .result) (c .before .before .place .given .1) (c .before .before .before .before .place-of .ensures) .1)
 
-further-requires-2 : tie.Need-further-requires-2
-further-requires-2 c κs = search needs
+add-result : tie.Need-add-result
+add-result c = omega (arith, starts (c .before .before .before .before .before .before .before .before .decimal-count .result) (c .before .before .before .before .before .place .given .1) (c .before .before .before .before .before .before .before .place-of .ensures))
 
 same-length-2 : tie.Need-same-length-2
 same-length-2 c = search needs
 
 returns-3 : tie.Need-returns-3
 returns-3 c =
-    let a = c .before .before .before .before .before .before .before .before .before .before .before .args in
-    let start = c .before .before .before .before .before .before .place .given .0 .0 in
-    let n = c .before .before .before .before .before .before .before .before .before .decimal-count .result in
-    let z : start + n - length (decimal (a .n)) ≡ start = omega (arith, c .before .before .before .before .before .before .before .before .before .decimal-count .ensures) in
-    inside (c .before .before .before .before .before .before .place .given .1) (c .before .before .before .before .before .before .before .before .place-of .ensures) (c .before .before .before .before .before .before .before .before .before .decimal-count .ensures) (c .further2 .ensures)
-    (c .before .before .before .fill-decimal .ensures ∙ ap (λ (k : ℕ). sets (now (a .out)) k (decimal (a .n))) z) (omega arith)
+    let a = c .before .before .before .before .before .before .before .before .before .before .args in
+    let start = c .before .before .before .before .before .place .given .0 .0 in
+    let n = c .before .before .before .before .before .before .before .before .decimal-count .result in
+    let z : start + n - length (decimal (a .n)) ≡ start = omega (arith, c .before .before .before .before .before .before .before .before .decimal-count .ensures) in
+    inside-sum (c .before .before .before .before .before .place .given .1) (c .before .before .before .before .before .before .before .place-of .ensures) (c .before .before .before .before .before .before .before .before .decimal-count .ensures)
+    (c .before .before .fill-decimal .ensures ∙ ap (λ (k : ℕ). sets (now (a .out)) k (decimal (a .n))) z) (omega arith)
 
 pub write-decimal-spec : {M : Type 1} → statement M
 write-decimal-spec =
@@ -86,6 +86,6 @@ write-decimal-spec =
     enum-known-place
     add-fill-decimal
     fill-decimal-requires
-    further-requires-2
+    add-result
     same-length-2
     returns-3)

@@ -4,7 +4,7 @@ use native.Mathlib.Omega.{arith}
 use denote.Ref.{now}
 use lib.Seq.{sets}
 use Rattle.bsii_format.specs.Digits.{hexPadded}
-use Rattle.bsii_window.proofs.Laws.{past, starts, inside}
+use Rattle.bsii_window.proofs.Laws.{past, starts, inside-sum}
 use Rattle.bsii_window.proofs.DigitLaws.{padded-length}
 use borrow.Author.Needs.{needs}
 use Rattle.bsii_window.proofs.digits.write_hex_padded.Statement.{statement}
@@ -51,18 +51,18 @@ add-fill-hex c = omega (arith, starts (c .before .before .before .before .before
 fill-hex-requires : tie.Need-fill-hex-requires
 fill-hex-requires c κs = (omega arith, starts (c .before .before .before .before .before .before .args .count) (c .before .before .place .given .1) (c .before .before .before .before .place-of .ensures) .1)
 
-further-requires-2 : tie.Need-further-requires-2
-further-requires-2 c κs = search needs
+add-result : tie.Need-add-result
+add-result c = omega (arith, starts (c .before .before .before .before .before .before .before .before .before .args .count) (c .before .before .before .before .before .place .given .1) (c .before .before .before .before .before .before .before .place-of .ensures))
 
 same-length-2 : tie.Need-same-length-2
 same-length-2 c = search needs
 
 returns-3 : tie.Need-returns-3
 returns-3 c =
-    let a = c .before .before .before .before .before .before .before .before .before .before .args in
-    let z : c .before .before .before .before .before .before .place .given .0 .0 + a .count - a .count ≡ c .before .before .before .before .before .before .place .given .0 .0 = omega arith in
-    inside (c .before .before .before .before .before .before .place .given .1) (c .before .before .before .before .before .before .before .before .place-of .ensures) (sym (padded-length (a .count) (a .n))) (c .further2 .ensures)
-    (c .before .before .before .fill-hex .ensures ∙ ap (λ (k : ℕ). sets (now (a .out)) k (hexPadded (a .count) (a .n))) z) (omega arith)
+    let a = c .before .before .before .before .before .before .before .before .before .args in
+    let z : c .before .before .before .before .before .place .given .0 .0 + a .count - a .count ≡ c .before .before .before .before .before .place .given .0 .0 = omega arith in
+    inside-sum (c .before .before .before .before .before .place .given .1) (c .before .before .before .before .before .before .before .place-of .ensures) (sym (padded-length (a .count) (a .n)))
+    (c .before .before .fill-hex .ensures ∙ ap (λ (k : ℕ). sets (now (a .out)) k (hexPadded (a .count) (a .n))) z) (omega arith)
 
 pub write-hex-padded-spec : {M : Type 1} → statement M
 write-hex-padded-spec =
@@ -79,6 +79,6 @@ write-hex-padded-spec =
     enum-known-place
     add-fill-hex
     fill-hex-requires
-    further-requires-2
+    add-result
     same-length-2
     returns-3)

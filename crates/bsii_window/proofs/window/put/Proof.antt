@@ -2,7 +2,7 @@ use mathlib.Core.Path.{sym}
 use mathlib.Core.List.{[], _∷_}
 use native.Mathlib.Omega.{arith}
 use denote.Ref.{now}
-use Rattle.bsii_window.proofs.Laws.{written-none, written-past, written-in}
+use Rattle.bsii_window.proofs.Laws.{capped-fits, written-none, written-past, written-in}
 use borrow.Author.Needs.{needs}
 use Rattle.bsii_window.proofs.window.put.Statement.{statement}
 use Rattle.bsii_window.proofs.window.put.Tie as tie
@@ -22,14 +22,16 @@ returns-2 c = let a = c .before .before .before .before .args in record { next =
 slice-write-out : tie.Need-slice-write-out
 slice-write-out c = search needs
 
-further-requires-3 : tie.Need-further-requires-3
-further-requires-3 c κs = search needs
+add-result : tie.Need-add-result
+add-result c = search needs
 
 same-length : tie.Need-same-length
 same-length c = search needs
 
 returns-3 : tie.Need-returns-3
-returns-3 c = let a = c .before .before .before .before .args in record { next = search needs; window = sym (written-in (now (a .out)) (a .at) (a .byte ∷ []) (omega arith)); room = omega arith }
+returns-3 c =
+    let a = c .before .before .before .args in
+    record { next = sym (capped-fits (a .at) 1 (omega arith)); window = sym (written-in (now (a .out)) (a .at) (a .byte ∷ []) (omega arith)); room = omega arith }
 
 pub put-spec : {M : Type 1} → statement M
 put-spec =
@@ -40,6 +42,6 @@ put-spec =
     further-requires-2
     returns-2
     slice-write-out
-    further-requires-3
+    add-result
     same-length
     returns-3)
