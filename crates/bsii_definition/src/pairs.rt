@@ -91,12 +91,10 @@ fn without_last(s: &[u8], last_field: usize) -> Pair
     Pair::Uneven
 }
 
-pub fn pair_at(s: &[u8], field: usize, last_field: usize) -> Pair
+// Two lists, each read for itself.
+fn unlike_pair(s: &[u8], field: usize, last_field: usize) -> Pair
     ensures { λ r. ⌜ PairOf (now (s .entry)) field «last_field» r ⌝ }
 {
-    if field == last_field {
-        return same_pair(s, field);
-    }
     let entry = value_prototype_past(s, field);
     let Entry::Field {
         type_id,
@@ -108,6 +106,15 @@ pub fn pair_at(s: &[u8], field: usize, last_field: usize) -> Pair
         return without_last(s, last_field);
     };
     with_last(s, type_id, next, last_field)
+}
+
+pub fn pair_at(s: &[u8], field: usize, last_field: usize) -> Pair
+    ensures { λ r. ⌜ PairOf (now (s .entry)) field «last_field» r ⌝ }
+{
+    if field == last_field {
+        return same_pair(s, field);
+    }
+    unlike_pair(s, field, last_field)
 }
 
 // Whether both lists have the same number of definitions.
