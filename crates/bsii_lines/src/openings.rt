@@ -58,7 +58,7 @@ pub fn put_opening(out: &mut [u8], to: usize, name: &[u8]) -> usize
         Place::Across => return put_opening_across(out, to, name),
         Place::Inside(start) => {
             store_opening(out, start, name);
-            return further(to, count);
+            return to + count;
         }
     }
 }
@@ -100,7 +100,7 @@ pub fn put_index(out: &mut [u8], to: usize, name: &[u8], i: u32) -> usize
         Place::Across => return put_index_across(out, to, name, i),
         Place::Inside(start) => {
             store_index(out, start, name, i, digits);
-            return further(to, count);
+            return to + count;
         }
     }
 }

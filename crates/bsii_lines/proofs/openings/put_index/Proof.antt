@@ -2,7 +2,7 @@ use Prim.Native.Nat.{_+_}
 use native.Mathlib.Omega.{arith}
 use denote.Ref.{now}
 use lib.ListN.{length}
-use Rattle.bsii_window.proofs.Laws.{past, starts, inside}
+use Rattle.bsii_window.proofs.Laws.{past, starts, inside-sum}
 use Rattle.bsii_window.proofs.DigitLaws.{count-most}
 use Rattle.bsii_lines.proofs.Stores.{index-length}
 use borrow.Author.Needs.{needs}
@@ -60,17 +60,17 @@ store-index-requires c κs =
     let d = c .before .before .before .before .before .decimal-count in
     (d .ensures, starts (length (now (c .before .before .before .before .before .before .before .before .args .name)) + d .result + 6) (c .before .before .place .given .1) (c .before .before .before .before .place-of .ensures) .1)
 
-further-requires-2 : tie.Need-further-requires-2
-further-requires-2 c κs = search needs
+add-result : tie.Need-add-result
+add-result c = omega (arith, starts (length (now (c .before .before .before .before .before .before .before .before .before .before .before .args .name)) + c .before .before .before .before .before .before .before .before .decimal-count .result + 6) (c .before .before .before .before .before .place .given .1) (c .before .before .before .before .before .before .before .place-of .ensures))
 
 same-length-2 : tie.Need-same-length-2
 same-length-2 c = search needs
 
 returns-3 : tie.Need-returns-3
 returns-3 c =
-    let a = c .before .before .before .before .before .before .before .before .before .before .before .before .args in
-    let d = c .before .before .before .before .before .before .before .before .before .decimal-count in
-    inside (c .before .before .before .before .before .before .place .given .1) (c .before .before .before .before .before .before .before .before .place-of .ensures) (index-length (now (a .name)) (a .i) (d .result) (d .ensures)) (c .further2 .ensures) (c .before .before .before .store-index .ensures) (omega arith)
+    let a = c .before .before .before .before .before .before .before .before .before .before .before .args in
+    let d = c .before .before .before .before .before .before .before .before .decimal-count in
+    inside-sum (c .before .before .before .before .before .place .given .1) (c .before .before .before .before .before .before .before .place-of .ensures) (index-length (now (a .name)) (a .i) (d .result) (d .ensures)) (c .before .before .store-index .ensures) (omega arith)
 
 pub put-index-spec : {M : Type 1} → statement M
 put-index-spec =
@@ -89,6 +89,6 @@ put-index-spec =
     returns-2
     enum-known-place
     store-index-requires
-    further-requires-2
+    add-result
     same-length-2
     returns-3)

@@ -2,7 +2,7 @@ use Prim.Native.Nat.{_+_}
 use native.Mathlib.Omega.{arith}
 use denote.Ref.{now}
 use lib.ListN.{length}
-use Rattle.bsii_window.proofs.Laws.{past, starts, inside}
+use Rattle.bsii_window.proofs.Laws.{past, starts, inside-sum}
 use Rattle.bsii_lines.proofs.Stores.{opening-length}
 use borrow.Author.Needs.{needs}
 use Rattle.bsii_lines.proofs.openings.put_opening.Statement.{statement}
@@ -49,16 +49,16 @@ enum-known-place c = search needs
 store-opening-requires : tie.Need-store-opening-requires
 store-opening-requires c κs = starts (length (now (c .before .before .before .before .before .before .before .args .name)) + 4) (c .before .before .place .given .1) (c .before .before .before .before .place-of .ensures) .1
 
-further-requires-2 : tie.Need-further-requires-2
-further-requires-2 c κs = search needs
+add-result : tie.Need-add-result
+add-result c = omega (arith, starts (length (now (c .before .before .before .before .before .before .before .before .before .before .args .name)) + 4) (c .before .before .before .before .before .place .given .1) (c .before .before .before .before .before .before .before .place-of .ensures))
 
 same-length-2 : tie.Need-same-length-2
 same-length-2 c = search needs
 
 returns-3 : tie.Need-returns-3
 returns-3 c =
-    let a = c .before .before .before .before .before .before .before .before .before .before .before .args in
-    inside (c .before .before .before .before .before .before .place .given .1) (c .before .before .before .before .before .before .before .before .place-of .ensures) (opening-length (now (a .name))) (c .further2 .ensures) (c .before .before .before .store-opening .ensures) (omega arith)
+    let a = c .before .before .before .before .before .before .before .before .before .before .args in
+    inside-sum (c .before .before .before .before .before .place .given .1) (c .before .before .before .before .before .before .before .place-of .ensures) (opening-length (now (a .name))) (c .before .before .store-opening .ensures) (omega arith)
 
 pub put-opening-spec : {M : Type 1} → statement M
 put-opening-spec =
@@ -75,6 +75,6 @@ put-opening-spec =
     returns-2
     enum-known-place
     store-opening-requires
-    further-requires-2
+    add-result
     same-length-2
     returns-3)
