@@ -1,24 +1,26 @@
 -- An accepted id's text, by the numbers that stand in its bytes.
-use Prim.Native.Nat.{ℕ, zero, suc, _+_, _-_, _/_, _%_, _<_, _≤_}
+use Prim.Native.Nat.{ℕ, zero, suc, _+_, _-_, _*_, _/_, _%_, _<_, _≤_}
 use mathlib.Core.Path.{_≡_, refl, sym, ap, ap₂, _∙_}
+use mathlib.Core.Logic.{⊎-elim}
 use mathlib.Core.Bool.{Bool, true, false, cond}
-use mathlib.Core.List.{List, [], _++_, append-assoc}
+use mathlib.Core.List.{List, [], _∷_, _++_, append-assoc}
 use native.Mathlib.Omega.{arith}
-use lib.ListN.{drop}
+use lib.ListN.{length, drop, length-append}
 use lib.Dec.{eqb}
 use borrow.Author.Tests.{eq-eqb, ne-eqb, lt-ltb, le-ltb}
 use Rattle.bsii_format.specs.Ascii.{ascii}
 use Rattle.bsii_format.specs.Reader.{ok, verify, success, repeat, _>>=_, _<$>_}
 use Rattle.bsii_format.specs.Numbers.{number, leU64}
 use Rattle.bsii_format.specs.Strings.{low63, spelled, characters, encodedStrParser, Id, nameless, named, idParser}
-use Rattle.bsii_format.specs.Digits.{hexadecimal, hexPadded}
+use Rattle.bsii_format.specs.Digits.{digit, hexadecimal, hexPadded}
 use Rattle.bsii_format.specs.Text.{groups, dotted, idText}
 use Rattle.bsii_format.proofs.Readers.{after-ok, map-ok, cond-ok, is-true, ok-val, ok-at, ok-rest}
 use Rattle.bsii_float.specs.NumbersAt.{numberAt}
 use Rattle.bsii_float.proofs.NumbersAt.{split, number-is, number-moves}
 use Rattle.bsii_write.specs.Words.{spelling}
 use Rattle.bsii_window.specs.Window.{Wrote}
-use Rattle.bsii_window.proofs.Laws.{being, same}
+use Rattle.bsii_window.proofs.Laws.{lt-or-le, being, same}
+use Rattle.bsii_window.proofs.DigitLaws.{one, more, padded-length}
 use Rattle.bsii_write.specs.Ids.{wordAt, dottedAt, IdWritten}
 use Rattle.bsii_write.proofs.WordLaws.{characters-spelling}
 
@@ -41,6 +43,65 @@ groups-more (suc k) n p h =
     ap (λ (b : Bool). cond b (ascii "." ++ hexadecimal n) (groups k (n / 0x1_0000) ++ ascii "." ++ hexPadded 4 (n % 0x1_0000))) (le-ltb n 0x1_0000 h)
     ∙ append-assoc (groups k (n / 0x1_0000)) (ascii ".") (hexPadded 4 (n % 0x1_0000))
     ∙ ap (λ (j : ℕ). groups j (n / 0x1_0000) ++ (ascii "." ++ hexPadded 4 (n % 0x1_0000))) z
+
+-- ---- how long they are
+
+sixteen : (n : ℕ) → 16 ≤ n → n / 16 < n
+sixteen n h = omega arith
+
+pub hex-one : (n : ℕ) → n < 16 → length (hexadecimal n) ≡ 1
+hex-one n h = ap length (one 16 sixteen n h)
+
+hex-more : (n : ℕ) → 16 ≤ n → length (hexadecimal n) ≡ suc (length (hexadecimal (n / 16)))
+hex-more n h = ap length (more 16 sixteen n h) ∙ length-append (hexadecimal (n / 16)) (digit (n % 16) ∷ []) ∙ omega arith
+
+-- a digit more for 16 times as many numbers
+digit-more : (d m : ℕ) → ((n : ℕ) → n < m → length (hexadecimal n) ≤ d) → (n : ℕ) → n < 16 * m → length (hexadecimal n) ≤ suc d
+digit-more d m f n h =
+    ⊎-elim
+    (λ l. omega (arith, hex-one n l))
+    (λ l. omega (arith, hex-more n l, f (n / 16) (omega arith)))
+    (lt-or-le n 16)
+
+four-digits : (n : ℕ) → n < 0x1_0000 → length (hexadecimal n) ≤ 4
+four-digits = digit-more 3 0x1000 (digit-more 2 0x100 (digit-more 1 0x10 (λ (n : ℕ) (h : n < 0x10). omega (arith, hex-one n h))))
+
+some-digit : (n : ℕ) → 1 ≤ length (hexadecimal n)
+some-digit n = ⊎-elim (λ l. omega (arith, hex-one n l)) (λ l. omega (arith, hex-more n l)) (lt-or-le n 16)
+
+hex-four : (n : ℕ) → 0x1_0000 ≤ n → length (hexadecimal n) ≡ 4 + length (hexadecimal (n / 0x1_0000))
+hex-four n h =
+    let z : n / 16 / 16 / 16 / 16 ≡ n / 0x1_0000 = omega arith in
+    let a = hex-more n (omega arith) in
+    let b = hex-more (n / 16) (omega arith) in
+    let c = hex-more (n / 16 / 16) (omega arith) in
+    let d = hex-more (n / 16 / 16 / 16) (omega arith) in
+    let e = ap (λ (m : ℕ). length (hexadecimal m)) z in
+    omega (arith, a, b, c, d, e)
+
+-- the digits, and a dot for every four of them
+abbrev Long : ℕ → ℕ → Type 0
+Long k n = length (groups k n) ≡ length (hexadecimal n) + (length (hexadecimal n) + 3) / 4
+
+long-small : (k n : ℕ) → n < 0x1_0000 → Long k n
+long-small k n h = ap length (groups-small k n h) ∙ omega (arith, four-digits n h, some-digit n)
+
+-- a group more
+long-more : (k m : ℕ) → 0 < k → ((n : ℕ) → n < m → Long (k - 1) n) → (n : ℕ) → n < 0x1_0000 * m → Long k n
+long-more k m p f n h =
+    ⊎-elim
+    (λ l. long-small k n l)
+    (λ l.
+    ap length (groups-more k n p l)
+    ∙ length-append (groups (k - 1) (n / 0x1_0000)) (ascii "." ++ hexPadded 4 (n % 0x1_0000))
+    ∙ omega (arith, f (n / 0x1_0000) (omega arith), hex-four n l, padded-length 4 (n % 0x1_0000)))
+    (lt-or-le n 0x1_0000)
+
+pub nameless-length : (n d : ℕ) → n < 0x1_0000_0000_0000_0000 → length (hexadecimal n) ≡ d → length (idText (nameless n)) ≡ 9 + d + (d + 3) / 4
+unfolding idText
+nameless-length n d h e =
+    let g : Long 3 n = long-more 3 0x1_0000_0000_0000 (omega arith) (long-more 2 0x1_0000_0000 (omega arith) (long-more 1 0x1_0000 (omega arith) (long-small 0))) n h in
+    length-append (ascii "_nameless") (groups 3 n) ∙ omega (arith, g, e)
 
 -- ---- words
 

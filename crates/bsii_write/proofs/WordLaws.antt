@@ -1,11 +1,11 @@
 -- A word's digits, the lowest first.
-use Prim.Native.Nat.{ℕ, zero, suc, _/_, _%_, _≤_, _<_}
+use Prim.Native.Nat.{ℕ, zero, suc, _+_, _/_, _%_, _≤_, _<_}
 use mathlib.Core.Path.{_≡_, refl, ap, _∙_}
 use mathlib.Core.Bool.{true}
 use mathlib.Core.Option.{Option, none, some, Option·getD}
 use mathlib.Core.List.{List, [], _∷_}
 use native.Mathlib.Omega.{arith}
-use lib.ListN.{getD}
+use lib.ListN.{length, getD}
 use Rattle.bsii_format.specs.Strings.{charEncodings, digitThen, base38From, base38, isSome, spelled, characters}
 use Rattle.bsii_format.specs.Text.{orEmpty, encodedStringText}
 use Rattle.bsii_write.specs.Words.{charOf, spellingFrom, spelling, encodedText}
@@ -30,6 +30,49 @@ pub spelling-none : (n : ℕ) → n ≤ 0 → spelling n ≡ []
 unfolding spelling spellingFrom
 spelling-none zero h = refl
 spelling-none (suc n) h = absurd (omega arith)
+
+-- ---- how many
+
+count-fuel : (f n : ℕ) → length (spellingFrom f n) ≤ f
+unfolding spellingFrom
+count-fuel zero n = omega arith
+count-fuel (suc f) zero = omega arith
+count-fuel (suc f) (suc n) = omega (arith, count-fuel f (suc n / 38))
+
+-- fewer than a number of 64 bits can say
+pub count-most : (n : ℕ) → length (spelling n) ≤ n
+unfolding spelling
+count-most n = count-fuel n n
+
+pub count-none : (n : ℕ) → n ≤ 0 → length (spelling n) ≡ 0
+count-none n h = ap length (spelling-none n h)
+
+pub count-more : (n : ℕ) → 0 < n → length (spelling n) ≡ suc (length (spelling (n / 38)))
+count-more n h = ap length (spelling-more n h)
+
+pub count-one : (n : ℕ) → 0 < n → n < 38 → length (spelling n) ≡ 1
+count-one n h l = count-more n h ∙ ap suc (count-none (n / 38) (omega arith))
+
+pub count-two : (n : ℕ) → 38 ≤ n → n < 1444 → length (spelling n) ≡ 2
+count-two n h l = count-more n (omega arith) ∙ ap suc (count-one (n / 38) (omega arith) (omega arith))
+
+pub count-three : (n : ℕ) → 1444 ≤ n → n < 54872 → length (spelling n) ≡ 3
+count-three n h l = count-more n (omega arith) ∙ ap suc (count-two (n / 38) (omega arith) (omega arith))
+
+pub count-last : (n : ℕ) → 54872 ≤ n → n < 2085136 → length (spelling n) ≡ 4
+count-last n h l = count-more n (omega arith) ∙ ap suc (count-three (n / 38) (omega arith) (omega arith))
+
+pub count-four : (n : ℕ) → 54872 ≤ n → length (spelling n) ≡ 4 + length (spelling (n / 2085136))
+count-four n h =
+    let z : n / 38 / 38 / 38 / 38 ≡ n / 2085136 = omega arith in
+    let a = count-more n (omega arith) in
+    let b = count-more (n / 38) (omega arith) in
+    let c = count-more (n / 38 / 38) (omega arith) in
+    let d = count-more (n / 38 / 38 / 38) (omega arith) in
+    let e = ap (λ (m : ℕ). length (spelling m)) z in
+    omega (arith, a, b, c, d, e)
+
+-- ---- accepted words
 
 -- a digit in front of characters that are there
 digit-then : (d : ℕ) (o : Option (List ℕ)) (l : List ℕ)

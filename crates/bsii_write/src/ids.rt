@@ -4,9 +4,14 @@ use bsii_float::numbers::u8_at;
 use bsii_float::numbers::u64_at;
 use bsii_window::digits::write_hex;
 use bsii_window::digits::write_hex_padded;
+use bsii_window::window::Place;
+use bsii_window::window::further;
+use bsii_window::window::place_of;
 use bsii_window::window::put;
 use bsii_window::window::put_all;
+ghost use mathlib.Core.Path.{_≡_};
 ghost use mathlib.Core.List.{_++_};
+ghost use lib.ListN.{length};
 ghost use Rattle.bsii_format.specs.Ascii.{ascii};
 ghost use Rattle.bsii_format.specs.Digits.{hexadecimal, hexPadded};
 ghost use Rattle.bsii_format.specs.Text.{groups, idText};
@@ -42,9 +47,26 @@ fn write_groups(out: &mut [u8], at: usize, n: u64, behind: u32) -> usize
     write_later_group(out, next, n % 0x1_0000)
 }
 
+// How long `_nameless` and the groups are: the digits, and a dot for every four of them.
+fn nameless_count(n: u64) -> usize
+    ensures { λ r. ⌜ r ≡ length (idText (nameless n)) ⌝ }
+{
+    if n == 0 {
+        return 11;
+    }
+    let digits = ((67 - u64::leading_zeros(n)) / 4) as usize;
+    9 + digits + (digits + 3) / 4
+}
+
+// Where the window ends in front of it, it is only counted.
 fn write_nameless(out: &mut [u8], at: usize, n: u64) -> usize
     ensures { λ r. ⌜ Wrote (now (out .entry)) at (idText (nameless n)) r (now (out .exit)) ⌝ }
 {
+    let count = nameless_count(n);
+    let place = place_of(out.len(), at, count);
+    if let Place::Past = place {
+        return further(at, count);
+    }
     let next = put_all(out, at, b"_nameless");
     write_groups(out, next, n, 3)
 }

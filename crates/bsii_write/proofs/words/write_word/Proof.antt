@@ -1,56 +1,73 @@
-use mathlib.Core.Path.{sym, ap, _∙_}
-use Prim.Native.Nat.{ℕ, _/_}
-use mathlib.Core.List.{_∷_}
-use Rattle.bsii_window.proofs.Loops.{Begun, begin, turn, end, kept}
-use Rattle.bsii_write.specs.Words.{spelling}
-use Rattle.bsii_write.proofs.WordLaws.{spelling-more, spelling-none}
-use borrow.Author.Needs.{needs}
 use native.Mathlib.Omega.{arith}
+use Rattle.bsii_window.proofs.Laws.{past, starts, inside}
+use borrow.Author.Needs.{needs}
 use Rattle.bsii_write.proofs.words.write_word.Statement.{statement}
 use Rattle.bsii_write.proofs.words.write_word.Tie as tie
 
-abbrev Inv-loop : tie.InvT-loop
-Inv-loop out₀ at word rest₀ to₀ out rest to = Begun out₀ at (spelling word) (spelling rest) to out
+word-count-requires : tie.Need-word-count-requires
+word-count-requires c κs = search needs
 
-abbrev μ-loop : tie.MeasureT-loop
-μ-loop out₀ at word rest₀ to₀ out rest to = rest
+place-of-requires : tie.Need-place-of-requires
+place-of-requires c κs = search needs
 
-loop-holds : tie.Need-loop-holds Inv-loop μ-loop
-loop-holds c = begin (omega arith) (omega arith)
+enum-told : tie.Need-enum-told
+enum-told c = search needs
 
-char-of-requires : tie.Need-char-of-requires Inv-loop μ-loop
-char-of-requires c κs = search needs
+further-requires : tie.Need-further-requires
+further-requires c κs = search needs
 
-put-requires : tie.Need-put-requires Inv-loop μ-loop
-put-requires c κs = search needs
+returns : tie.Need-returns
+returns c =
+    past (c .before .enum-told .given .1) (c .before .before .before .place-of .ensures) (c .before .before .before .before .word-count .ensures) (c .further .ensures) (omega arith)
 
-loop-less : tie.Need-loop-less Inv-loop μ-loop
-loop-less c = search needs
+enum-told-2 : tie.Need-enum-told-2
+enum-told-2 c = search needs
 
-loop-again : tie.Need-loop-again Inv-loop μ-loop
-loop-again c =
-    let n = c .before .before .before .before .before .before .loop .rest in
-    let loop = c .before .before .before .before .before .before .loop in
-    let loop-test = c .before .before .before .before .before .loop-test in
-    let char-of = c .before .before .before .char-of in
-    turn (loop .inv) (c .before .before .put .ensures) (spelling-more n (loop-test .taken) ∙ ap (λ (x : ℕ). x ∷ spelling (n / 38)) (sym (char-of .ensures)))
+put-word-requires : tie.Need-put-word-requires
+put-word-requires c κs = search needs
 
-same-length : tie.Need-same-length Inv-loop μ-loop
-same-length c = kept (c .before .loop .inv)
+same-length : tie.Need-same-length
+same-length c = search needs
 
-returns : tie.Need-returns Inv-loop μ-loop
-returns c = end (c .before .loop .inv) (spelling-none (c .before .loop .rest) (c .loop-test .left))
+returns-2 : tie.Need-returns-2
+returns-2 c = search needs
+
+enum-known-place : tie.Need-enum-known-place
+enum-known-place c = search needs
+
+fill-word-requires : tie.Need-fill-word-requires
+fill-word-requires c κs =
+    let count = c .before .before .before .before .before .word-count in
+    omega (arith, count .ensures, starts (count .result) (c .before .before .place .given .1) (c .before .before .before .before .place-of .ensures) .1)
+
+further-requires-2 : tie.Need-further-requires-2
+further-requires-2 c κs = search needs
+
+same-length-2 : tie.Need-same-length-2
+same-length-2 c = search needs
+
+returns-3 : tie.Need-returns-3
+returns-3 c =
+    let place = c .before .before .before .before .before .before .place in
+    let place-of = c .before .before .before .before .before .before .before .before .place-of in
+    let count = c .before .before .before .before .before .before .before .before .before .word-count in
+    inside (place .given .1) (place-of .ensures) (count .ensures) (c .further2 .ensures) (c .before .before .before .fill-word .ensures) (omega arith)
 
 pub write-word-spec : {M : Type 1} → statement M
 write-word-spec =
     tie.close
     (tie.spec
-    Inv-loop
-    μ-loop
-    loop-holds
-    char-of-requires
-    put-requires
-    loop-less
-    loop-again
+    word-count-requires
+    place-of-requires
+    enum-told
+    further-requires
+    returns
+    enum-told-2
+    put-word-requires
     same-length
-    returns)
+    returns-2
+    enum-known-place
+    fill-word-requires
+    further-requires-2
+    same-length-2
+    returns-3)
