@@ -14,8 +14,8 @@ use bsii_value::types::Shape;
 use bsii_value::types::arity;
 use bsii_value::types::shape_of;
 use bsii_value::types::width;
-use bsii_value::values::element_parser;
 use bsii_value::values::numbers_past;
+use bsii_value::values::numeric_past;
 ghost use mathlib.Core.Path.{_≡_};
 ghost use lib.ListN.{drop};
 ghost use Rattle.bsii_format.specs.Reader.{repeat};
@@ -43,7 +43,7 @@ pub fn element_past(s: &[u8], at: usize, kind: Kind) -> Parsed
     ensures { λ r. ⌜ r ≡ endOf (uncheckedElement (kindIs kind) at (drop at (now (s .entry)))) ⌝ }
 {
     match kind {
-        Kind::Numbers(_) => element_parser(s, at, kind),
+        Kind::Numbers(n) => numeric_past(s, at, n),
         Kind::String => str_past(s, at),
         Kind::EncodedString => numbers_past(s, at, 1, 8),
         Kind::Id => id_past(s, at),

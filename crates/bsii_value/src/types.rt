@@ -1,5 +1,6 @@
 // The table of types.
 ghost use mathlib.Core.Path.{_≡_};
+ghost use Prim.Native.Nat.{_*_};
 ghost use Rattle.bsii_format.specs.Types.{shapeOf, width as widthOf, arity as arityOf};
 ghost use Rattle.bsii_value.specs.Kinds.{numericIs, shapeIs};
 
@@ -98,5 +99,20 @@ pub fn arity(n: Numeric) -> u32
         Numeric::FloatVec4 => 4,
         Numeric::FloatVec8 => 8,
         _ => 1,
+    }
+}
+
+// How many bytes they have together, as a row of its own: a value is passed by one match.
+pub fn byte_count(n: Numeric) -> usize
+    ensures { λ r. ⌜ r ≡ arityOf (numericIs n) * widthOf (numericIs n) ⌝ }
+{
+    match n {
+        Numeric::Bool => 1,
+        Numeric::UInt16 => 2,
+        Numeric::Int64 | Numeric::UInt64 | Numeric::FloatVec2 => 8,
+        Numeric::FloatVec3 | Numeric::Int32Vec3 => 12,
+        Numeric::FloatVec4 => 16,
+        Numeric::FloatVec8 => 32,
+        _ => 4,
     }
 }

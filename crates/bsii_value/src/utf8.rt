@@ -2,6 +2,7 @@
 ghost use mathlib.Core.Path.{_≡_};
 ghost use mathlib.Core.Bool.{cond};
 ghost use mathlib.Core.Option.{none};
+ghost use lib.ListN.{drop};
 ghost use Rattle.bsii_format.specs.Utf8.{_to_, within, table3-7, trailOf, step as stepOf, complete as completeOf, utf8};
 ghost use Rattle.bsii_value.specs.States.{toCome};
 
@@ -95,11 +96,25 @@ fn complete(state: State) -> bool
     }
 }
 
+// Where the run of ASCII at the front ends: each of its bytes is a sequence, so what is left decides. Most strings are such a run.
+fn ascii_end(part: &[u8]) -> usize
+    ensures { λ r. ⌜ utf8 (drop r (now (part .entry))) ≡ utf8 (now (part .entry)) ⌝ }
+{
+    let mut i = 0;
+    while i < part.len() {
+        if 0x7f < part[i] {
+            return i;
+        }
+        i += 1;
+    }
+    i
+}
+
 pub fn is_utf8(part: &[u8]) -> bool
     ensures { λ r. ⌜ r ≡ utf8 (now (part .entry)) ⌝ }
 {
     let mut state = State::Between;
-    let mut i = 0;
+    let mut i = ascii_end(part);
     while i < part.len() {
         state = step(state, part[i]);
         i += 1;

@@ -11,6 +11,7 @@ use crate::types::Kind;
 use crate::types::Numeric;
 use crate::types::Shape;
 use crate::types::arity;
+use crate::types::byte_count;
 use crate::types::shape_of;
 use crate::types::width;
 ghost use mathlib.Core.Option.{some};
@@ -49,10 +50,10 @@ fn product(n: u32, m: u32) -> usize
 }
 
 // One value of a few numbers: only where it runs out a division says which number does.
-fn numeric_past(s: &[u8], at: usize, n: Numeric) -> Parsed
+pub fn numeric_past(s: &[u8], at: usize, n: Numeric) -> Parsed
     ensures { λ r. ⌜ r ≡ endOf (elementParser (numbers (numericIs n)) at (drop at (now (s .entry)))) ⌝ }
 {
-    let total = product(arity(n), width(n));
+    let total = byte_count(n);
     if left(s, at) < total {
         return numbers_past(s, at, size(arity(n)), size(width(n)));
     }

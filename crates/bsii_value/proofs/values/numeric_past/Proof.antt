@@ -1,6 +1,6 @@
 -- `values::numeric_past`: An element of numbers is a row of as many as its arity.
-use Prim.Native.Nat.{ℕ, _+_, _*_}
-use mathlib.Core.Path.{_≡_, sym, ap, ap₂, _∙_}
+use Prim.Native.Nat.{ℕ, _+_}
+use mathlib.Core.Path.{sym, ap, ap₂, _∙_}
 use native.Mathlib.Omega.{arith}
 use lib.ListN.{drop}
 use denote.Ref.{now}
@@ -16,26 +16,20 @@ use borrow.Author.Needs.{needs}
 use Rattle.bsii_value.proofs.values.numeric_past.Statement.{statement}
 use Rattle.bsii_value.proofs.values.numeric_past.Tie as tie
 
-arity-requires : tie.Need-arity-requires
-arity-requires c κs = search needs
-
-width-requires : tie.Need-width-requires
-width-requires c κs = search needs
-
-product-requires : tie.Need-product-requires
-product-requires c κs = search needs
+byte-count-requires : tie.Need-byte-count-requires
+byte-count-requires c κs = search needs
 
 left-requires : tie.Need-left-requires
 left-requires c κs = search needs
 
-arity-requires-2 : tie.Need-arity-requires-2
-arity-requires-2 c κs = search needs
+arity-requires : tie.Need-arity-requires
+arity-requires c κs = search needs
 
 size-requires : tie.Need-size-requires
 size-requires c κs = search needs
 
-width-requires-2 : tie.Need-width-requires-2
-width-requires-2 c κs = search needs
+width-requires : tie.Need-width-requires
+width-requires c κs = search needs
 
 size-requires-2 : tie.Need-size-requires-2
 size-requires-2 c κs = search needs
@@ -45,34 +39,31 @@ numbers-past-requires c κs = search needs
 
 returns : tie.Need-returns
 returns c =
-    let a = c .before .before .before .before .before .before .before .before .before .before .before .args in
+    let a = c .before .before .before .before .before .before .before .before .before .args in
     c .numbers-past .ensures
-    ∙ ap₂ (λ (n w : ℕ). endOf (repeat n (number w) (a .at) (drop (a .at) (now (a .s))))) (c .before .before .before .size .ensures ∙ c .before .before .before .before .arity2 .ensures) (c .before .size2 .ensures ∙ c .before .before .width2 .ensures)
+    ∙ ap₂ (λ (n w : ℕ). endOf (repeat n (number w) (a .at) (drop (a .at) (now (a .s))))) (c .before .before .before .size .ensures ∙ c .before .before .before .before .arity .ensures) (c .before .size2 .ensures ∙ c .before .before .width .ensures)
     ∙ sym (numbers-end (numericIs (a .n)) (a .at) (drop (a .at) (now (a .s))))
 
-add-t7 : tie.Need-add-t7
-add-t7 c = search needs
+add-t5 : tie.Need-add-t5
+add-t5 c = search needs
 
 returns-2 : tie.Need-returns-2
 returns-2 c =
-    let a = c .before .before .before .before .before .before .args in
+    let a = c .before .before .before .before .args in
     let k = numericIs (a .n) in
-    let t : c .before .before .product .result ≡ arity k * width k = c .before .before .product .ensures ∙ ap₂ (λ (n w : ℕ). n * w) (c .before .before .before .before .arity .ensures) (c .before .before .before .width .ensures) in
-    ap (λ (m : ℕ). Next (a .at + m)) t ∙ row-whole (now (a .s)) (a .at) (arity k) (width k) (omega arith) ∙ sym (numbers-end k (a .at) (drop (a .at) (now (a .s))))
+    ap (λ (m : ℕ). Next (a .at + m)) (c .before .before .byte-count .ensures) ∙ row-whole (now (a .s)) (a .at) (arity k) (width k) (omega arith) ∙ sym (numbers-end k (a .at) (drop (a .at) (now (a .s))))
 
 pub numeric-past-spec : {M : Type 1} → statement M
 numeric-past-spec =
     tie.close
     (tie.spec
-    arity-requires
-    width-requires
-    product-requires
+    byte-count-requires
     left-requires
-    arity-requires-2
+    arity-requires
     size-requires
-    width-requires-2
+    width-requires
     size-requires-2
     numbers-past-requires
     returns
-    add-t7
+    add-t5
     returns-2)
