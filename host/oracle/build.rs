@@ -20,6 +20,7 @@ fn stop(message: &str) -> ! {
 fn main() {
     println!("cargo:rerun-if-env-changed=SII_SOURCE");
     println!("cargo:rerun-if-env-changed=SII_REGISTRY");
+    println!("cargo:rerun-if-env-changed=SII_RUSTC_FLAGS");
     println!("cargo:rerun-if-changed=build.rs");
     let out = PathBuf::from(env::var("OUT_DIR").unwrap());
     copy_source(&source_folder(), &out.join("src"));
@@ -106,7 +107,8 @@ fn build_crates(out: &Path) {
     );
 }
 
-/// Always with the flags of a release build, whatever profile the harness has.
+/// Always with the flags of a release build, whatever profile the harness has. SII_RUSTC_FLAGS adds
+/// to them, for the coverage counters of the fuzzer.
 fn rlib(out: &Path, name: &str, root: &Path, edition: &str, uses: &[&str]) {
     let mut rustc = Command::new(env::var("RUSTC").unwrap());
     rustc.args(["--crate-type=rlib", "--cap-lints=allow", "-Copt-level=3"]);
@@ -118,6 +120,11 @@ fn rlib(out: &Path, name: &str, root: &Path, edition: &str, uses: &[&str]) {
     // What the crates' own build scripts and default features would set.
     rustc.args(["--cfg=atomic_cas", "--cfg=has_atomics"]);
     rustc.args(["--cfg=feature=\"std\"", "--cfg=feature=\"alloc\""]);
+    rustc.args(
+        env::var("SII_RUSTC_FLAGS")
+            .unwrap_or_default()
+            .split_whitespace(),
+    );
     rustc.arg(format!("--edition={edition}"));
     rustc.arg(format!("--target={}", env::var("TARGET").unwrap()));
     rustc

@@ -15,19 +15,25 @@ pub struct Comparison {
     /// A second one, so that the model as a side and the plan keep their own last file.
     planner: Model,
     /// Compared with the Rust and the model, if it is there.
-    pub library: Option<Box<dyn Implementation>>,
+    pub library: Option<Box<dyn Implementation + Send>>,
 }
 
 impl Comparison {
-    /// `random` decides only what is asked beyond the fixed questions.
+    /// A file and a random value; see `whole` and `element`.
     pub fn file(&mut self, file: &[u8], random: &mut Random, tally: &mut Tally) -> Check {
+        self.whole(file, random, tally)?;
+        let (type_id, part) = generate::element(random);
+        let index = random.below(6) as u64;
+        self.element(type_id, &part, index, tally)
+    }
+
+    /// `random` decides only what is asked beyond the fixed questions.
+    pub fn whole(&mut self, file: &[u8], random: &mut Random, tally: &mut Tally) -> Check {
         let plan = Plan::new(&mut self.planner, file);
         let verdict = Verdict::new(file, &mut self.planner, tally);
         let garbage = random.number() as u32;
         let mut model = Side::new("model", &mut self.model, garbage);
         oracle_side::compare(&mut model, file, &plan, &verdict, tally)?;
-        let (type_id, part) = generate::element(random);
-        element_fault(type_id, &part, tally)?;
         let Some(library) = &mut self.library else {
             return Ok(());
         };
@@ -39,8 +45,21 @@ impl Comparison {
             file,
             tally,
         };
-        pair.compare(&plan, random)?;
-        let index = random.below(6) as u64;
-        pair.element(type_id, &part, index)
+        pair.compare(&plan, random)
+    }
+
+    /// The element call on bytes that no file vouches for.
+    pub fn element(&mut self, type_id: u32, part: &[u8], index: u64, tally: &mut Tally) -> Check {
+        element_fault(type_id, part, tally)?;
+        let Some(library) = &mut self.library else {
+            return Ok(());
+        };
+        let mut pair = Pair {
+            library: &mut Side::new("library", library.as_mut(), 0),
+            model: &mut Side::new("model", &mut self.model, 0),
+            file: &[],
+            tally,
+        };
+        pair.element(type_id, part, index)
     }
 }

@@ -242,7 +242,7 @@ impl Implementation for Impostor {
 /// Files looked at until the first difference.
 fn files_until_found(fault: Option<Fault>, most: u64) -> Option<u64> {
     let model = Model::default();
-    let library: Box<dyn Implementation> = match fault {
+    let library: Box<dyn Implementation + Send> = match fault {
         Some(fault) => Box::new(Impostor { model, fault }),
         None => Box::new(model),
     };

@@ -1,0 +1,53 @@
+//! One input, taken as a file and as a value.
+
+use crate::wrong::Wrong;
+use calls::Implementation;
+use differential::compare::Comparison;
+use differential::linked::Linked;
+use differential::report::{Check, Tally};
+use generate::Random;
+
+pub struct Harness {
+    comparison: Comparison,
+    pub tally: Tally,
+}
+
+impl Harness {
+    pub fn new(wrong: bool) -> Harness {
+        let library: Box<dyn Implementation + Send> = match wrong {
+            false => Box::new(Linked),
+            true => Box::new(Wrong(Linked)),
+        };
+        let mut comparison = Comparison::default();
+        comparison.library = Some(library);
+        Harness {
+            comparison,
+            tally: Tally::default(),
+        }
+    }
+
+    /// What is asked follows from the input alone, so that a kept input shows its difference again.
+    pub fn input(&mut self, input: &[u8]) -> Check {
+        let mut random = Random::new(checksum(input), 0);
+        self.comparison.whole(input, &mut random, &mut self.tally)?;
+        match input {
+            [type_id, index, part @ ..] => {
+                let (type_id, index) = (u32::from(*type_id), u64::from(*index));
+                self.comparison
+                    .element(type_id, part, index, &mut self.tally)
+            }
+            _ => Ok(()),
+        }
+    }
+}
+
+/// The bytes that `input` takes as this value.
+pub fn value_input(type_id: u8, index: u8, part: &[u8]) -> Vec<u8> {
+    [&[type_id, index], part].concat()
+}
+
+/// FNV-1a.
+fn checksum(bytes: &[u8]) -> u64 {
+    let mix = |sum: u64, byte: &u8| (sum ^ u64::from(*byte)).wrapping_mul(0x0100_0000_01b3);
+    bytes.iter().fold(0xcbf2_9ce4_8422_2325, mix)
+}

@@ -1,0 +1,29 @@
+//! The inputs that a run starts from.
+
+use crate::harness::value_input;
+use generate::Random;
+
+/// No input is longer, seed or not.
+pub const LONGEST: usize = 4096;
+
+const SEED: u64 = 1;
+const FILES: u64 = 1000;
+const VALUES: u64 = 300;
+
+/// The files of `crates/replay`, 01's worked bytes first; then files and values of the generator.
+pub fn seeds() -> Vec<Vec<u8>> {
+    let recorded = record::entries().into_iter().map(|entry| entry.file);
+    let drawn = (0..FILES).map(|index| generate::file(SEED, index));
+    let mut seeds: Vec<_> = recorded
+        .chain(drawn)
+        .chain((0..VALUES).map(value))
+        .collect();
+    seeds.retain(|seed| seed.len() <= LONGEST);
+    seeds
+}
+
+fn value(stream: u64) -> Vec<u8> {
+    let mut random = Random::new(!SEED, stream);
+    let (type_id, part) = generate::element(&mut random);
+    value_input(type_id as u8, random.below(6) as u8, &part)
+}
