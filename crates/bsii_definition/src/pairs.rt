@@ -124,7 +124,7 @@ pub fn same_count(s: &[u8], fields: usize, last_fields: usize) -> bool
     let mut field = fields;
     let mut last_field = last_fields;
     loop {
-        let pair = pair_at(s, field, last_field);
+        let pair = unlike_pair(s, field, last_field);
         match pair {
             Pair::Ends => return true,
             Pair::Uneven => return false,

@@ -152,7 +152,13 @@ pub fn write_field(
         Shape::Unlisted => return Lines::NotInList,
         Shape::One(kind) => {
             let next = write_opening(out, to, s, d);
-            return write_rest(out, next, s, at, kind, d);
+            // Told apart here, a kind need not be read as a whole from where its parts were stored a moment before.
+            match kind {
+                Kind::Numbers(n) => return write_rest(out, next, s, at, Kind::Numbers(n), d),
+                Kind::String => return write_rest(out, next, s, at, Kind::String, d),
+                Kind::EncodedString => return write_rest(out, next, s, at, Kind::EncodedString, d),
+                Kind::Id => return write_rest(out, next, s, at, Kind::Id, d),
+            }
         }
         Shape::Many(kind) => return write_array(out, to, s, at, kind, d),
     }

@@ -1,13 +1,13 @@
 -- Elements and arrays of them: where they end.
-use mathlib.Core.Path.{_≡_, ap, _∙_}
+use mathlib.Core.Path.{_≡_, sym, ap, _∙_}
 use Prim.Native.Nat.{ℕ, _*_}
-use mathlib.Core.Option.{some}
+use mathlib.Core.Option.{Option, some}
 use mathlib.Core.List.{List}
 use Rattle.bsii_format.specs.Replies.{Fault}
 use Rattle.bsii_format.specs.Reader.{ok, fault, repeat, consumed, _>>=_, _<$>_}
 use Rattle.bsii_format.specs.Numbers.{number}
-use Rattle.bsii_format.specs.Types.{Numeric, width, arity, Kind, numbers, one, many}
-use Rattle.bsii_format.specs.Values.{nums, single, array, elementParser, shapeParser}
+use Rattle.bsii_format.specs.Types.{Numeric, width, arity, Kind, numbers, Shape, one, many, shapeOf}
+use Rattle.bsii_format.specs.Values.{nums, single, array, elementParser, shapeParser, valueParser}
 use Rattle.bsii_format.proofs.Readers.{map-fault}
 use Rattle.bsii_format.proofs.Positions.{ended, bind-ok, bind-fault, ended-map, ended-consumed, ended-repeat, repeat-repeat}
 use Rattle.bsii_value.specs.Answers.{endOf}
@@ -24,6 +24,11 @@ pub one-end : (k : Kind) (at : ℕ) (s : List ℕ) → endOf (shapeParser (some 
 unfolding shapeParser
 one-end k at s =
     alike ((single <$> consumed (elementParser k)) at s) (elementParser k at s) (ended-map single (consumed (elementParser k)) at s ∙ ended-consumed (elementParser k) at s)
+
+-- a value of a type with a single element
+pub one-value : (type : ℕ) {k : Kind} (at : ℕ) (s : List ℕ) → some (one k) ≡ shapeOf type → endOf (elementParser k at s) ≡ endOf (valueParser type at s)
+unfolding valueParser
+one-value type {k} at s e = sym (one-end k at s) ∙ ap (λ (o : Option Shape). endOf (shapeParser o at s)) e
 
 pub many-short : (k : Kind) (at : ℕ) (s : List ℕ) {x : Fault} → number 4 at s ≡ fault x → shapeParser (some (many k)) at s ≡ fault x
 unfolding shapeParser

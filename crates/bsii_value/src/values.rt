@@ -114,7 +114,13 @@ pub fn value_parser(s: &[u8], at: usize, type_id: u32) -> Parsed
 {
     let shape = shape_of(type_id);
     match shape {
-        Shape::One(kind) => element_parser(s, at, kind),
+        // As in element_parser: told apart here, a kind need not be read as a whole from where its parts were stored a moment before.
+        Shape::One(kind) => match kind {
+            Kind::Numbers(n) => numeric_past(s, at, n),
+            Kind::String => str_end(s, at),
+            Kind::EncodedString => word_past(s, at),
+            Kind::Id => id_parser(s, at),
+        },
         Shape::Many(kind) => array_parser(s, at, kind),
         Shape::Unlisted => Parsed::Fault {
             number: 7,

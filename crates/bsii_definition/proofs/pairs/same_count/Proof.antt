@@ -18,8 +18,8 @@ abbrev μ-loop : tie.MeasureT-loop
 loop-holds : tie.Need-loop-holds Inv-loop μ-loop
 loop-holds c = let a = c .before .args in count-start (now (a .s)) (a .fields) (a .last-fields)
 
-pair-at-requires : tie.Need-pair-at-requires Inv-loop μ-loop
-pair-at-requires c κs = search needs
+unlike-pair-requires : tie.Need-unlike-pair-requires Inv-loop μ-loop
+unlike-pair-requires c κs = search needs
 
 enum-told : tie.Need-enum-told Inv-loop μ-loop
 enum-told c = search needs
@@ -29,7 +29,7 @@ returns c =
     let l = c .before .before .before in
     let a = l .before .before .args in
     count-ends (now (a .s)) (a .fields) (a .last-fields) (l .loop .field) (l .loop .last-field) (l .loop .inv)
-    (subst (PairOf (now (a .s)) (l .loop .field) (l .loop .last-field)) (c .enum-told .given .1) (c .before .before .pair-at .ensures))
+    (subst (PairOf (now (a .s)) (l .loop .field) (l .loop .last-field)) (c .enum-told .given .1) (c .before .before .unlike-pair .ensures))
 
 enum-told-2 : tie.Need-enum-told-2 Inv-loop μ-loop
 enum-told-2 c = search needs
@@ -39,7 +39,7 @@ returns-2 c =
     let l = c .before .before .before in
     let a = l .before .before .args in
     count-uneven (now (a .s)) (a .fields) (a .last-fields) (l .loop .field) (l .loop .last-field) (l .loop .inv)
-    (subst (PairOf (now (a .s)) (l .loop .field) (l .loop .last-field)) (c .enum-told2 .given .1) (c .before .before .pair-at .ensures))
+    (subst (PairOf (now (a .s)) (l .loop .field) (l .loop .last-field)) (c .enum-told2 .given .1) (c .before .before .unlike-pair .ensures))
 
 enum-known-pair : tie.Need-enum-known-pair Inv-loop μ-loop
 enum-known-pair c = search needs
@@ -48,7 +48,7 @@ loop-less : tie.Need-loop-less Inv-loop μ-loop
 loop-less c =
     let l = c .before .before .before .before in
     let a = l .before .before .args in
-    let p = subst (PairOf (now (a .s)) (l .loop .field) (l .loop .last-field)) (c .before .pair .given .1) (c .before .before .before .pair-at .ensures) in
+    let p = subst (PairOf (now (a .s)) (l .loop .field) (l .loop .last-field)) (c .before .pair .given .1) (c .before .before .before .unlike-pair .ensures) in
     omega (arith, p .inside)
 
 loop-again : tie.Need-loop-again Inv-loop μ-loop
@@ -56,7 +56,7 @@ loop-again c =
     let l = c .before .before .before .before in
     let a = l .before .before .args in
     count-on (now (a .s)) (a .fields) (a .last-fields) (l .loop .field) (l .loop .last-field) (l .loop .inv)
-    (subst (PairOf (now (a .s)) (l .loop .field) (l .loop .last-field)) (c .before .pair .given .1) (c .before .before .before .pair-at .ensures))
+    (subst (PairOf (now (a .s)) (l .loop .field) (l .loop .last-field)) (c .before .pair .given .1) (c .before .before .before .unlike-pair .ensures))
 
 pub same-count-spec : {M : Type 1} → statement M
 same-count-spec =
@@ -65,7 +65,7 @@ same-count-spec =
     Inv-loop
     μ-loop
     loop-holds
-    pair-at-requires
+    unlike-pair-requires
     enum-told
     returns
     enum-told-2

@@ -1,10 +1,13 @@
 use mathlib.Core.Path.{sym, ap, _∙_}
 use denote.Ref.{now}
-use Rattle.bsii_value.specs.Kinds.{shapeIs}
+use Rattle.bsii_value.specs.Kinds.{kindIs, shapeIs}
 use Rattle.bsii_lines.proofs.ArrayLaws.{field-unlisted, field-single, field-array}
 use borrow.Author.Needs.{needs}
 use Rattle.bsii_lines.proofs.fields.write_field.Statement.{statement}
 use Rattle.bsii_lines.proofs.fields.write_field.Tie as tie
+use mathlib.Core.Option.{some}
+use Rattle.bsii_format.specs.Types.{one}
+use Rattle.bsii_value.specs.declared.types.Kind.{Kind}
 
 shape-of-requires : tie.Need-shape-of-requires
 shape-of-requires c κs = search needs
@@ -21,6 +24,9 @@ enum-known-shape c = search needs
 write-opening-requires : tie.Need-write-opening-requires
 write-opening-requires c κs = search needs
 
+enum-known-kind : tie.Need-enum-known-kind
+enum-known-kind c = search needs
+
 write-rest-requires : tie.Need-write-rest-requires
 write-rest-requires c κs = search needs
 
@@ -28,7 +34,51 @@ same-length : tie.Need-same-length
 same-length c = search needs
 
 returns-2 : tie.Need-returns-2
-returns-2 c = let a = c .before .before .before .before .before .before .before .before .before .before .before .before .before .before .args in field-single (now (a .s)) (a .at) (a .type-id) (a .d) (sym (c .before .before .before .before .before .before .before .before .before .before .before .shape-of .ensures) ∙ ap shapeIs (c .before .before .before .before .before .before .before .before .before .shape .given .1)) (c .before .before .before .before .before .before .write-opening .ensures) (c .before .before .write-rest .ensures)
+returns-2 c =
+    let a = c .before .before .before .before .before .before .before .before .before .before .before .before .before .before .before .before .before .args in
+    field-single (now (a .s)) (a .at) (a .type-id) (a .d) (sym (c .before .before .before .before .before .before .before .before .before .before .before .before .before .before .shape-of .ensures) ∙ ap shapeIs (c .before .before .before .before .before .before .before .before .before .before .before .before .shape .given .1) ∙ ap (λ (k : Kind). some (one (kindIs k))) (c .before .before .before .before .before .kind .given .1)) (c .before .before .before .before .before .before .before .before .before .write-opening .ensures) (c .before .before .write-rest .ensures)
+
+enum-told-2 : tie.Need-enum-told-2
+enum-told-2 c = search needs
+
+write-rest-requires-2 : tie.Need-write-rest-requires-2
+write-rest-requires-2 c κs = search needs
+
+same-length-2 : tie.Need-same-length-2
+same-length-2 c = search needs
+
+returns-3 : tie.Need-returns-3
+returns-3 c =
+    let a = c .before .before .before .before .before .before .before .before .before .before .before .before .before .before .before .before .args in
+    field-single (now (a .s)) (a .at) (a .type-id) (a .d) (sym (c .before .before .before .before .before .before .before .before .before .before .before .before .before .shape-of .ensures) ∙ ap shapeIs (c .before .before .before .before .before .before .before .before .before .before .before .shape .given .1) ∙ ap (λ (k : Kind). some (one (kindIs k))) (c .before .before .before .before .enum-told2 .given .1)) (c .before .before .before .before .before .before .before .before .write-opening .ensures) (c .before .before .write-rest2 .ensures)
+
+enum-told-3 : tie.Need-enum-told-3
+enum-told-3 c = search needs
+
+write-rest-requires-3 : tie.Need-write-rest-requires-3
+write-rest-requires-3 c κs = search needs
+
+same-length-3 : tie.Need-same-length-3
+same-length-3 c = search needs
+
+returns-4 : tie.Need-returns-4
+returns-4 c =
+    let a = c .before .before .before .before .before .before .before .before .before .before .before .before .before .before .before .before .args in
+    field-single (now (a .s)) (a .at) (a .type-id) (a .d) (sym (c .before .before .before .before .before .before .before .before .before .before .before .before .before .shape-of .ensures) ∙ ap shapeIs (c .before .before .before .before .before .before .before .before .before .before .before .shape .given .1) ∙ ap (λ (k : Kind). some (one (kindIs k))) (c .before .before .before .before .enum-told3 .given .1)) (c .before .before .before .before .before .before .before .before .write-opening .ensures) (c .before .before .write-rest3 .ensures)
+
+enum-told-4 : tie.Need-enum-told-4
+enum-told-4 c = search needs
+
+write-rest-requires-4 : tie.Need-write-rest-requires-4
+write-rest-requires-4 c κs = search needs
+
+same-length-4 : tie.Need-same-length-4
+same-length-4 c = search needs
+
+returns-5 : tie.Need-returns-5
+returns-5 c =
+    let a = c .before .before .before .before .before .before .before .before .before .before .before .before .before .before .before .before .args in
+    field-single (now (a .s)) (a .at) (a .type-id) (a .d) (sym (c .before .before .before .before .before .before .before .before .before .before .before .before .before .shape-of .ensures) ∙ ap shapeIs (c .before .before .before .before .before .before .before .before .before .before .before .shape .given .1) ∙ ap (λ (k : Kind). some (one (kindIs k))) (c .before .before .before .before .enum-told4 .given .1)) (c .before .before .before .before .before .before .before .before .write-opening .ensures) (c .before .before .write-rest4 .ensures)
 
 enum-known-shape-2 : tie.Need-enum-known-shape-2
 enum-known-shape-2 c = search needs
@@ -36,11 +86,11 @@ enum-known-shape-2 c = search needs
 write-array-requires : tie.Need-write-array-requires
 write-array-requires c κs = search needs
 
-same-length-2 : tie.Need-same-length-2
-same-length-2 c = search needs
+same-length-5 : tie.Need-same-length-5
+same-length-5 c = search needs
 
-returns-3 : tie.Need-returns-3
-returns-3 c = let a = c .before .before .before .before .before .before .before .before .before .before .args in field-array (now (a .s)) (a .at) (a .type-id) (a .d) (sym (c .before .before .before .before .before .before .before .shape-of .ensures) ∙ ap shapeIs (c .before .before .before .before .before .shape2 .given .1)) (c .before .before .write-array .ensures)
+returns-6 : tie.Need-returns-6
+returns-6 c = let a = c .before .before .before .before .before .before .before .before .before .before .args in field-array (now (a .s)) (a .at) (a .type-id) (a .d) (sym (c .before .before .before .before .before .before .before .shape-of .ensures) ∙ ap shapeIs (c .before .before .before .before .before .shape2 .given .1)) (c .before .before .write-array .ensures)
 
 pub write-field-spec : {M : Type 1} → statement M
 write-field-spec =
@@ -51,10 +101,23 @@ write-field-spec =
     returns
     enum-known-shape
     write-opening-requires
+    enum-known-kind
     write-rest-requires
     same-length
     returns-2
+    enum-told-2
+    write-rest-requires-2
+    same-length-2
+    returns-3
+    enum-told-3
+    write-rest-requires-3
+    same-length-3
+    returns-4
+    enum-told-4
+    write-rest-requires-4
+    same-length-4
+    returns-5
     enum-known-shape-2
     write-array-requires
-    same-length-2
-    returns-3)
+    same-length-5
+    returns-6)

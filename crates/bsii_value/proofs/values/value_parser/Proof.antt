@@ -1,26 +1,50 @@
--- `values::value_parser`: The shape that the table gives decides.
 use mathlib.Core.Option.{Option}
 use mathlib.Core.Path.{sym, ap, _∙_}
 use lib.ListN.{drop}
 use denote.Ref.{now}
 use Rattle.bsii_format.specs.Reader.{fail}
 use Rattle.bsii_format.specs.Types.{Shape}
-use Rattle.bsii_format.specs.Values.{shapeParser, valueParser}
+use Rattle.bsii_format.specs.Values.{str, word, ident, elementParser, shapeParser, valueParser}
+use Rattle.bsii_format.specs.Strings.{strParser, encodedStrParser, idParser}
+use Rattle.bsii_value.specs.declared.types.Kind.{Kind}
+use Rattle.bsii_value.proofs.Ends.{mapped}
 use Rattle.bsii_value.specs.Answers.{endOf}
 use Rattle.bsii_value.specs.Kinds.{kindIs, shapeIs}
-use Rattle.bsii_value.proofs.Elements.{one-end}
+use Rattle.bsii_value.proofs.Elements.{one-value}
 use borrow.Author.Needs.{needs}
 use Rattle.bsii_value.proofs.values.value_parser.Statement.{statement}
 use Rattle.bsii_value.proofs.values.value_parser.Tie as tie
 
+-- `values::value_parser`: The shape that the table gives decides.
 shape-of-requires : tie.Need-shape-of-requires
 shape-of-requires c κs = search needs
 
 enum-known-shape : tie.Need-enum-known-shape
 enum-known-shape c = search needs
 
-element-parser-requires : tie.Need-element-parser-requires
-element-parser-requires c κs = search needs
+enum-known-kind : tie.Need-enum-known-kind
+enum-known-kind c = search needs
+
+numeric-past-requires : tie.Need-numeric-past-requires
+numeric-past-requires c κs = search needs
+
+enum-told : tie.Need-enum-told
+enum-told c = search needs
+
+str-end-requires : tie.Need-str-end-requires
+str-end-requires c κs = search needs
+
+enum-told-2 : tie.Need-enum-told-2
+enum-told-2 c = search needs
+
+word-past-requires : tie.Need-word-past-requires
+word-past-requires c κs = search needs
+
+enum-told-3 : tie.Need-enum-told-3
+enum-told-3 c = search needs
+
+id-parser-requires : tie.Need-id-parser-requires
+id-parser-requires c κs = search needs
 
 enum-known-shape-2 : tie.Need-enum-known-shape-2
 enum-known-shape-2 c = search needs
@@ -28,29 +52,48 @@ enum-known-shape-2 c = search needs
 array-parser-requires : tie.Need-array-parser-requires
 array-parser-requires c κs = search needs
 
-enum-told : tie.Need-enum-told
-enum-told c = search needs
+enum-told-4 : tie.Need-enum-told-4
+enum-told-4 c = search needs
 
 returns : tie.Need-returns
-unfolding valueParser
 returns c =
-    let a = c .before .before .before .before .before .before .args in
-    let k = c .before .before .shape .given in
-    c .element-parser .ensures ∙ sym (one-end (kindIs (k .0 .0)) (a .at) (drop (a .at) (now (a .s))))
-    ∙ ap (λ (o : Option Shape). endOf (shapeParser o (a .at) (drop (a .at) (now (a .s))))) (ap shapeIs (sym (k .1)) ∙ c .before .before .before .before .shape-of .ensures)
+    let a = c .before .before .before .before .before .before .before .before .before .args in
+    c .numeric-past .ensures ∙ ap (λ (k : Kind). endOf (elementParser (kindIs k) (a .at) (drop (a .at) (now (a .s))))) (sym (c .before .before .kind .given .1))
+    ∙ one-value (a .type-id) (a .at) (drop (a .at) (now (a .s))) (ap shapeIs (sym (c .before .before .before .before .before .shape .given .1)) ∙ c .before .before .before .before .before .before .before .shape-of .ensures)
 
 returns-2 : tie.Need-returns-2
-unfolding valueParser
+unfolding elementParser
 returns-2 c =
+    let a = c .before .before .before .before .before .before .before .before .args in
+    c .str-end .ensures ∙ sym (mapped str strParser (a .at) (drop (a .at) (now (a .s)))) ∙ ap (λ (k : Kind). endOf (elementParser (kindIs k) (a .at) (drop (a .at) (now (a .s))))) (sym (c .before .enum-told .given .1))
+    ∙ one-value (a .type-id) (a .at) (drop (a .at) (now (a .s))) (ap shapeIs (sym (c .before .before .before .before .shape .given .1)) ∙ c .before .before .before .before .before .before .shape-of .ensures)
+
+returns-3 : tie.Need-returns-3
+unfolding elementParser
+returns-3 c =
+    let a = c .before .before .before .before .before .before .before .before .args in
+    c .word-past .ensures ∙ sym (mapped word encodedStrParser (a .at) (drop (a .at) (now (a .s)))) ∙ ap (λ (k : Kind). endOf (elementParser (kindIs k) (a .at) (drop (a .at) (now (a .s))))) (sym (c .before .enum-told2 .given .1))
+    ∙ one-value (a .type-id) (a .at) (drop (a .at) (now (a .s))) (ap shapeIs (sym (c .before .before .before .before .shape .given .1)) ∙ c .before .before .before .before .before .before .shape-of .ensures)
+
+returns-4 : tie.Need-returns-4
+unfolding elementParser
+returns-4 c =
+    let a = c .before .before .before .before .before .before .before .before .args in
+    c .id-parser .ensures ∙ sym (mapped ident idParser (a .at) (drop (a .at) (now (a .s)))) ∙ ap (λ (k : Kind). endOf (elementParser (kindIs k) (a .at) (drop (a .at) (now (a .s))))) (sym (c .before .enum-told3 .given .1))
+    ∙ one-value (a .type-id) (a .at) (drop (a .at) (now (a .s))) (ap shapeIs (sym (c .before .before .before .before .shape .given .1)) ∙ c .before .before .before .before .before .before .shape-of .ensures)
+
+returns-5 : tie.Need-returns-5
+unfolding valueParser
+returns-5 c =
     let a = c .before .before .before .before .before .before .args in
     c .array-parser .ensures
     ∙ ap (λ (o : Option Shape). endOf (shapeParser o (a .at) (drop (a .at) (now (a .s))))) (ap shapeIs (sym (c .before .before .shape2 .given .1)) ∙ c .before .before .before .before .shape-of .ensures)
 
-returns-3 : tie.Need-returns-3
+returns-6 : tie.Need-returns-6
 unfolding valueParser shapeParser fail endOf
-returns-3 c =
+returns-6 c =
     let a = c .before .before .before .before .args in
-    ap (λ (o : Option Shape). endOf (shapeParser o (a .at) (drop (a .at) (now (a .s))))) (ap shapeIs (sym (c .enum-told .given .1)) ∙ c .before .before .shape-of .ensures)
+    ap (λ (o : Option Shape). endOf (shapeParser o (a .at) (drop (a .at) (now (a .s))))) (ap shapeIs (sym (c .enum-told4 .given .1)) ∙ c .before .before .shape-of .ensures)
 
 pub value-parser-spec : {M : Type 1} → statement M
 value-parser-spec =
@@ -58,10 +101,20 @@ value-parser-spec =
     (tie.spec
     shape-of-requires
     enum-known-shape
-    element-parser-requires
+    enum-known-kind
+    numeric-past-requires
+    enum-told
+    str-end-requires
+    enum-told-2
+    word-past-requires
+    enum-told-3
+    id-parser-requires
     enum-known-shape-2
     array-parser-requires
-    enum-told
+    enum-told-4
     returns
     returns-2
-    returns-3)
+    returns-3
+    returns-4
+    returns-5
+    returns-6)
