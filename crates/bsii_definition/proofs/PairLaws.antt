@@ -17,7 +17,7 @@ use Rattle.bsii_prototype.specs.declared.answers.Entry.the-variants.{Field}
 use Rattle.bsii_prototype.proofs.answers.Entry.{the-type}
 use Rattle.bsii_prototype.proofs.Turns.{turn-field, turn-last, turn-bad}
 use Rattle.bsii_field.proofs.Entries.{unfielded, field-inside}
-use Rattle.bsii_definition.specs.Pairs.{Begins, Describes, Paired, PairIs, both, ends, last-longer, last-shorter, PairOf, WithLast, WithoutLast, SameCount}
+use Rattle.bsii_definition.specs.Pairs.{definition, Begins, Describes, Paired, PairIs, both, ends, last-longer, last-shorter, PairOf, WithLast, WithoutLast, SameCount}
 use Rattle.bsii_definition.specs.declared.pairs.Definition.{Definition}
 use Rattle.bsii_definition.specs.declared.pairs.Pair.{Pair}
 use Rattle.bsii_definition.specs.declared.pairs.Pair.the-variants.{Both, Ends, Uneven}
@@ -43,7 +43,7 @@ module _ (s : List ℕ) (at : ℕ) {type a b next : ℕ} (f : Field type a b nex
   unfolding here
   typed = turn-field s at e f .typed
 
-  pub describes : Describes s (record { «type_id» = type; name = a; «name_end» = b }) (here .value)
+  pub describes : Describes s (definition type a b) (here .value)
   unfolding here
   describes = let y = turn-field s at e f in record { typed = y .typed; name = y .name; end = next; enums = y .enums }
 
@@ -54,7 +54,7 @@ module _ (s : List ℕ) (field : ℕ) where
   same-end x h f = record { is = λ l n t e m o u g. ends (at-end s field e x h f) (at-end s field g x h f); inside = tt }
 
   pub same-both : {type a b next : ℕ} → Field type a b next ≡ entryOf (field + 8) (entryWith uncheckedStr field (drop field s))
-      → PairOf s field field (Both type (record { «type_id» = type; name = a; «name_end» = b }) next next)
+      → PairOf s field field (Both type type a b next next)
   same-both f = record {
     is = λ l n t e m o u g. both (record {
       inForce = here s field f e;
@@ -72,7 +72,7 @@ module _ (s : List ℕ) (type next lastField : ℕ) where
   last-shorter-here x h f = record { is = λ l n t d e b m o u g. last-shorter (b .fields) (at-end s lastField g x h f); inside = λ field k j. tt }
 
   pub last-too : {lastType a b lastNext : ℕ} → Field lastType a b lastNext ≡ entryOf (lastField + 8) (entryWith uncheckedStr lastField (drop lastField s))
-      → WithLast s type next lastField (Both type (record { «type_id» = lastType; name = a; «name_end» = b }) next lastNext)
+      → WithLast s type next lastField (Both type lastType a b next lastNext)
   last-too f = record {
     is = λ l n t d e b m o u g. both (record {
       inForce = d;
@@ -146,7 +146,7 @@ module _ (s : List ℕ) (fields lastFields field lastField : ℕ) (k : Counting 
       go x (last-longer p {fs = fs} q) = sym (ap₂ (λ (c d : List (Consumed ValuePrototype)). eqb (length c) (length d)) q p ∙ eqb·suc-zero (length fs))
       go x (last-shorter {fs = fs} p q) = sym (ap₂ (λ (c d : List (Consumed ValuePrototype)). eqb (length c) (length d)) q p ∙ eqb·zero-suc (length fs))
 
-  pub count-on : {type : ℕ} {d : Definition} {next lastNext : ℕ} → PairOf s field lastField (Both type d next lastNext) → Counting s fields lastFields next lastNext
+  pub count-on : {type lastType name nameEnd next lastNext : ℕ} → PairOf s field lastField (Both type lastType name nameEnd next lastNext) → Counting s fields lastFields next lastNext
   count-on p = record {
     rest = λ l n t e m o u f.
         let x = k .rest l n t e m o u f in
@@ -162,6 +162,7 @@ module _ (s : List ℕ) (fields lastFields field lastField : ℕ) (k : Counting 
         };
   }
     where
-      paired : {l : Fields} {n : ℕ} {t : List ℕ} {m : Fields} {o : ℕ} {u : List ℕ} {type : ℕ} {d : Definition} {next lastNext : ℕ} → PairIs s l n t m o u (Both type d next lastNext)
-          → Paired s type d next lastNext l n t m o u
+      paired : {l : Fields} {n : ℕ} {t : List ℕ} {m : Fields} {o : ℕ} {u : List ℕ} {type lastType name nameEnd next lastNext : ℕ}
+          → PairIs s l n t m o u (Both type lastType name nameEnd next lastNext)
+          → Paired s type (definition lastType name nameEnd) next lastNext l n t m o u
       paired (both p) = p

@@ -17,6 +17,10 @@ pub record Begins (s : List ℕ) (next : ℕ) (f : Consumed ValuePrototype) (l :
   pub more : fieldsParser next (drop next s) ≡ ok rest n t
   pub fields : l .fields ≡ f ∷ rest .fields
 
+-- a definition by its parts
+abbrev pub definition : ℕ → ℕ → ℕ → Definition
+definition type name nameEnd = record { «type_id» = type; name = name; «name_end» = nameEnd }
+
 -- d has the type of the definition f, and says where its name and its enum list stand
 pub record Describes (s : List ℕ) (d : Definition) (f : ValuePrototype) : Type 0 where
   pub typed : d .«type_id» ≡ f .typeId
@@ -34,14 +38,15 @@ pub record Paired (s : List ℕ) (typeId : ℕ) (d : Definition) (next lastNext 
   pub describes : Describes s d (last .value)
 
 pub data PairIs (s : List ℕ) (l : Fields) (n : ℕ) (t : List ℕ) (m : Fields) (o : ℕ) (u : List ℕ) : Pair → Type 0 where
-  both : {typeId : ℕ} {d : Definition} {next lastNext : ℕ} → Paired s typeId d next lastNext l n t m o u → PairIs s l n t m o u (Both typeId d next lastNext)
+  both : {typeId lastType name nameEnd next lastNext : ℕ} → Paired s typeId (definition lastType name nameEnd) next lastNext l n t m o u
+      → PairIs s l n t m o u (Both typeId lastType name nameEnd next lastNext)
   ends : l .fields ≡ [] → m .fields ≡ [] → PairIs s l n t m o u Ends
   last-longer : l .fields ≡ [] → {f : Consumed ValuePrototype} {fs : List (Consumed ValuePrototype)} → m .fields ≡ f ∷ fs → PairIs s l n t m o u Uneven
   last-shorter : {f : Consumed ValuePrototype} {fs : List (Consumed ValuePrototype)} → l .fields ≡ f ∷ fs → m .fields ≡ [] → PairIs s l n t m o u Uneven
 
 -- for every input: the list in force goes on further down, and the name lies in the file
 abbrev pub Inside : List ℕ → ℕ → Pair → Type 0
-Inside s field (Both typeId d next lastNext) = (field < next) × (next ≤ length s) × (d .name ≤ d .«name_end») × (d .«name_end» ≤ length s)
+Inside s field (Both typeId lastType name nameEnd next lastNext) = (field < next) × (next ≤ length s) × (name ≤ nameEnd) × (nameEnd ≤ length s)
 Inside s field Ends = Unit {0}
 Inside s field Uneven = Unit {0}
 

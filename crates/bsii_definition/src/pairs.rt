@@ -10,11 +10,13 @@ pub struct Definition {
     pub name_end: usize,
 }
 
-// The type in force with the last definition, and where the two lists go on; or both lists end here; or one does.
+// The type in force with the last definition's parts, and where the two lists go on; or both lists end here; or one does.
 pub enum Pair {
     Both {
         type_id: u32,
-        last: Definition,
+        last_type: u32,
+        name: usize,
+        name_end: usize,
         next: usize,
         last_next: usize,
     },
@@ -38,11 +40,9 @@ fn same_pair(s: &[u8], field: usize) -> Pair
     };
     Pair::Both {
         type_id,
-        last: Definition {
-            type_id,
-            name,
-            name_end,
-        },
+        last_type: type_id,
+        name,
+        name_end,
         next,
         last_next: next,
     }
@@ -64,11 +64,9 @@ fn with_last(s: &[u8], type_id: u32, next: usize, last_field: usize) -> Pair
     };
     Pair::Both {
         type_id,
-        last: Definition {
-            type_id: last_type,
-            name,
-            name_end,
-        },
+        last_type,
+        name,
+        name_end,
         next,
         last_next,
     }
@@ -130,7 +128,9 @@ pub fn same_count(s: &[u8], fields: usize, last_fields: usize) -> bool
             Pair::Uneven => return false,
             Pair::Both {
                 type_id: _,
-                last: _,
+                last_type: _,
+                name: _,
+                name_end: _,
                 next,
                 last_next,
             } => {

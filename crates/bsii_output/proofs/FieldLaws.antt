@@ -18,7 +18,7 @@ use Rattle.bsii_format.proofs.Readers.{map-ok}
 use Rattle.bsii_format.proofs.Parsers.{value-exact}
 use Rattle.bsii_past.proofs.Blocks.{turn, done as no-values}
 use Rattle.bsii_element.proofs.Standing.{step}
-use Rattle.bsii_definition.specs.Pairs.{Paired, PairIs, both, ends, last-longer, last-shorter, PairOf}
+use Rattle.bsii_definition.specs.Pairs.{definition, Paired, PairIs, both, ends, last-longer, last-shorter, PairOf}
 use Rattle.bsii_definition.specs.declared.pairs.Definition.{Definition}
 use Rattle.bsii_definition.specs.declared.pairs.Pair.{Pair}
 use Rattle.bsii_definition.specs.declared.pairs.Pair.the-variants.{Both, Ends, Uneven}
@@ -147,13 +147,13 @@ module _ (s : List ℕ) (start fields lastFields : ℕ) (old : List ℕ) (to fie
       no (last-longer p {fs = fs} q) k = true≢false (sym k ∙ ap₂ (λ (c d : List (Consumed ValuePrototype)). eqb (length c) (length d)) q p ∙ eqb·suc-zero (length fs))
       no (last-shorter {fs = fs} p q) k = true≢false (sym k ∙ ap₂ (λ (c d : List (Consumed ValuePrototype)). eqb (length c) (length d)) q p ∙ eqb·zero-suc (length fs))
 
-  module _ {type : ℕ} {d : Definition} {next lastNext : ℕ} (p : PairOf s field lastField (Both type d next lastNext)) where
+  module _ {type lastType name nameEnd next lastNext : ℕ} (p : PairOf s field lastField (Both type lastType name nameEnd next lastNext)) where
     -- the pair, for lists that were accepted
     paired : {a b : Fields} {n : ℕ} {t : List ℕ} {o : ℕ} {u : List ℕ} → fieldsParser field (drop field s) ≡ ok a n t → fieldsParser lastField (drop lastField s) ≡ ok b o u
-        → Paired s type d next lastNext a n t b o u
+        → Paired s type (definition lastType name nameEnd) next lastNext a n t b o u
     paired {a} {b} {n} {t} {o} {u} e f = go (p .is a n t e b o u f)
       where
-        go : PairIs s a n t b o u (Both type d next lastNext) → Paired s type d next lastNext a n t b o u
+        go : PairIs s a n t b o u (Both type lastType name nameEnd next lastNext) → Paired s type (definition lastType name nameEnd) next lastNext a n t b o u
         go (both q) = q
 
     -- the value that stands first
@@ -172,7 +172,7 @@ module _ (s : List ℕ) (start fields lastFields : ℕ) (old : List ℕ) (to fie
         let y = paired (x .read) (x .lastRead) in
         ap (joined (gives (x .done))) (here-first x .text ∙ ap (λ (fs : List (Consumed ValuePrototype)). fieldsText valueText at fs (x .values)) (sym (y .lastBegins .fields))) ∙ x .text
 
-    pub go-absent : {new : List ℕ} → FieldWritten s at type d out here NotInList new → FieldsWritten s start fields lastFields old to (Refused 9 at) new
+    pub go-absent : {new : List ℕ} → FieldWritten s at type (definition lastType name nameEnd) out here NotInList new → FieldsWritten s start fields lastFields old to (Refused 9 at) new
     unfolding joined orRefuse
     go-absent {new} w = record {
       writes = λ l n t e m o u f vs i c k.
@@ -189,7 +189,7 @@ module _ (s : List ℕ) (start fields lastFields : ℕ) (old : List ℕ) (to fie
         stop done none more e m a h = subst (λ (r : Reply (List ℕ)). WrittenIs old to r e (Refused 9 at) new) h (refl, refl)
         stop done (some v) more e m a h = absurd a
 
-    pub go-on : {behind r : ℕ} {new : List ℕ} → FieldWritten s at type d out here (More behind r) new → Going s start fields lastFields old to next lastNext behind r new
+    pub go-on : {behind r : ℕ} {new : List ℕ} → FieldWritten s at type (definition lastType name nameEnd) out here (More behind r) new → Going s start fields lastFields old to next lastNext behind r new
     unfolding orRefuse
     go-on {behind} {r} {new} w = record {
       rest = λ l n t e m o u f vs i c k.

@@ -1,4 +1,5 @@
 // Data blocks.
+use bsii_definition::pairs::Definition;
 use bsii_definition::pairs::Pair;
 use bsii_definition::pairs::pair_at;
 use bsii_definition::pairs::same_count;
@@ -43,10 +44,17 @@ fn write_fields(
             Pair::Uneven => return Written::Next { at, to: here },
             Pair::Both {
                 type_id,
-                last,
+                last_type,
+                name,
+                name_end,
                 next,
                 last_next,
             } => {
+                let last = Definition {
+                    type_id: last_type,
+                    name,
+                    name_end,
+                };
                 let lines = write_field(out, here, s, at, type_id, last);
                 match lines {
                     Lines::NotInList => return Written::Refused {
