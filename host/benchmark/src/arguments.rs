@@ -12,11 +12,12 @@ Usage: benchmark [--rounds N] [--only INPUT]... [--markdown] [--plot FILE]
 Times the library and the unchanged Rust on the same inputs, in one process and
 in turns: reading with the Rust's parse, the text call with the Rust's parse and
 to_siin. Then each side converts each input in a process of its own, for the
-peak of its memory. The table goes to standard output.
+peak of its memory, but where the table is larger. The report goes to standard
+output.
 
   --rounds N           so many rounds, from 1 up; without it 9
   --only INPUT         only this input; may be given again
-  --markdown           the table as Markdown, with machine and date
+  --markdown           the report as Markdown
   --plot FILE          write a plot of time against size as SVG
   --memory SIDE INPUT  print the peak in bytes of one side, rust or ours;
                        if INPUT is -, the file is read from standard input
@@ -24,7 +25,9 @@ peak of its memory. The table goes to standard output.
   -h, --help           print this and exit
 
 INPUT is save-1 to save-16, a save of so many megabytes, or a hostile file:
-prototypes, names, long-text, arrays, redefinition, redefinitions, enums.
+prototypes, falling, names, long-text, arrays, redefinition, redefinitions,
+enums; or one that needs a table of more than 4,096 rows, and gets three words
+for each whole 17 bytes: rows-rising, rows-random, rows-falling.
 
 Exit status: 0 if all was measured, 1 if the two texts differ or something
 failed, 2 for bad usage.
@@ -48,7 +51,7 @@ impl Side {
 #[derive(Debug, PartialEq, Eq)]
 pub struct Run {
     pub rounds: usize,
-    /// All of the table if there are none.
+    /// All of the report if there are none.
     pub only: Vec<String>,
     pub markdown: bool,
     pub plot: Option<PathBuf>,
@@ -124,6 +127,7 @@ fn input(word: OsString, or_standard_input: bool) -> Result<String, String> {
 #[cfg(test)]
 mod tests {
     use super::*;
+    use crate::hostile::{ALL, LARGER};
 
     fn parsed(words: &[&str]) -> Result<Arguments, String> {
         parse(words.iter().map(OsString::from).collect())
@@ -197,7 +201,7 @@ mod tests {
 
     #[test]
     fn the_usage_names_every_hostile_file() {
-        for (name, ..) in crate::hostile::ALL {
+        for (name, ..) in ALL.into_iter().chain(LARGER) {
             assert!(USAGE.contains(name), "{name}");
         }
     }

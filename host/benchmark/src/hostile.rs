@@ -1,23 +1,35 @@
 //! Files that are well-formed and as awkward as the format allows. Each has one cause that makes
-//! it so, a table of at most 4,096 rows, and a text that fits into memory.
+//! it so, and a text that fits into memory. Those of `ALL` need at most 4,096 rows, those of
+//! `LARGER` more.
 
 use generate::bytes::{array, block, choice, definition, file, floats, prototype, string};
 use generate::Random;
 
-/// The table has so many rows in every run.
+/// The rows of the table for every file that needs no more.
 pub const ROWS: usize = 4096;
+/// The bytes of the smallest prototype: a file has no more rows than it has these.
+pub const SMALLEST: usize = 17;
 
 const SEED: u64 = 21;
 const SIZE: usize = 1_000_000;
+/// Of the files of `LARGER`: falling ids cost the square of their number.
+const LARGER_SIZE: usize = 500_000;
 
 type Maker = fn() -> Vec<u8>;
 
 /// Names, what they are, and the files.
-pub const ALL: [(&str, &str, Maker); 7] = [
+pub type Files<const N: usize> = [(&'static str, &'static str, Maker); N];
+
+pub const ALL: Files<8> = [
     (
         "prototypes",
-        "4,096 prototypes, and the smallest blocks of the last one",
+        "4,096 prototypes with ids in random order, and the smallest blocks of the last one",
         prototypes,
+    ),
+    (
+        "falling",
+        "4,096 of the smallest prototypes with falling ids, and two blocks",
+        falling,
     ),
     ("names", "names of 20,000 bytes, each used once", names),
     (
@@ -43,20 +55,79 @@ pub const ALL: [(&str, &str, Maker); 7] = [
     ),
 ];
 
-/// Ids without an order, so that neither sorting nor their size helps.
-fn ids() -> Vec<u32> {
+pub const LARGER: Files<3> = [
+    (
+        "rows-rising",
+        "29,410 of the smallest prototypes with rising ids, and two blocks",
+        rows_rising,
+    ),
+    (
+        "rows-random",
+        "29,410 of the smallest prototypes with ids in random order, and two blocks",
+        rows_random,
+    ),
+    (
+        "rows-falling",
+        "29,410 of the smallest prototypes with falling ids, and two blocks",
+        rows_falling,
+    ),
+];
+
+/// Different ids in random order: a new one moves half of the rows that there are, on average.
+fn random_ids(count: usize) -> Vec<u32> {
     let mut random = Random::new(SEED, 0);
-    let mut ids: Vec<u32> = (0..ROWS)
-        // The low bits make them different.
-        .map(|row| (random.number() as u32) << 12 | row as u32)
+    // The low bits make them different.
+    let low = usize::BITS - (count - 1).leading_zeros();
+    let mut ids: Vec<u32> = (0..count)
+        .map(|row| (random.number() as u32) << low | row as u32)
         .collect();
     // Zero would be an id that no block can have.
     ids[0] |= 1 << 31;
     ids
 }
 
+/// A new id moves no row.
+fn rising_ids(count: usize) -> Vec<u32> {
+    (1..=count as u32).collect()
+}
+
+/// A new id moves all of the rows that there are.
+fn falling_ids(count: usize) -> Vec<u32> {
+    let mut ids = rising_ids(count);
+    ids.reverse();
+    ids
+}
+
+/// The smallest prototypes, and the smallest block of the first and of the last one.
+fn smallest(ids: &[u32]) -> Vec<u8> {
+    let mut records: Vec<Vec<u8>> = ids.iter().map(|id| prototype(*id, b"", &[])).collect();
+    records.extend([ids[0], ids[ids.len() - 1]].map(|id| block(id, &[])));
+    file(&records)
+}
+
+/// Smaller than the others: with anything else in it, a byte would take less time.
+pub fn falling() -> Vec<u8> {
+    smallest(&falling_ids(ROWS))
+}
+
+/// As many of the smallest prototypes as go into a larger file with its header, two blocks and the
+/// end record.
+const LARGER_ROWS: usize = (LARGER_SIZE - 8 - 2 * 5 - 5) / SMALLEST;
+
+pub fn rows_rising() -> Vec<u8> {
+    smallest(&rising_ids(LARGER_ROWS))
+}
+
+pub fn rows_random() -> Vec<u8> {
+    smallest(&random_ids(LARGER_ROWS))
+}
+
+pub fn rows_falling() -> Vec<u8> {
+    smallest(&falling_ids(LARGER_ROWS))
+}
+
 pub fn prototypes() -> Vec<u8> {
-    let ids = ids();
+    let ids = random_ids(ROWS);
     let mut records: Vec<Vec<u8>> = ids.iter().map(|id| prototype(*id, b"", &[])).collect();
     let smallest = block(ids[ROWS - 1], &[]);
     let left = SIZE - records.iter().map(Vec::len).sum::<usize>();
@@ -156,7 +227,7 @@ pub fn redefinition() -> Vec<u8> {
 }
 
 pub fn redefinitions() -> Vec<u8> {
-    let ids = ids();
+    let ids = random_ids(ROWS);
     let records: Vec<Vec<u8>> = (0..SIZE / AGAIN)
         .flat_map(|number| again(ids[number % ROWS], number))
         .collect();
@@ -201,7 +272,12 @@ mod tests {
     fn sizes_and_rows() {
         for (name, _, make) in ALL {
             let bytes = make();
-            within(bytes.len(), if name == "enums" { SIZE / 4 } else { SIZE });
+            let size = match name {
+                "enums" => SIZE / 4,
+                "falling" => SMALLEST * ROWS,
+                _ => SIZE,
+            };
+            within(bytes.len(), size);
             let (prototypes, blocks, _) = counts(&bytes);
             assert!((1..=ROWS).contains(&prototypes) && blocks > 0, "{name}");
             assert!(bytes == make(), "{name}");
@@ -212,8 +288,61 @@ mod tests {
     fn as_many_prototypes_as_rows() {
         let (count, blocks, _) = counts(&prototypes());
         assert_eq!(count, ROWS);
-        within(blocks, (SIZE - 17 * ROWS) / 5);
+        within(blocks, (SIZE - SMALLEST * ROWS) / 5);
         assert_eq!(counts(&redefinitions()).0, ROWS);
+        let (count, blocks, _) = counts(&falling());
+        assert_eq!((count, blocks), (ROWS, 2));
+    }
+
+    #[test]
+    fn larger_files() {
+        for (name, about, make) in LARGER {
+            let bytes = make();
+            assert!((LARGER_SIZE - SMALLEST + 1..=LARGER_SIZE).contains(&bytes.len()));
+            let (prototypes, blocks, _) = counts(&bytes);
+            assert_eq!((prototypes, blocks), (LARGER_ROWS, 2), "{name}");
+            assert!(prototypes > ROWS && bytes == make(), "{name}");
+            assert!(about.starts_with("29,410 "), "{about}");
+        }
+        assert_eq!(LARGER_ROWS, 29_410);
+    }
+
+    /// The ids of the smallest prototypes at the front of a file.
+    fn ids_in(bytes: &[u8]) -> Vec<u32> {
+        bytes[8..]
+            .chunks_exact(SMALLEST)
+            .take_while(|record| record[..5] == [0, 0, 0, 0, 1])
+            .map(|record| u32::from_le_bytes(record[5..9].try_into().unwrap()))
+            .collect()
+    }
+
+    /// How many rows move where a new id takes its place among those in front of it.
+    fn moved(ids: &[u32]) -> usize {
+        let mut rows: Vec<u32> = Vec::new();
+        let mut moved = 0;
+        for id in ids {
+            let at = rows.binary_search(id).expect_err("a new id");
+            moved += rows.len() - at;
+            rows.insert(at, *id);
+        }
+        moved
+    }
+
+    #[test]
+    fn orders_of_the_ids() {
+        for (make, count) in [(prototypes as Maker, ROWS), (rows_random, LARGER_ROWS)] {
+            let ids = ids_in(&make());
+            assert_eq!(ids.len(), count);
+            within(moved(&ids), count * (count - 1) / 4);
+        }
+        for (make, count) in [(falling as Maker, ROWS), (rows_falling, LARGER_ROWS)] {
+            let ids = ids_in(&make());
+            assert_eq!(ids.len(), count);
+            assert!(ids.windows(2).all(|pair| pair[0] > pair[1]));
+        }
+        let ids = ids_in(&rows_rising());
+        assert_eq!(ids.len(), LARGER_ROWS);
+        assert!(ids.windows(2).all(|pair| pair[0] < pair[1]));
     }
 
     #[test]

@@ -28,14 +28,15 @@ fn save(megabytes: usize) -> Input {
 }
 
 fn hostile() -> impl Iterator<Item = Input> {
-    hostile::ALL.into_iter().map(|(name, about, make)| Input {
+    let all = hostile::ALL.into_iter().chain(hostile::LARGER);
+    all.map(|(name, about, make)| Input {
         name: name.into(),
         about: about.into(),
         make: Box::new(make),
     })
 }
 
-/// Those of the table.
+/// Those of the tables.
 pub fn table() -> Vec<Input> {
     TABLE.into_iter().map(save).chain(hostile()).collect()
 }
@@ -44,8 +45,14 @@ pub fn saves_for_plot() -> Vec<Input> {
     PLOT.into_iter().map(save).collect()
 }
 
+/// One that the bar is about.
 pub fn is_hostile(name: &str) -> bool {
     hostile::ALL.iter().any(|(hostile, ..)| *hostile == name)
+}
+
+/// One that needs a larger table.
+pub fn is_larger(name: &str) -> bool {
+    hostile::LARGER.iter().any(|(larger, ..)| *larger == name)
 }
 
 /// The one of that name: a save of any size from 1 to 16 MB, or a hostile file.
@@ -69,6 +76,8 @@ mod tests {
         assert!(by_name(NORMAL).is_some());
         assert!(by_name("save-0").is_none() && by_name("save-17").is_none());
         assert!(by_name("save-07").is_none() && by_name("").is_none());
-        assert!(is_hostile("enums") && !is_hostile("save-1"));
+        assert!(is_hostile("enums") && is_hostile("falling") && !is_hostile("save-1"));
+        assert!(is_larger("rows-random") && !is_hostile("rows-random"));
+        assert!(!is_larger("falling") && !is_larger("save-1"));
     }
 }

@@ -15,7 +15,7 @@ mod statistics;
 
 use arguments::{Arguments, Run, Side, USAGE};
 use inputs::Input;
-use report::Row;
+use report::{Peaks, Row};
 use sides::Timed;
 use std::fs;
 use std::io::{self, Write};
@@ -73,10 +73,17 @@ fn timed(input: &Input, rounds: usize) -> Result<(Vec<u8>, Timed), String> {
 
 fn row(input: Input, rounds: usize) -> Result<Row, String> {
     let (file, timed) = timed(&input, rounds)?;
+    let peaks = if inputs::is_larger(&input.name) {
+        None
+    } else {
+        Some(Peaks {
+            ours: memory::of_child(Side::Ours, &file)?,
+            rust: memory::of_child(Side::Rust, &file)?,
+        })
+    };
     Ok(Row {
         timed,
-        ours_peak: memory::of_child(Side::Ours, &file)?,
-        rust_peak: memory::of_child(Side::Rust, &file)?,
+        peaks,
         name: input.name,
         about: input.about,
     })

@@ -1,7 +1,7 @@
 //! Peak memory: each side converts the file in a process of its own, which reports its VmHWM.
 
 use crate::arguments::Side;
-use crate::sides::{needed, rust_text, WORDS};
+use crate::sides::{lent, rust_text};
 use sii_decode::library;
 use std::fs;
 use std::hint::black_box;
@@ -32,8 +32,8 @@ pub fn own(side: Side) -> Result<u64, String> {
         .map_err(|error| format!("standard input: {error}"))?;
     match side {
         Side::Ours => {
-            let mut table = vec![0; WORDS];
-            let mut output = vec![0; needed(&file, &mut table)?];
+            let (mut table, length) = lent(&file)?;
+            let mut output = vec![0; length];
             library::to_siin(&file, &mut table, &mut output);
             black_box(output);
         }

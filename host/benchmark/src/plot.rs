@@ -218,6 +218,7 @@ mod tests {
                 Timed {
                     bytes: size * 1_000_000,
                     text_bytes: size * 3_000_000,
+                    rows: 4096,
                     reading: compared(0.01, 0.02),
                     text: compared(0.03, 0.06),
                 }

@@ -1,6 +1,6 @@
 //! The tables, as plain text and as Markdown, and what they say about the bar.
 
-use crate::inputs::{is_hostile, NORMAL};
+use crate::inputs::{is_hostile, is_larger, NORMAL};
 use crate::machine;
 use crate::sides::{Compared, Timed};
 use crate::statistics::Spread;
@@ -10,9 +10,14 @@ pub struct Row {
     pub name: String,
     pub about: String,
     pub timed: Timed,
-    /// The peaks in bytes.
-    pub ours_peak: u64,
-    pub rust_peak: u64,
+    /// None where the table is larger.
+    pub peaks: Option<Peaks>,
+}
+
+/// Of memory, in bytes.
+pub struct Peaks {
+    pub ours: u64,
+    pub rust: u64,
 }
 
 /// The Rust takes at least so many times as long as we do.
@@ -104,7 +109,8 @@ fn per_byte(time: Spread, bytes: usize) -> f64 {
     time.median * 1e9 / bytes as f64
 }
 
-fn times(rows: &[Row]) -> Table {
+/// With a column of a number that both calls have.
+fn times(rows: &[&Row], head: &'static str, number: fn(&Timed) -> usize) -> Table {
     let mut lines = Vec::new();
     for row in rows {
         let timed = &row.timed;
@@ -114,7 +120,7 @@ fn times(rows: &[Row]) -> Table {
                 row.name.clone(),
                 call.into(),
                 grouped(timed.bytes as u64),
-                grouped(timed.text_bytes as u64),
+                grouped(number(timed) as u64),
                 spread(compared.ours.times(1e3)),
                 spread(compared.rust.times(1e3)),
                 rounded(per_byte(compared.ours, timed.bytes)),
@@ -128,7 +134,7 @@ fn times(rows: &[Row]) -> Table {
             "input",
             "call",
             "bytes",
-            "text bytes",
+            head,
             "ours, ms",
             "Rust, ms",
             "ours, ns/byte",
@@ -144,15 +150,16 @@ fn memory(rows: &[Row]) -> Table {
     let mega = |bytes: u64| rounded(bytes as f64 / 1e6);
     let lines = rows
         .iter()
-        .map(|row| {
-            vec![
+        .filter_map(|row| {
+            let peaks = row.peaks.as_ref()?;
+            Some(vec![
                 row.name.clone(),
                 mega(row.timed.bytes as u64),
                 mega(row.timed.text_bytes as u64),
-                mega(row.ours_peak),
-                mega(row.rust_peak),
-                rounded(row.rust_peak as f64 / row.ours_peak as f64),
-            ]
+                mega(peaks.ours),
+                mega(peaks.rust),
+                rounded(peaks.rust as f64 / peaks.ours as f64),
+            ])
         })
         .collect();
     Table {
@@ -237,25 +244,44 @@ fn bar(rows: &[Row]) -> Table {
     }
 }
 
+/// The tables with their titles; one without a line is left out.
+fn sections(rows: &[Row]) -> Vec<(&'static str, Table)> {
+    let (larger, others): (Vec<&Row>, Vec<&Row>) =
+        rows.iter().partition(|row| is_larger(&row.name));
+    let all = [
+        ("Inputs", inputs(rows)),
+        (
+            "Times",
+            times(&others, "text bytes", |timed| timed.text_bytes),
+        ),
+        ("Peak memory", memory(rows)),
+        ("The bar", bar(rows)),
+        (
+            "Larger tables",
+            times(&larger, "table, rows", |timed| timed.rows),
+        ),
+    ];
+    let kept = all.into_iter().filter(|(_, table)| !table.lines.is_empty());
+    kept.collect()
+}
+
 pub fn plain(rows: &[Row], rounds: usize) -> String {
-    format!(
-        "{}\n{rounds} rounds in turns; median (least to most)\n\n{}\n{}\n{}",
-        machine::line(),
-        times(rows).plain(),
-        memory(rows).plain(),
-        bar(rows).plain()
-    )
+    let mut text = format!(
+        "{}\n{rounds} rounds in turns; median (least to most)\n",
+        machine::line()
+    );
+    for (title, table) in sections(rows) {
+        text += &format!("\n{title}\n{}", table.plain());
+    }
+    text
 }
 
 pub fn markdown(rows: &[Row], rounds: usize) -> String {
-    format!(
-        "{}; {rounds} rounds in turns.\n\n### Inputs\n\n{}\n### Times\n\n{}\n### Peak memory\n\n{}\n### The bar\n\n{}",
-        machine::line(),
-        inputs(rows).markdown(),
-        times(rows).markdown(),
-        memory(rows).markdown(),
-        bar(rows).markdown()
-    )
+    let mut text = format!("{}; {rounds} rounds in turns.\n", machine::line());
+    for (title, table) in sections(rows) {
+        text += &format!("\n### {title}\n\n{}", table.markdown());
+    }
+    text
 }
 
 #[cfg(test)]
@@ -283,11 +309,14 @@ mod tests {
             timed: Timed {
                 bytes: 1_000_000,
                 text_bytes: 2_000_000,
+                rows: 58_823,
                 reading: compared(),
                 text: compared(),
             },
-            ours_peak: 4_000_000,
-            rust_peak: 8_000_000,
+            peaks: (!is_larger(name)).then_some(Peaks {
+                ours: 4_000_000,
+                rust: 8_000_000,
+            }),
         }
     }
 
@@ -323,8 +352,14 @@ mod tests {
 
     #[test]
     fn tables_have_a_cell_for_each_head() {
-        let rows = [row("save-7", 0.01, 2.0), row("names", 0.2, 1.0)];
-        for table in [times(&rows), memory(&rows), bar(&rows), inputs(&rows)] {
+        let rows = [
+            row("save-7", 0.01, 2.0),
+            row("names", 0.2, 1.0),
+            row("rows-random", 0.3, 1.0),
+        ];
+        let sections = sections(&rows);
+        assert_eq!(sections.len(), 5);
+        for (_, table) in sections {
             assert!(table
                 .lines
                 .iter()
@@ -333,5 +368,29 @@ mod tests {
             assert_eq!(lines, 2 + table.lines.len());
             assert_eq!(table.plain().lines().count(), 1 + table.lines.len());
         }
+    }
+
+    #[test]
+    fn larger_tables_stand_apart() {
+        let titles = |rows: &[Row]| -> Vec<&str> {
+            let sections = sections(rows);
+            sections.into_iter().map(|(title, _)| title).collect()
+        };
+        let larger = || row("rows-random", 0.3, 1.0);
+        assert_eq!(titles(&[larger()]), ["Inputs", "Larger tables"]);
+        assert_eq!(
+            titles(&[row("names", 0.2, 1.0)]),
+            ["Inputs", "Times", "Peak memory"]
+        );
+        for (title, table) in sections(&[row("save-7", 0.01, 2.0), larger()]) {
+            let found = table
+                .lines
+                .iter()
+                .any(|line| line[0].contains("rows-random"));
+            assert_eq!(found, ["Inputs", "Larger tables"].contains(&title));
+        }
+        let shown = markdown(&[larger()], 1);
+        assert!(shown.contains("\n### Larger tables\n\n| input | call | bytes | table, rows |"));
+        assert!(shown.contains("\n| rows-random | text | 1,000,000 | 58,823 |"));
     }
 }

@@ -1,13 +1,10 @@
 //! Both sides on one input: that they agree, and how long they take.
 
-use crate::hostile::ROWS;
+use crate::hostile::{ROWS, SMALLEST};
 use crate::statistics::Spread;
 use sii_decode::library;
 use std::hint::black_box;
 use std::time::Instant;
-
-/// The table's words: three for each row.
-pub const WORDS: usize = 3 * ROWS;
 
 /// The seconds of each round.
 #[derive(Default)]
@@ -37,17 +34,25 @@ impl Rounds {
 pub struct Timed {
     pub bytes: usize,
     pub text_bytes: usize,
+    /// Of the table that we were lent.
+    pub rows: usize,
     /// Our reading and the Rust's `parse`.
     pub reading: Compared,
     /// Our text call, and the Rust's `parse` with its `to_siin`.
     pub text: Compared,
 }
 
-/// The length of our text, from a call without room for it.
-pub fn needed(file: &[u8], table: &mut [u32]) -> Result<usize, String> {
-    let answer = library::to_siin(file, table, &mut []);
+/// A table for the file, and the length of our text, from a call without room for it. The table has
+/// 4,096 rows; if these are too few, as many as there can be prototypes in a file of this length.
+pub fn lent(file: &[u8]) -> Result<(Vec<u32>, usize), String> {
+    let mut table = vec![0; 3 * ROWS];
+    let mut answer = library::to_siin(file, &mut table, &mut []);
+    if answer.number == 10 {
+        table = vec![0; 3 * (file.len() / SMALLEST)];
+        answer = library::to_siin(file, &mut table, &mut []);
+    }
     match answer.number {
-        11 => Ok(answer.length as usize),
+        11 => Ok((table, answer.length as usize)),
         number => Err(format!("ours refuses it: {number} at {}", answer.offset)),
     }
 }
@@ -62,8 +67,8 @@ pub fn rust_text(file: &[u8]) -> Result<String, String> {
 /// once and cleared in front of each round, outside of the time. What the Rust allocates belongs to
 /// its calls, so that is inside; what it frees afterwards is not.
 pub fn time(file: &[u8], rounds: usize) -> Result<Timed, String> {
-    let mut table = vec![0; WORDS];
-    let mut output = vec![0; needed(file, &mut table)?];
+    let (mut table, length) = lent(file)?;
+    let mut output = vec![0; length];
     let answer = library::to_siin(file, &mut table, &mut output);
     let text = rust_text(file)?;
     if answer.number != 0 || output != text.as_bytes() {
@@ -94,6 +99,7 @@ pub fn time(file: &[u8], rounds: usize) -> Result<Timed, String> {
     Ok(Timed {
         bytes: file.len(),
         text_bytes: output.len(),
+        rows: table.len() / 3,
         reading: reading.compared(),
         text: text.compared(),
     })
@@ -111,12 +117,14 @@ fn rust_round(file: &[u8], reading: &mut Vec<f64>, text: &mut Vec<f64>) {
 #[cfg(test)]
 mod tests {
     use super::*;
+    use crate::inputs::{is_larger, table};
 
     #[test]
     fn both_sides_are_timed() {
         let file = generate::worked_bytes();
         let timed = time(&file, 3).unwrap();
         assert_eq!((timed.bytes, timed.text_bytes), (82, 73));
+        assert_eq!(timed.rows, ROWS);
         for compared in [timed.reading, timed.text] {
             for spread in [compared.ours, compared.rust, compared.ratio] {
                 assert!(spread.least <= spread.median && spread.median <= spread.most);
@@ -132,10 +140,15 @@ mod tests {
 
     #[test]
     fn the_texts_of_all_inputs_are_equal() {
-        for input in crate::inputs::table() {
+        for input in table() {
             let file = (input.make)();
-            let mut table = vec![0; WORDS];
-            let mut output = vec![0; needed(&file, &mut table).unwrap()];
+            let (mut table, length) = lent(&file).unwrap();
+            let rows = match is_larger(&input.name) {
+                true => file.len() / 17,
+                false => 4096,
+            };
+            assert_eq!(table.len(), 3 * rows, "{}", input.name);
+            let mut output = vec![0; length];
             library::to_siin(&file, &mut table, &mut output);
             assert!(
                 rust_text(&file).unwrap().as_bytes() == output,
