@@ -2,7 +2,7 @@
 # Needs nothing but bash.
 _sii_decode() {
     local current=${COMP_WORDS[COMP_CWORD]} previous=${COMP_WORDS[COMP_CWORD - 1]}
-    local i word behind='' plain=()
+    local i word behind='' questions=yes plain=()
     # the words in front of the cursor that are no options
     for ((i = 1; i < COMP_CWORD; i++)); do
         word=${COMP_WORDS[i]}
@@ -11,14 +11,24 @@ _sii_decode() {
             continue
         fi
         case $word in
-        --) behind=yes ;;
-        -o | --output) i=$((i + 1)) ;;
+        --)
+            behind=yes
+            ((${#plain[@]} > 0)) || questions=''
+            ;;
+        -o) i=$((i + 1)) ;;
+        # bash makes three words of --output=FILE
+        --output) [[ ${COMP_WORDS[i + 1]} == '=' ]] && i=$((i + 2)) || i=$((i + 1)) ;;
         -?*) ;;
         *) plain+=("$word") ;;
         esac
     done
     COMPREPLY=()
     compopt -o filenames 2>/dev/null
+    if [[ ! $behind && $previous == '=' ]]; then
+        previous=${COMP_WORDS[COMP_CWORD - 2]}
+    elif [[ ! $behind && $current == '=' ]]; then
+        current=''
+    fi
     if [[ ! $behind && ($previous == -o || $previous == --output) ]]; then
         mapfile -t COMPREPLY < <(compgen -f -- "$current")
         return
@@ -27,22 +37,21 @@ _sii_decode() {
         mapfile -t COMPREPLY < <(compgen -W '-o --output -h --help -V --version --' -- "$current")
         return
     fi
-    # how many words stand between the question and the save
-    local more=0
-    if ((${#plain[@]} > 0)); then
-        case ${plain[0]} in
-        info) more=1 ;;
-        prototype | block | blocks) more=2 ;;
-        field) more=3 ;;
-        esac
-    elif [[ ! $behind ]]; then
+    if [[ $questions ]] && ((${#plain[@]} == 0)); then
         mapfile -t COMPREPLY < <(
             compgen -W 'info prototype block blocks field' -- "$current"
             compgen -f -- "$current"
         )
         return
     fi
-    if ((${#plain[@]} == more)); then
+    # where the save stands
+    local save=0
+    [[ ! $questions ]] || case ${plain[0]} in
+    info) save=1 ;;
+    prototype | block | blocks) save=2 ;;
+    field) save=3 ;;
+    esac
+    if ((${#plain[@]} == save)); then
         mapfile -t COMPREPLY < <(compgen -f -- "$current")
     fi
 }

@@ -1,10 +1,56 @@
-# Completion of sii-decode for fish.
-set -l questions info prototype block blocks field
+# Completion of sii-decode for fish: put this file into a folder of fish_complete_path, as ~/.config/fish/completions.
+# __sii_decode_wants KIND: may the next word be of this kind, question or file? By the words in front of the cursor that are no options.
+function __sii_decode_wants
+    set -l plain
+    set -l value no
+    set -l behind no
+    set -l questions yes
+    for word in (commandline -opc)[2..]
+        if test $value = yes
+            set value no
+        else if test $behind = yes
+            set -a plain $word
+        else
+            switch $word
+                case --
+                    set behind yes
+                    set -q plain[1]; or set questions no
+                case -o --output
+                    set value yes
+                case -
+                    set -a plain $word
+                case '-*'
+                case '*'
+                    set -a plain $word
+            end
+        end
+    end
+    # where the save stands
+    set -l save 0
+    if test $questions = yes
+        switch "$plain[1]"
+            case info
+                set save 1
+            case prototype block blocks
+                set save 2
+            case field
+                set save 3
+        end
+    end
+    switch $argv[1]
+        case question
+            test $questions = yes -a (count $plain) -eq 0
+        case file
+            test (count $plain) -eq $save
+    end
+end
+complete -c sii-decode -f
+complete -c sii-decode -n '__sii_decode_wants file' -F
 complete -c sii-decode -s o -l output -r -F -d 'Write to a file, whole or not at all'
-complete -c sii-decode -s h -l help -f -d 'Print a summary'
-complete -c sii-decode -s V -l version -f -d 'Print the version'
-complete -c sii-decode -n "not __fish_seen_subcommand_from $questions" -a info -d 'Prototypes, blocks, bytes'
-complete -c sii-decode -n "not __fish_seen_subcommand_from $questions" -a prototype -d 'A prototype by its id'
-complete -c sii-decode -n "not __fish_seen_subcommand_from $questions" -a block -d 'A block by its number'
-complete -c sii-decode -n "not __fish_seen_subcommand_from $questions" -a blocks -d 'The blocks under a prototype name'
-complete -c sii-decode -n "not __fish_seen_subcommand_from $questions" -a field -d 'A field of a block'
+complete -c sii-decode -s h -l help -d 'Print a summary'
+complete -c sii-decode -s V -l version -d 'Print the version'
+complete -c sii-decode -n '__sii_decode_wants question' -a info -d 'Prototypes, blocks, bytes'
+complete -c sii-decode -n '__sii_decode_wants question' -a prototype -d 'A prototype by its id'
+complete -c sii-decode -n '__sii_decode_wants question' -a block -d 'A block by its number'
+complete -c sii-decode -n '__sii_decode_wants question' -a blocks -d 'The blocks under a prototype name'
+complete -c sii-decode -n '__sii_decode_wants question' -a field -d 'A field of a block'
