@@ -114,7 +114,7 @@ pub fn value_parser(s: &[u8], at: usize, type_id: u32) -> Parsed
 {
     let shape = shape_of(type_id);
     match shape {
-        // As in element_parser: told apart here, a kind need not be read as a whole from where its parts were stored a moment before.
+        // The arms of element_parser once more: told apart here, a kind need not be read as a whole from where its parts were stored a moment before.
         Shape::One(kind) => match kind {
             Kind::Numbers(n) => numeric_past(s, at, n),
             Kind::String => str_end(s, at),

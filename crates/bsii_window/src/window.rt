@@ -73,7 +73,7 @@ pub fn store(out: &mut [u8], start: usize, text: &[u8])
     }
 }
 
-// Nothing is copied where the window ends in front of the text: measuring a name that stands before each of many elements takes one sum for each.
+// Nothing is copied where the window ends in front of the text: measuring takes one sum, however long the text is.
 pub fn put_all(out: &mut [u8], at: usize, text: &[u8]) -> usize
     ensures { λ r. ⌜ Wrote (now (out .entry)) at (now (text .entry)) r (now (out .exit)) ⌝ }
 {
