@@ -18,7 +18,6 @@ use Rattle.bsii_prototype.proofs.answers.Entry.{the-type}
 use Rattle.bsii_prototype.proofs.Turns.{turn-field, turn-last, turn-bad}
 use Rattle.bsii_field.proofs.Entries.{unfielded, field-inside}
 use Rattle.bsii_definition.specs.Pairs.{definition, Begins, Describes, Paired, PairIs, both, ends, last-longer, last-shorter, PairOf, WithLast, WithoutLast, SameCount}
-use Rattle.bsii_definition.specs.declared.pairs.Definition.{Definition}
 use Rattle.bsii_definition.specs.declared.pairs.Pair.{Pair}
 use Rattle.bsii_definition.specs.declared.pairs.Pair.the-variants.{Both, Ends, Uneven}
 

@@ -11,15 +11,20 @@ use bsii_value::numbers::le_u32;
 use bsii_value::types::Kind;
 use bsii_value::types::Shape;
 use bsii_value::types::shape_of;
+use bsii_value::values::numeric_past;
 use bsii_window::digits::write_decimal;
 use bsii_window::window::put;
+ghost use mathlib.Core.Path.{_≡_};
 ghost use mathlib.Core.List.{_++_};
 ghost use Prim.Native.Nat.{_-_};
+ghost use lib.ListN.{drop};
 ghost use Rattle.bsii_format.specs.Ascii.{ascii};
 ghost use Rattle.bsii_format.specs.Text.{indexed};
 ghost use Rattle.bsii_window.specs.Window.{Wrote};
 ghost use Rattle.bsii_lines.specs.Lines.{nameOf, InFile, RestWritten, ElementWritten, VectorWritten, ArrayWritten, FieldWritten};
+ghost use Rattle.bsii_value.specs.Answers.{endOf};
 ghost use Rattle.bsii_value.specs.Kinds.{kindIs};
+ghost use Rattle.bsii_past.specs.Unchecked.{uncheckedElement};
 
 // The offset behind the value, and the position behind its text; or what `Scalar` says of a value that is not written.
 pub enum Lines {
@@ -47,11 +52,21 @@ fn write_index(out: &mut [u8], to: usize, s: &[u8], d: Definition, i: u32) -> us
     put_index(out, to, &s[name..name_end], i)
 }
 
+// The end of an element: numbers, which are most of them, without a call that tells the kinds apart once more.
+fn element_end(s: &[u8], at: usize, kind: Kind) -> Parsed
+    ensures { λ r. ⌜ r ≡ endOf (uncheckedElement (kindIs kind) at (drop at (now (s .entry)))) ⌝ }
+{
+    match kind {
+        Kind::Numbers(n) => numeric_past(s, at, n),
+        _ => element_past(s, at, kind),
+    }
+}
+
 // The element at an offset, and the end of its line.
 fn write_rest(out: &mut [u8], to: usize, s: &[u8], at: usize, kind: Kind, d: Definition) -> Lines
     ensures { λ r. ⌜ RestWritten (now (s .entry)) at (kindIs kind) d (now (out .entry)) to r (now (out .exit)) ⌝ }
 {
-    let end = element_past(s, at, kind);
+    let end = element_end(s, at, kind);
     match end {
         Parsed::Fault {
             number: _,

@@ -1,7 +1,6 @@
 -- The rows of the table: three words for each prototype id, (id, offset of the definition in force, offset of the last definition).
 -- A zero id is a valid id and the words may come in with anything in them, so the number of rows is carried beside the table.
 use Prim.Native.Nat.{ℕ, zero, suc, _+_, _*_, _≤_, _<_}
-use mathlib.Core.Path.{_≡_}
 use mathlib.Core.Bool.{cond}
 use mathlib.Core.Option.{Option, none, some}
 use mathlib.Core.List.{List}

@@ -4,7 +4,7 @@ use mathlib.Core.Path.{_≡_, refl, sym, ap, _∙_}
 use mathlib.Core.List.{List, [], _∷_, _++_, append-assoc, append-nil}
 use native.Mathlib.Nat.{add-zero}
 use native.Mathlib.Omega.{arith}
-use lib.ListN.{set, length, length-append, length-set}
+use lib.ListN.{set, length, length-append}
 use lib.Seq.{sets, set-comm, length-sets}
 
 -- a byte in front of those that are stored behind it

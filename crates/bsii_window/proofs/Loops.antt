@@ -5,7 +5,7 @@ use mathlib.Core.List.{List, [], _++_, append-assoc, append-nil}
 use native.Mathlib.Nat.{add-zero}
 use native.Mathlib.Omega.{arith}
 use lib.ListN.{length}
-use Rattle.bsii_window.specs.Window.{capped, Wrote}
+use Rattle.bsii_window.specs.Window.{Wrote}
 use Rattle.bsii_window.proofs.Laws.{capped-fits, then, being, same, nothing}
 
 pub record Begun (old : List ℕ) (at : ℕ) (text rest : List ℕ) (r : ℕ) (new : List ℕ) : Type 0 where

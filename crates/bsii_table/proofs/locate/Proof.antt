@@ -1,6 +1,6 @@
 -- `locate` meets its contract. The loop's invariant: the rows in front of `low` have lesser ids, those from `high` on greater ones.
 use Prim.Native.Nat.{_+_, _-_, _/_}
-use mathlib.Core.Path.{_≡_, refl}
+use mathlib.Core.Path.{refl}
 use native.Mathlib.Omega.{arith}
 use denote.Ref.{now}
 use Rattle.bsii_table.proofs.Laws.{Bracket, bracket-all, bracket-up, bracket-down, bracket-free}

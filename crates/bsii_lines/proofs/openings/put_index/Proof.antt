@@ -8,13 +8,6 @@ use Rattle.bsii_lines.proofs.Stores.{index-length}
 use borrow.Author.Needs.{needs}
 use Rattle.bsii_lines.proofs.openings.put_index.Statement.{statement}
 use Rattle.bsii_lines.proofs.openings.put_index.Tie as tie
-use Rattle.bsii_lines.proofs.openings.put_index.Reads as reads
-use Rattle.bsii_lines.proofs.openings.put_index.Lts as lts
-use Rattle.bsii_lines.proofs.openings.put_index_across.Reads as put-index-across-reads
-use Rattle.bsii_lines.proofs.openings.store_index.Reads as store-index-reads
-use Rattle.bsii_window.proofs.digits.decimal_count.Reads as decimal-count-reads
-use Rattle.bsii_window.proofs.window.further.Reads as further-reads
-use Rattle.bsii_window.proofs.window.place_of.Reads as place-of-reads
 
 decimal-count-requires : tie.Need-decimal-count-requires
 decimal-count-requires c κs = search needs

@@ -4,11 +4,6 @@ use Rattle.bsii_lines.proofs.LineLaws.{index-text}
 use borrow.Author.Needs.{needs}
 use Rattle.bsii_lines.proofs.openings.put_index_across.Statement.{statement}
 use Rattle.bsii_lines.proofs.openings.put_index_across.Tie as tie
-use Rattle.bsii_lines.proofs.openings.put_index_across.Reads as reads
-use Rattle.bsii_lines.proofs.openings.put_index_across.Lts as lts
-use Rattle.bsii_window.proofs.digits.write_decimal.Reads as write-decimal-reads
-use Rattle.bsii_window.proofs.window.put.Reads as put-reads
-use Rattle.bsii_window.proofs.window.put_all.Reads as put-all-reads
 
 slice-aggregate-put-all : tie.Need-slice-aggregate-put-all
 slice-aggregate-put-all c = search needs

@@ -7,12 +7,6 @@ use Rattle.bsii_lines.proofs.Stores.{opening-length}
 use borrow.Author.Needs.{needs}
 use Rattle.bsii_lines.proofs.openings.put_opening.Statement.{statement}
 use Rattle.bsii_lines.proofs.openings.put_opening.Tie as tie
-use Rattle.bsii_lines.proofs.openings.put_opening.Reads as reads
-use Rattle.bsii_lines.proofs.openings.put_opening.Lts as lts
-use Rattle.bsii_lines.proofs.openings.put_opening_across.Reads as put-opening-across-reads
-use Rattle.bsii_lines.proofs.openings.store_opening.Reads as store-opening-reads
-use Rattle.bsii_window.proofs.window.further.Reads as further-reads
-use Rattle.bsii_window.proofs.window.place_of.Reads as place-of-reads
 
 add-count : tie.Need-add-count
 add-count c = search needs

@@ -2,9 +2,6 @@ use Rattle.bsii_window.proofs.Laws.{then}
 use borrow.Author.Needs.{needs}
 use Rattle.bsii_lines.proofs.openings.put_opening_across.Statement.{statement}
 use Rattle.bsii_lines.proofs.openings.put_opening_across.Tie as tie
-use Rattle.bsii_lines.proofs.openings.put_opening_across.Reads as reads
-use Rattle.bsii_lines.proofs.openings.put_opening_across.Lts as lts
-use Rattle.bsii_window.proofs.window.put_all.Reads as put-all-reads
 
 slice-aggregate-put-all : tie.Need-slice-aggregate-put-all
 slice-aggregate-put-all c = search needs

@@ -8,10 +8,6 @@ use Rattle.bsii_lines.proofs.Stores.{length-two, stored-length, open-at
 use borrow.Author.Needs.{needs}
 use Rattle.bsii_lines.proofs.openings.store_index.Statement.{statement}
 use Rattle.bsii_lines.proofs.openings.store_index.Tie as tie
-use Rattle.bsii_lines.proofs.openings.store_index.Reads as reads
-use Rattle.bsii_lines.proofs.openings.store_index.Lts as lts
-use Rattle.bsii_lines.proofs.openings.store_name.Reads as store-name-reads
-use Rattle.bsii_window.proofs.digits.fill_decimal.Reads as fill-decimal-reads
 
 store-name-requires : tie.Need-store-name-requires
 store-name-requires c κs = search needs

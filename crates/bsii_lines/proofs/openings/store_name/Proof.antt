@@ -7,9 +7,6 @@ use Rattle.bsii_lines.proofs.Stores.{length-two, stored-length, name-st
 use borrow.Author.Needs.{needs}
 use Rattle.bsii_lines.proofs.openings.store_name.Statement.{statement}
 use Rattle.bsii_lines.proofs.openings.store_name.Tie as tie
-use Rattle.bsii_lines.proofs.openings.store_name.Reads as reads
-use Rattle.bsii_lines.proofs.openings.store_name.Lts as lts
-use Rattle.bsii_window.proofs.window.store.Reads as store-reads
 
 slice-write-out : tie.Need-slice-write-out
 slice-write-out c = search needs

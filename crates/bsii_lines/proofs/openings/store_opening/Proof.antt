@@ -6,9 +6,6 @@ use Rattle.bsii_lines.proofs.Stores.{opening-stored}
 use borrow.Author.Needs.{needs}
 use Rattle.bsii_lines.proofs.openings.store_opening.Statement.{statement}
 use Rattle.bsii_lines.proofs.openings.store_opening.Tie as tie
-use Rattle.bsii_lines.proofs.openings.store_opening.Reads as reads
-use Rattle.bsii_lines.proofs.openings.store_opening.Lts as lts
-use Rattle.bsii_lines.proofs.openings.store_name.Reads as store-name-reads
 
 store-name-requires : tie.Need-store-name-requires
 store-name-requires c κs = search needs

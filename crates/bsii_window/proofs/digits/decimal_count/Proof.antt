@@ -8,9 +8,6 @@ use Rattle.bsii_format.specs.Digits.{decimal}
 use Rattle.bsii_window.proofs.DigitLaws.{count-most, count-four}
 use Rattle.bsii_window.proofs.digits.decimal_count.Statement.{statement}
 use Rattle.bsii_window.proofs.digits.decimal_count.Tie as tie
-use Rattle.bsii_window.proofs.digits.decimal_count.Reads as reads
-use Rattle.bsii_window.proofs.digits.decimal_count.Lts as lts
-use Rattle.bsii_window.proofs.digits.short_count.Reads as short-count-reads
 
 abbrev Inv-loop : tie.InvT-loop
 Inv-loop n rest₀ count₀ rest count = count + length (decimal rest) ≡ length (decimal n)

@@ -1,20 +1,15 @@
 use lib.Seq.{length-sets}
-use Prim.Native.Nat.{ℕ, _-_, _/_, _%_, _+_, _≤_}
-use mathlib.Core.Path.{_≡_, refl, sym, ap, _∙_}
-use mathlib.Core.List.{[], _∷_, _++_}
+use Prim.Native.Nat.{_-_, _/_, _%_, _+_, _≤_}
+use mathlib.Core.Path.{_≡_, ap, _∙_}
+use mathlib.Core.List.{[], _∷_}
 use native.Mathlib.Omega.{arith}
-use borrow.Author.Needs.{needs}
 use denote.Ref.{now}
 use lib.ListN.{length}
 use Rattle.bsii_format.specs.Digits.{decimal, digit}
 use Rattle.bsii_window.proofs.DigitLaws.{decimal-two, two-more}
-use Rattle.bsii_window.proofs.Fills.{Filled, fill-none, fill-more, fill-room, fill-length, fill-within, fill-rest}
+use Rattle.bsii_window.proofs.Fills.{Filled, fill-none, fill-more, fill-room, fill-within, fill-rest}
 use Rattle.bsii_window.proofs.digits.fill_decimal.Statement.{statement}
 use Rattle.bsii_window.proofs.digits.fill_decimal.Tie as tie
-use Rattle.bsii_window.proofs.digits.fill_decimal.Reads as reads
-use Rattle.bsii_window.proofs.digits.fill_decimal.Lts as lts
-use Rattle.bsii_window.proofs.digits.fill_first.Reads as fill-first-reads
-use Rattle.bsii_window.proofs.digits.fill_pair.Reads as fill-pair-reads
 
 abbrev Inv-loop : tie.InvT-loop
 Inv-loop out₀ end n i₀ rest₀ out i rest =

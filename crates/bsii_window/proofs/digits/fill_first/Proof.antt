@@ -4,10 +4,6 @@ use Rattle.bsii_window.proofs.DigitLaws.{decimal-one, decimal-pair, cou
 use borrow.Author.Needs.{needs}
 use Rattle.bsii_window.proofs.digits.fill_first.Statement.{statement}
 use Rattle.bsii_window.proofs.digits.fill_first.Tie as tie
-use Rattle.bsii_window.proofs.digits.fill_first.Reads as reads
-use Rattle.bsii_window.proofs.digits.fill_first.Lts as lts
-use Rattle.bsii_window.proofs.digits.digit.Reads as digit-reads
-use Rattle.bsii_window.proofs.digits.fill_pair.Reads as fill-pair-reads
 
 digit-requires : tie.Need-digit-requires
 digit-requires c κs = search needs

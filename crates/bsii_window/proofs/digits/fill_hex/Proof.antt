@@ -11,10 +11,6 @@ use Rattle.bsii_window.proofs.DigitLaws.{padded-more, padded-two, padde
 use Rattle.bsii_window.proofs.Fills.{Filled, fill-none, fill-more, fill-room, fill-length, fill-within, fill-end}
 use Rattle.bsii_window.proofs.digits.fill_hex.Statement.{statement}
 use Rattle.bsii_window.proofs.digits.fill_hex.Tie as tie
-use Rattle.bsii_window.proofs.digits.fill_hex.Reads as reads
-use Rattle.bsii_window.proofs.digits.fill_hex.Lts as lts
-use Rattle.bsii_window.proofs.digits.digit.Reads as digit-reads
-use Rattle.bsii_window.proofs.digits.fill_pair.Reads as fill-pair-reads
 
 abbrev Inv-loop : tie.InvT-loop
 Inv-loop out₀ end n count i₀ rest₀ left₀ out i rest left =

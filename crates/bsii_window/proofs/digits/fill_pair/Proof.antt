@@ -5,9 +5,6 @@ use lib.ListN.{length-set}
 use borrow.Author.Needs.{needs}
 use Rattle.bsii_window.proofs.digits.fill_pair.Statement.{statement}
 use Rattle.bsii_window.proofs.digits.fill_pair.Tie as tie
-use Rattle.bsii_window.proofs.digits.fill_pair.Reads as reads
-use Rattle.bsii_window.proofs.digits.fill_pair.Lts as lts
-use Rattle.bsii_window.proofs.digits.digit.Reads as digit-reads
 
 digit-requires : tie.Need-digit-requires
 digit-requires c κs = search needs

@@ -3,8 +3,6 @@ use native.Mathlib.Omega.{arith}
 use Rattle.bsii_window.proofs.DigitLaws.{count-one, count-two, count-three, count-last}
 use Rattle.bsii_window.proofs.digits.short_count.Statement.{statement}
 use Rattle.bsii_window.proofs.digits.short_count.Tie as tie
-use Rattle.bsii_window.proofs.digits.short_count.Reads as reads
-use Rattle.bsii_window.proofs.digits.short_count.Lts as lts
 
 returns : tie.Need-returns
 returns c = sym (count-one (c .before .args .n) (omega arith))

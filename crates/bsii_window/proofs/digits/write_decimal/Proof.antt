@@ -9,13 +9,6 @@ use Rattle.bsii_window.proofs.Laws.{past, starts, inside-sum}
 use borrow.Author.Needs.{needs}
 use Rattle.bsii_window.proofs.digits.write_decimal.Statement.{statement}
 use Rattle.bsii_window.proofs.digits.write_decimal.Tie as tie
-use Rattle.bsii_window.proofs.digits.write_decimal.Reads as reads
-use Rattle.bsii_window.proofs.digits.write_decimal.Lts as lts
-use Rattle.bsii_window.proofs.digits.decimal_count.Reads as decimal-count-reads
-use Rattle.bsii_window.proofs.digits.fill_decimal.Reads as fill-decimal-reads
-use Rattle.bsii_window.proofs.digits.put_decimal.Reads as put-decimal-reads
-use Rattle.bsii_window.proofs.window.further.Reads as further-reads
-use Rattle.bsii_window.proofs.window.place_of.Reads as place-of-reads
 
 decimal-count-requires : tie.Need-decimal-count-requires
 decimal-count-requires c κs = search needs

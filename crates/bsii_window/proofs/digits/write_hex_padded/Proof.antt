@@ -9,12 +9,6 @@ use Rattle.bsii_window.proofs.DigitLaws.{padded-length}
 use borrow.Author.Needs.{needs}
 use Rattle.bsii_window.proofs.digits.write_hex_padded.Statement.{statement}
 use Rattle.bsii_window.proofs.digits.write_hex_padded.Tie as tie
-use Rattle.bsii_window.proofs.digits.write_hex_padded.Reads as reads
-use Rattle.bsii_window.proofs.digits.write_hex_padded.Lts as lts
-use Rattle.bsii_window.proofs.digits.fill_hex.Reads as fill-hex-reads
-use Rattle.bsii_window.proofs.digits.put_hex.Reads as put-hex-reads
-use Rattle.bsii_window.proofs.window.further.Reads as further-reads
-use Rattle.bsii_window.proofs.window.place_of.Reads as place-of-reads
 
 place-of-requires : tie.Need-place-of-requires
 place-of-requires c κs = search needs
