@@ -2,17 +2,17 @@
 use Prim.Native.Nat.{ℕ, zero, suc, _+_, _-_, _*_, _/_, _%_, _^_, _≤_, _<_}
 use mathlib.Core.Path.{_≡_, refl, sym, ap, _∙_}
 use mathlib.Core.Logic.{⊎-elim}
-use mathlib.Core.Bool.{Bool, true, false}
+use mathlib.Core.Bool.{Bool, true, false, cond}
 use mathlib.Core.List.{List, [], _∷_, _++_, append-assoc}
 use native.Mathlib.Nat.{le-trans, lt-of-lt-of-le}
 use native.Mathlib.Omega.{arith}
-use lib.Dec.{ltb}
+use lib.Dec.{ltb, eqb}
 use lib.ListN.{length, length-append}
 use lib.Pow.{pow-add, pow-pos, pow-mono}
 use lib.Count.{leadingZeros, leading-top}
-use borrow.Author.Tests.{lt-ltb, le-ltb}
+use borrow.Author.Tests.{lt-ltb, le-ltb, eqb-true}
 use Rattle.bsii_format.specs.Digits.{digit, digitsFrom, digits, decimal, hexadecimal, hexPadded}
-use Rattle.bsii_window.proofs.Laws.{lt-or-le}
+use Rattle.bsii_window.proofs.Laws.{bool-cases, lt-or-le}
 
 -- ---- any base
 
@@ -85,10 +85,6 @@ decimal-one = one 10 ten
 pub decimal-more : (n : ℕ) → 10 ≤ n → decimal n ≡ decimal (n / 10) ++ (digit (n % 10) ∷ [])
 decimal-more = more 10 ten
 
-pub hex-zero : hexadecimal 0 ≡ 48 ∷ []
-unfolding digits digitsFrom digit
-hex-zero = refl
-
 -- ---- how many
 
 count-fuel : (fuel : ℕ) (small : Bool) (n : ℕ) → length (digitsFrom 10 fuel small n) ≤ fuel
@@ -117,7 +113,7 @@ count-most n =
     (λ l. let e = count-more n l in let h = count-all (n / 10) in omega (arith, e, h))
     (lt-or-le n 10)
 
-pub count-four : (n : ℕ) → 10000 ≤ n → length (decimal n) ≡ 4 + length (decimal (n / 10000))
+count-four : (n : ℕ) → 10000 ≤ n → length (decimal n) ≡ 4 + length (decimal (n / 10000))
 count-four n h =
     let z : n / 10 / 10 / 10 / 10 ≡ n / 10000 = omega arith in
     let a = count-more n (omega arith) in
@@ -126,6 +122,11 @@ count-four n h =
     let d = count-more (n / 10 / 10 / 10) (omega arith) in
     let e = ap (λ (m : ℕ). length (decimal m)) z in
     omega (arith, a, b, c, d, e)
+
+pub count-eight : (n : ℕ) → 100000000 ≤ n → length (decimal n) ≡ 8 + length (decimal (n / 100000000))
+count-eight n h =
+    let z : n / 10000 / 10000 ≡ n / 100000000 = omega arith in
+    omega (arith, count-four n (omega arith), count-four (n / 10000) (omega arith), ap (λ (m : ℕ). length (decimal m)) z)
 
 -- two digits by one division
 pub decimal-two : (n : ℕ) → 100 ≤ n → decimal n ≡ decimal (n / 100) ++ (digit (n / 10 % 10) ∷ digit (n % 10) ∷ [])
@@ -147,12 +148,6 @@ padded-length (suc w) n =
 pub count-two : (n : ℕ) → 10 ≤ n → n < 100 → length (decimal n) ≡ 2
 count-two n h l = count-more n h ∙ ap suc (count-one (n / 10) (omega arith))
 
-pub count-three : (n : ℕ) → 100 ≤ n → n < 1000 → length (decimal n) ≡ 3
-count-three n h l = count-more n (omega arith) ∙ ap suc (count-two (n / 10) (omega arith) (omega arith))
-
-pub count-last : (n : ℕ) → 1000 ≤ n → n < 10000 → length (decimal n) ≡ 4
-count-last n h l = count-more n (omega arith) ∙ ap suc (count-three (n / 10) (omega arith) (omega arith))
-
 pub two-more : (n : ℕ) {i : ℕ} → 100 ≤ n → length (decimal n) ≤ i → 2 ≤ i
 two-more n h l = omega (arith, count-more n (omega arith), count-more (n / 10) (omega arith))
 
@@ -166,3 +161,39 @@ padded-two w n h =
     ∙ ap (λ (v : ℕ). hexPadded v (n / 16 / 16) ++ (digit (n / 16 % 16) ∷ [])) k
     ∙ ap (λ (m : ℕ). hexPadded (w - 2) m ++ (digit (n / 16 % 16) ∷ [])) z)
     ∙ append-assoc (hexPadded (w - 2) (n / 256)) (digit (n / 16 % 16) ∷ []) (digit (n % 16) ∷ [])
+
+-- as many digits as there are are all of them
+pub padded-whole : (n : ℕ) → n < 2 ^ 64 → hexPadded (length (hexadecimal n)) n ≡ hexadecimal n
+unfolding hexPadded digits digitsFrom
+padded-whole zero h = refl
+padded-whole (suc n) h =
+    let e = hex-count (suc n) (omega arith) h in
+    let k = ap length e ∙ padded-length ((67 - leadingZeros 64 (suc n)) / 4) (suc n) in
+    ap (λ (w : ℕ). hexPadded w (suc n)) k ∙ sym e
+
+-- ---- one digit
+
+-- a test that passes at each number below k
+holds : (ℕ → Bool) → ℕ → Bool
+holds f zero = true
+holds f (suc k) = cond (f k) (holds f k) false
+
+holds-at : (f : ℕ → Bool) (k : ℕ) → holds f k ≡ true → (d : ℕ) → d < k → f d ≡ true
+unfolding holds
+holds-at f zero t d h = absurd (omega arith)
+holds-at f (suc k) t d h =
+    ⊎-elim
+    (λ e. ⊎-elim (λ l. holds-at f k (rw e at t) d l) (λ l. let z : d ≡ k = omega arith in rw z e) (lt-or-le d k))
+    (λ e. absurd (let z : false ≡ true = rw e at t in let o : _≡_ {A = ℕ} 0 1 = cc in omega arith))
+    (bool-cases (f k))
+
+-- the characters from `0` on, and from the tenth on those from `a` on
+digit-is : (d : ℕ) → d < 16 → digit d ≡ cond (ltb d 10) (48 + d) (87 + d)
+unfolding digit holds
+digit-is d h = eqb-true (digit d) (cond (ltb d 10) (48 + d) (87 + d)) (holds-at (λ (d : ℕ). eqb (digit d) (cond (ltb d 10) (48 + d) (87 + d))) 16 refl d h)
+
+pub digit-low : (d : ℕ) → d < 10 → digit d ≡ 48 + d
+digit-low d h = digit-is d (omega arith) ∙ simp (lt-ltb d 10 h)
+
+pub digit-high : (d : ℕ) → 10 ≤ d → d < 16 → digit d ≡ 87 + d
+digit-high d h l = digit-is d l ∙ simp (le-ltb d 10 h)

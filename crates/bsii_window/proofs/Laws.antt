@@ -15,7 +15,7 @@ use Rattle.bsii_window.specs.Places.{PlaceOf}
 use Rattle.bsii_window.specs.declared.window.Place.{Place}
 use Rattle.bsii_window.specs.declared.window.Place.the-variants as place
 
-bool-cases : (b : Bool) → (b ≡ true) ⊎ (b ≡ false)
+pub bool-cases : (b : Bool) → (b ≡ true) ⊎ (b ≡ false)
 bool-cases true = inl refl
 bool-cases false = inr refl
 

@@ -9,42 +9,46 @@ ghost use mathlib.Core.List.{[], _∷_};
 ghost use lib.ListN.{length};
 ghost use lib.Seq.{sets};
 ghost use Rattle.bsii_format.specs.Digits.{digit as digitOf, decimal, hexadecimal, hexPadded};
+ghost use Rattle.bsii_window.specs.Counts.{reach};
 ghost use Rattle.bsii_window.specs.Window.{Wrote};
 
-const DIGITS: [u8; 16] = *b"0123456789abcdef";
-
+// Worked out, since a table in a constant would be built for each digit.
 fn digit(d: u64) -> u8
     requires { ⌜ d < 16 ⌝ }
     ensures { λ r. ⌜ r ≡ digitOf d ⌝ }
 {
-    DIGITS[d as usize]
+    if d < 10 {
+        (48 + d) as u8
+    } else {
+        (87 + d) as u8
+    }
+}
+
+// 1 or 0: such answers, added up, count digits without a branch.
+pub fn reaches(n: u64, bound: u64) -> usize
+    ensures { λ r. ⌜ (r ≡ reach bound n) × (r ≤ 1) ⌝ }
+{
+    if bound <= n { 1 } else { 0 }
 }
 
 fn short_count(n: u64) -> usize
-    requires { ⌜ n < 10000 ⌝ }
+    requires { ⌜ n < 100000000 ⌝ }
     ensures { λ r. ⌜ r ≡ length (decimal n) ⌝ }
 {
-    if n < 10 {
-        return 1;
-    }
-    if n < 100 {
-        return 2;
-    }
-    if n < 1000 {
-        return 3;
-    }
-    4
+    let low = reaches(n, 10) + reaches(n, 100) + reaches(n, 1000);
+    let high = reaches(n, 10000) + reaches(n, 100000) + reaches(n, 1000000) + reaches(n, 10000000);
+    1 + low + high
 }
 
-// How many digits there are: four for each division.
+// How many digits there are: eight for each division.
 pub fn decimal_count(n: u64) -> usize
     ensures { λ r. ⌜ r ≡ length (decimal n) ⌝ }
 {
     let mut rest = n;
     let mut count: usize = 0;
-    while 9999 < rest {
-        rest = rest / 10000;
-        count += 4;
+    while 99999999 < rest {
+        rest = rest / 100000000;
+        count += 8;
     }
     count + short_count(rest)
 }
@@ -158,13 +162,20 @@ pub fn write_hex_padded(out: &mut [u8], at: usize, n: u64, count: u32) -> usize
     }
 }
 
-// Without leading zeros: the bits that are none give the number of digits.
+// How many digits there are: the bits that are no leading zeros, by four.
+pub fn hex_count(n: u64) -> u32
+    ensures { λ r. ⌜ (r ≡ length (hexadecimal n)) × (r ≤ 16) ⌝ }
+{
+    if n == 0 {
+        return 1;
+    }
+    (67 - u64::leading_zeros(n)) / 4
+}
+
+// Without leading zeros.
 pub fn write_hex(out: &mut [u8], at: usize, n: u64) -> usize
     ensures { λ r. ⌜ Wrote (now (out .entry)) at (hexadecimal n) r (now (out .exit)) ⌝ }
 {
-    if n == 0 {
-        return put(out, at, b'0');
-    }
-    let count = (67 - u64::leading_zeros(n)) / 4;
+    let count = hex_count(n);
     write_hex_padded(out, at, n, count)
 }

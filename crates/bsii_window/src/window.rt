@@ -73,8 +73,8 @@ pub fn store(out: &mut [u8], start: usize, text: &[u8])
     }
 }
 
-// Nothing is copied where the window ends in front of the text: measuring takes one sum, however long the text is.
-pub fn put_all(out: &mut [u8], at: usize, text: &[u8]) -> usize
+// As much of it as falls into the window, for a text across an edge.
+fn put_across(out: &mut [u8], at: usize, text: &[u8]) -> usize
     ensures { λ r. ⌜ Wrote (now (out .entry)) at (now (text .entry)) r (now (out .exit)) ⌝ }
 {
     let end = further(at, text.len());
@@ -92,4 +92,21 @@ pub fn put_all(out: &mut [u8], at: usize, text: &[u8]) -> usize
     }
     store(out, start, text);
     end
+}
+
+// Nothing is copied where the window ends in front of the text: measuring takes one sum, however long the text is. Where all of it lies in the window,
+// a fixed text takes a store or two.
+pub fn put_all(out: &mut [u8], at: usize, text: &[u8]) -> usize
+    ensures { λ r. ⌜ Wrote (now (out .entry)) at (now (text .entry)) r (now (out .exit)) ⌝ }
+{
+    let count = text.len();
+    let place = place_of(out.len(), at, count);
+    match place {
+        Place::Past => return further(at, count),
+        Place::Across => return put_across(out, at, text),
+        Place::Inside(start) => {
+            store(out, start, text);
+            return at + count;
+        }
+    }
 }

@@ -5,7 +5,7 @@ use native.Mathlib.Omega.{arith}
 use borrow.Author.Needs.{needs}
 use lib.ListN.{length}
 use Rattle.bsii_format.specs.Digits.{decimal}
-use Rattle.bsii_window.proofs.DigitLaws.{count-most, count-four}
+use Rattle.bsii_window.proofs.DigitLaws.{count-most, count-eight}
 use Rattle.bsii_window.proofs.digits.decimal_count.Statement.{statement}
 use Rattle.bsii_window.proofs.digits.decimal_count.Tie as tie
 
@@ -22,13 +22,13 @@ add-count : tie.Need-add-count Inv-loop μ-loop
 add-count c =
     let n = c .before .before .args .n in
     let rest = c .before .loop .rest in
-    omega (arith, c .before .loop .inv, count-most n, count-four rest (omega arith))
+    omega (arith, c .before .loop .inv, count-most n, count-eight rest (omega arith))
 
 loop-less : tie.Need-loop-less Inv-loop μ-loop
 loop-less c = omega arith
 
 loop-again : tie.Need-loop-again Inv-loop μ-loop
-loop-again c = omega (arith, c .before .loop .inv, count-four (c .before .loop .rest) (omega arith))
+loop-again c = omega (arith, c .before .loop .inv, count-eight (c .before .loop .rest) (omega arith))
 
 short-count-requires : tie.Need-short-count-requires Inv-loop μ-loop
 short-count-requires c κs = search needs

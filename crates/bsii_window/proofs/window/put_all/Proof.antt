@@ -1,75 +1,70 @@
-use mathlib.Core.Path.{sym, ap, _∙_}
 use native.Mathlib.Omega.{arith}
+use mathlib.Core.Path.{refl}
 use denote.Ref.{now}
-use Prim.Native.Nat.{_-_}
 use lib.ListN.{length}
-use lib.Seq.{sets}
-use Rattle.bsii_window.proofs.Laws.{rest, capped-low, capped-high, written-none, written-before, written-past, written-in}
+use Rattle.bsii_window.proofs.Laws.{past, starts, inside-sum}
 use borrow.Author.Needs.{needs}
 use Rattle.bsii_window.proofs.window.put_all.Statement.{statement}
 use Rattle.bsii_window.proofs.window.put_all.Tie as tie
+
+place-of-requires : tie.Need-place-of-requires
+place-of-requires c κs = search needs
+
+enum-told : tie.Need-enum-told
+enum-told c = search needs
 
 further-requires : tie.Need-further-requires
 further-requires c κs = search needs
 
 returns : tie.Need-returns
-returns c =
-    let a = c .before .before .before .before .args in
-    record { next = c .before .further .ensures; window = sym (written-none (now (a .out)) (a .at) (now (a .text)) (capped-low (a .at) (length (now (a .text))) (omega (arith, c .before .further .ensures)))); room = omega arith }
+returns c = past (c .before .enum-told .given .1) (c .before .before .before .place-of .ensures) refl (c .further .ensures) (omega arith)
 
-sub-before : tie.Need-sub-before
-sub-before c = search needs
+enum-told-2 : tie.Need-enum-told-2
+enum-told-2 c = search needs
 
-sub-store : tie.Need-sub-store
-sub-store c = let a = c .before .before .before .before .before .before .args in omega (arith, capped-high (a .at) (length (now (a .text))) (omega (arith, c .before .before .before .further .ensures)))
-
-part-store-start : tie.Need-part-store-start
-part-store-start c = let a = c .before .before .before .before .before .before .args in omega (arith, capped-high (a .at) (length (now (a .text))) (omega (arith, c .before .before .before .further .ensures)))
-
-part-store-end : tie.Need-part-store-end
-part-store-end c = search needs
-
-store-requires : tie.Need-store-requires
-store-requires c κs = search needs
+put-across-requires : tie.Need-put-across-requires
+put-across-requires c κs = search needs
 
 same-length : tie.Need-same-length
 same-length c = search needs
 
 returns-2 : tie.Need-returns-2
-returns-2 c =
+returns-2 c = search needs
+
+enum-known-place : tie.Need-enum-known-place
+enum-known-place c = search needs
+
+store-requires : tie.Need-store-requires
+store-requires c κs =
+    let a = c .before .before .before .before .before .before .before .args in
+    omega (arith, starts (length (now (a .text))) (c .before .before .place .given .1) (c .before .before .before .before .place-of .ensures))
+
+add-result : tie.Need-add-result
+add-result c =
     let a = c .before .before .before .before .before .before .before .before .before .before .args in
-    record { next = c .before .before .before .before .before .before .before .further .ensures; window = c .before .before .store .ensures ∙ ap (sets (now (a .out)) 0) (rest (0x8000_0000_0000_0000 - a .at) (now (a .text))) ∙ sym (written-before (now (a .out)) (a .at) (now (a .text)) (omega arith)); room = omega arith }
-
-returns-3 : tie.Need-returns-3
-returns-3 c =
-    let a = c .before .before .before .before .before .before .args in
-    record { next = c .before .before .before .further .ensures; window = sym (written-past (now (a .out)) (a .at) (now (a .text)) (omega arith) (omega arith)); room = omega arith }
-
-store-requires-2 : tie.Need-store-requires-2
-store-requires-2 c κs = search needs
+    omega (arith, starts (length (now (a .text))) (c .before .before .before .before .before .place .given .1) (c .before .before .before .before .before .before .before .place-of .ensures))
 
 same-length-2 : tie.Need-same-length-2
 same-length-2 c = search needs
 
-returns-4 : tie.Need-returns-4
-returns-4 c =
-    let a = c .before .before .before .before .before .before .before .before .before .before .args in
-    record { next = c .before .before .before .before .before .before .before .further .ensures; window = c .before .before .store2 .ensures ∙ sym (written-in (now (a .out)) (a .at) (now (a .text)) (omega arith)); room = omega arith }
+returns-3 : tie.Need-returns-3
+returns-3 c =
+    inside-sum (c .before .before .before .before .before .place .given .1) (c .before .before .before .before .before .before .before .place-of .ensures) refl (c .before .before .store .ensures) (omega arith)
 
 pub put-all-spec : {M : Type 1} → statement M
 put-all-spec =
     tie.close
     (tie.spec
+    place-of-requires
+    enum-told
     further-requires
     returns
-    sub-before
-    sub-store
-    part-store-start
-    part-store-end
-    store-requires
+    enum-told-2
+    put-across-requires
     same-length
     returns-2
-    returns-3
-    store-requires-2
+    enum-known-place
+    store-requires
+    add-result
     same-length-2
-    returns-4)
+    returns-3)
