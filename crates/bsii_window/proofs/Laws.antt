@@ -173,20 +173,25 @@ nothing {a} {at} e h = record { next = e; window = ap (sets a (at - 0x8000_0000_
 pub stays : {a b : List ℕ} {at r : ℕ} {x : List ℕ} → Wrote a at x r b → capped r 0 ≡ r
 stays {a} {b} {at} {r} {x} f = rw (f .next) (capped-twice at (length x) 0 ∙ ap (capped at) (add-zero (length x)))
 
--- a text past the window's end, of so many bytes
-pub past : {a : List ℕ} {at r n : ℕ} {x : List ℕ} {p : Place} → p ≡ place.Past → PlaceOf (length a) at n p → n ≡ length x → r ≡ capped at n
+-- a text past the window's end, by the place of n bytes
+pub past-by : {a : List ℕ} {at r : ℕ} (n : ℕ) {m : ℕ} {x : List ℕ} {p : Place} → p ≡ place.Past → PlaceOf (length a) at n p → m ≡ length x → r ≡ capped at m
     → length a < 0x8000_0000_0000_0000 → Wrote a at x r a
-past {a} {at} {r} {n} {x} q h k e l =
+past-by {a} {at} n {x = x} q h k e l =
     let g : length a + 0x8000_0000_0000_0000 ≤ at = subst (PlaceOf (length a) at n) q h in
     record { next = e ∙ ap (capped at) k; window = sym (written-past a at x (omega arith) (omega arith)); room = l }
+
+-- its own place
+pub past : {a : List ℕ} {at r n : ℕ} {x : List ℕ} {p : Place} → p ≡ place.Past → PlaceOf (length a) at n p → n ≡ length x → r ≡ capped at n
+    → length a < 0x8000_0000_0000_0000 → Wrote a at x r a
+past {n = n} q h k e l = past-by n q h k e l
 
 -- where a text of so many bytes starts, if all of it lies in the window
 pub starts : {room at start : ℕ} (n : ℕ) {p : Place} → p ≡ place.Inside start → PlaceOf room at n p → (at ≡ start + 0x8000_0000_0000_0000) × (start + n ≤ room)
 starts {room} {at} n q h = subst (PlaceOf room at n) q h
 
-pub inside : {a b : List ℕ} {at r n start : ℕ} {x : List ℕ} {p : Place} → p ≡ place.Inside start → PlaceOf (length a) at n p → n ≡ length x → r ≡ capped at n
-    → b ≡ sets a start x → length a < 0x8000_0000_0000_0000 → Wrote a at x r b
-inside {a} {b} {at} {r} {n} {start} {x} q h k e w l =
+pub inside-by : {a b : List ℕ} {at r start : ℕ} (n : ℕ) {m : ℕ} {x : List ℕ} {p : Place} → p ≡ place.Inside start → PlaceOf (length a) at n p → m ≡ length x
+    → r ≡ capped at m → b ≡ sets a start x → length a < 0x8000_0000_0000_0000 → Wrote a at x r b
+inside-by {a} {at = at} {start = start} n {x = x} q h k e w l =
     let g = starts n q h in
     let z : start ≡ at - 0x8000_0000_0000_0000 = omega (arith, g .0) in
     record { next = e ∙ ap (capped at) k; window = w ∙ ap (λ (i : ℕ). sets a i x) z ∙ sym (written-in a at x (omega (arith, g .0))); room = l }
@@ -194,7 +199,7 @@ inside {a} {b} {at} {r} {n} {start} {x} q h k e w l =
 -- the position behind it, without a test: no slice is so long that it could stay where it is
 pub inside-sum : {a b : List ℕ} {at n start : ℕ} {x : List ℕ} {p : Place} → p ≡ place.Inside start → PlaceOf (length a) at n p → n ≡ length x
     → b ≡ sets a start x → length a < 0x8000_0000_0000_0000 → Wrote a at x (at + n) b
-inside-sum {at = at} {n} q h k w l = let g = starts n q h in inside q h k (sym (capped-fits at n (omega (arith, g)))) w l
+inside-sum {at = at} {n} q h k w l = let g = starts n q h in inside-by n q h k (sym (capped-fits at n (omega (arith, g)))) w l
 
 -- ---- bytes that are stored one by one
 

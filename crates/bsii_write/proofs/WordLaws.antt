@@ -1,11 +1,14 @@
 -- A word's digits, the lowest first.
-use Prim.Native.Nat.{ℕ, zero, suc, _+_, _/_, _%_, _≤_, _<_}
-use mathlib.Core.Path.{_≡_, refl, ap, _∙_}
+use Prim.Native.Nat.{ℕ, zero, suc, _+_, _*_, _/_, _%_, _^_, _≤_, _<_}
+use mathlib.Core.Path.{_≡_, refl, sym, ap, _∙_}
 use mathlib.Core.Bool.{true}
 use mathlib.Core.Option.{Option, none, some, Option·getD}
 use mathlib.Core.List.{List, [], _∷_}
 use native.Mathlib.Omega.{arith}
-use lib.ListN.{length, getD}
+use lib.ListN.{length, getD, set}
+use lib.Seq.{sets}
+use Rattle.bsii_window.specs.Counts.{reach}
+use Rattle.bsii_window.proofs.Counts.{counted, scaled-by, reach-most}
 use Rattle.bsii_format.specs.Strings.{charEncodings, digitThen, base38From, base38, isSome, spelled, characters}
 use Rattle.bsii_format.specs.Text.{orEmpty, encodedStringText}
 use Rattle.bsii_write.specs.Words.{charOf, spellingFrom, spelling, encodedText}
@@ -31,46 +34,54 @@ unfolding spelling spellingFrom
 spelling-none zero h = refl
 spelling-none (suc n) h = absurd (omega arith)
 
+pub spelling-one : (n : ℕ) → 0 < n → n < 38 → spelling n ≡ charOf (n % 38) ∷ []
+spelling-one n h l = spelling-more n h ∙ ap (λ (l : List ℕ). charOf (n % 38) ∷ l) (spelling-none (n / 38) (omega arith))
+
+pub spelling-two : (n : ℕ) → 38 ≤ n → spelling n ≡ charOf (n % 38) ∷ charOf (n / 38 % 38) ∷ spelling (n / 1444)
+spelling-two n h =
+    let z : n / 38 / 38 ≡ n / 1444 = omega arith in
+    spelling-more n (omega arith)
+    ∙ ap (λ (l : List ℕ). charOf (n % 38) ∷ l) (spelling-more (n / 38) (omega arith) ∙ ap (λ (m : ℕ). charOf (n / 38 % 38) ∷ spelling m) z)
+
 -- ---- how many
 
-count-fuel : (f n : ℕ) → length (spellingFrom f n) ≤ f
-unfolding spellingFrom
-count-fuel zero n = omega arith
-count-fuel (suc f) zero = omega arith
-count-fuel (suc f) (suc n) = omega (arith, count-fuel f (suc n / 38))
+pub count-none : (n : ℕ) → n < 1 → length (spelling n) ≡ 0
+count-none n h = ap length (spelling-none n (omega arith))
 
--- fewer than a number of 64 bits can say
-pub count-most : (n : ℕ) → length (spelling n) ≤ n
-unfolding spelling
-count-most n = count-fuel n n
-
-pub count-none : (n : ℕ) → n ≤ 0 → length (spelling n) ≡ 0
-count-none n h = ap length (spelling-none n h)
-
-pub count-more : (n : ℕ) → 0 < n → length (spelling n) ≡ suc (length (spelling (n / 38)))
+pub count-more : (n : ℕ) → 1 ≤ n → length (spelling n) ≡ suc (length (spelling (n / 38)))
 count-more n h = ap length (spelling-more n h)
 
-pub count-one : (n : ℕ) → 0 < n → n < 38 → length (spelling n) ≡ 1
-count-one n h l = count-more n h ∙ ap suc (count-none (n / 38) (omega arith))
+pub count-two : (n : ℕ) → 38 ≤ n → length (spelling n) ≡ 2 + length (spelling (n / 1444))
+count-two n h = ap length (spelling-two n h) ∙ omega arith
 
-pub count-two : (n : ℕ) → 38 ≤ n → n < 1444 → length (spelling n) ≡ 2
-count-two n h l = count-more n (omega arith) ∙ ap suc (count-one (n / 38) (omega arith) (omega arith))
+-- one for each power that is reached, of thirteen
+pub thirteen : (n : ℕ) → n < 2 ^ 64
+    → length (spelling n)
+    ≡ reach 1 n + (reach 38 n + (reach 1444 n + (reach 54872 n + (reach 2085136 n + (reach 79235168 n + (reach 3010936384 n + (reach 114415582592 n + (reach 4347792138496 n + (reach 165216101262848 n + (reach 6278211847988224 n + (reach 238572050223552512 n + (reach 9065737908494995456 n + 0))))))))))))
+thirteen n h =
+    counted 38 1 (λ (n : ℕ). length (spelling n)) count-none count-more (λ (b n : ℕ). scaled-by 38 b n (λ l. omega arith) (λ l. omega arith))
+    (λ (n t : ℕ) (l : n < 38 * t). omega arith)
+    (λ (n : ℕ). omega arith)
+    13
+    n
+    (omega arith)
 
-pub count-three : (n : ℕ) → 1444 ≤ n → n < 54872 → length (spelling n) ≡ 3
-count-three n h l = count-more n (omega arith) ∙ ap suc (count-two (n / 38) (omega arith) (omega arith))
+pub at-most-thirteen : (n : ℕ) → n < 2 ^ 64 → length (spelling n) ≤ 13
+at-most-thirteen n h =
+    omega
+    (arith, thirteen n h, reach-most 1 n, reach-most 38 n, reach-most 1444 n, reach-most 54872 n, reach-most 2085136 n, reach-most 79235168 n, reach-most 3010936384 n, reach-most 114415582592 n, reach-most 4347792138496 n, reach-most 165216101262848 n, reach-most 6278211847988224 n, reach-most 238572050223552512 n, reach-most 9065737908494995456 n)
 
-pub count-last : (n : ℕ) → 54872 ≤ n → n < 2085136 → length (spelling n) ≡ 4
-count-last n h l = count-more n (omega arith) ∙ ap suc (count-three (n / 38) (omega arith) (omega arith))
+-- ---- characters that are stored
 
-pub count-four : (n : ℕ) → 54872 ≤ n → length (spelling n) ≡ 4 + length (spelling (n / 2085136))
-count-four n h =
-    let z : n / 38 / 38 / 38 / 38 ≡ n / 2085136 = omega arith in
-    let a = count-more n (omega arith) in
-    let b = count-more (n / 38) (omega arith) in
-    let c = count-more (n / 38 / 38) (omega arith) in
-    let d = count-more (n / 38 / 38 / 38) (omega arith) in
-    let e = ap (λ (m : ℕ). length (spelling m)) z in
-    omega (arith, a, b, c, d, e)
+module _ (out : List ℕ) (s n : ℕ) {c : ℕ} (e : c ≡ charOf (n % 38)) where
+  pub store-one : 0 < n → n < 38 → set out s c ≡ sets out s (spelling n)
+  store-one h l = rw e (ap (sets out s) (sym (spelling-one n h l)))
+
+  pub store-two : {d : ℕ} → d ≡ charOf (n / 38 % 38) → 38 ≤ n → sets (set (set out s c) (s + 1) d) (s + 2) (spelling (n / 1444)) ≡ sets out s (spelling n)
+  store-two f h =
+      let y : s + 1 ≡ suc s = omega arith in
+      let z : s + 2 ≡ suc (suc s) = omega arith in
+      rw (y, z, e, f) (ap (sets out s) (sym (spelling-two n h)))
 
 -- ---- accepted words
 

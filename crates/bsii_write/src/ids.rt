@@ -2,6 +2,7 @@
 use crate::words::write_word;
 use bsii_float::numbers::u8_at;
 use bsii_float::numbers::u64_at;
+use bsii_window::digits::hex_count;
 use bsii_window::digits::write_hex;
 use bsii_window::digits::write_hex_padded;
 use bsii_window::window::Place;
@@ -51,10 +52,7 @@ fn write_groups(out: &mut [u8], at: usize, n: u64, behind: u32) -> usize
 fn nameless_count(n: u64) -> usize
     ensures { λ r. ⌜ r ≡ length (idText (nameless n)) ⌝ }
 {
-    if n == 0 {
-        return 11;
-    }
-    let digits = ((67 - u64::leading_zeros(n)) / 4) as usize;
+    let digits = hex_count(n) as usize;
     9 + digits + (digits + 3) / 4
 }
 

@@ -1,4 +1,5 @@
 // Encoded words.
+use bsii_window::digits::reaches;
 use bsii_window::window::Place;
 use bsii_window::window::further;
 use bsii_window::window::place_of;
@@ -21,51 +22,54 @@ fn char_of(d: u64) -> u8
     CHARS[d as usize]
 }
 
-// How many characters a word below 38^4 has.
-fn short_word_count(n: u64) -> usize
-    requires { ⌜ n < 2085136 ⌝ }
-    ensures { λ r. ⌜ r ≡ length (spelling n) ⌝ }
-{
-    if n == 0 {
-        return 0;
-    }
-    if n < 38 {
-        return 1;
-    }
-    if n < 1444 {
-        return 2;
-    }
-    if n < 54872 {
-        return 3;
-    }
-    4
-}
-
-// How many characters there are: four for each division by 38^4.
+// How many characters there are: one for each power of 38 that the word reaches.
 fn word_count(n: u64) -> usize
     ensures { λ r. ⌜ r ≡ length (spelling n) ⌝ }
 {
-    let mut rest = n;
-    let mut count: usize = 0;
-    while 2085135 < rest {
-        rest = rest / 2085136;
-        count += 4;
-    }
-    count + short_word_count(rest)
+    let low = reaches(n, 1) + reaches(n, 38) + reaches(n, 1444) + reaches(n, 54872);
+    let middle = reaches(n, 2085136)
+        + reaches(n, 79235168)
+        + reaches(n, 3010936384)
+        + reaches(n, 114415582592);
+    let high = reaches(n, 4347792138496)
+        + reaches(n, 165216101262848)
+        + reaches(n, 6278211847988224);
+    let top = reaches(n, 238572050223552512) + reaches(n, 9065737908494995456);
+    low + middle + high + top
 }
 
-// The characters from an index on.
-fn fill_word(out: &mut [u8], start: usize, word: u64)
-    requires { ⌜ start + length (spelling word) ≤ length (now out) ⌝ }
-    ensures { λ _. ⌜ now (out .exit) ≡ sets (now (out .entry)) start (spelling word) ⌝ }
+// The last characters, of a rest below 38^2, and the index behind them.
+fn fill_last(out: &mut [u8], start: usize, rest: u64) -> usize
+    requires { ⌜ (rest < 1444) × (start + length (spelling rest) ≤ length (now out)) ⌝ }
+    ensures { λ r. ⌜ (now (out .exit) ≡ sets (now (out .entry)) start (spelling rest)) × (r ≡ start + length (spelling rest)) ⌝ }
 {
+    let chars = CHARS;
+    if rest == 0 {
+        return start;
+    }
+    out[start] = chars[(rest % 38) as usize];
+    if rest < 38 {
+        return start + 1;
+    }
+    out[start + 1] = chars[(rest / 38) as usize];
+    start + 2
+}
+
+// The characters from an index on, two for each division, and the index behind them. The table is built once for all of them.
+fn fill_word(out: &mut [u8], start: usize, word: u64) -> usize
+    requires { ⌜ start + length (spelling word) ≤ length (now out) ⌝ }
+    ensures { λ r. ⌜ (now (out .exit) ≡ sets (now (out .entry)) start (spelling word)) × (r ≡ start + length (spelling word)) ⌝ }
+{
+    let chars = CHARS;
     let mut i = start;
     let mut rest = word;
-    while 0 < rest {
-        out[i] = char_of(rest % 38);
-        rest = rest / 38;
-        i += 1;
+    while 1443 < rest {
+        out[i] = chars[(rest % 38) as usize];
+        out[i + 1] = chars[(rest / 38 % 38) as usize];
+        rest = rest / 1444;
+        i += 2;
     }
+    fill_last(out, i, rest)
 }
 
 // One character after the other, for a text across an edge of the window.
@@ -81,18 +85,17 @@ fn put_word(out: &mut [u8], at: usize, word: u64) -> usize
     to
 }
 
-// A word's characters, the lowest digit first.
+// A word's characters, the lowest digit first. No word of 64 bits has more than thirteen, so that with room for those nothing is counted.
 pub fn write_word(out: &mut [u8], at: usize, word: u64) -> usize
     ensures { λ r. ⌜ Wrote (now (out .entry)) at (spelling word) r (now (out .exit)) ⌝ }
 {
-    let count = word_count(word);
-    let place = place_of(out.len(), at, count);
+    let place = place_of(out.len(), at, 13);
     match place {
-        Place::Past => return further(at, count),
+        Place::Past => return further(at, word_count(word)),
         Place::Across => return put_word(out, at, word),
         Place::Inside(start) => {
-            fill_word(out, start, word);
-            return further(at, count);
+            let end = fill_word(out, start, word);
+            return further(at, end - start);
         }
     }
 }

@@ -1,11 +1,9 @@
 use native.Mathlib.Omega.{arith}
-use Rattle.bsii_window.proofs.Laws.{past, starts, inside}
+use Rattle.bsii_window.proofs.Laws.{past-by, starts, inside-by}
+use Rattle.bsii_write.proofs.WordLaws.{at-most-thirteen}
 use borrow.Author.Needs.{needs}
 use Rattle.bsii_write.proofs.words.write_word.Statement.{statement}
 use Rattle.bsii_write.proofs.words.write_word.Tie as tie
-
-word-count-requires : tie.Need-word-count-requires
-word-count-requires c κs = search needs
 
 place-of-requires : tie.Need-place-of-requires
 place-of-requires c κs = search needs
@@ -13,12 +11,15 @@ place-of-requires c κs = search needs
 enum-told : tie.Need-enum-told
 enum-told c = search needs
 
+word-count-requires : tie.Need-word-count-requires
+word-count-requires c κs = search needs
+
 further-requires : tie.Need-further-requires
 further-requires c κs = search needs
 
 returns : tie.Need-returns
 returns c =
-    past (c .before .enum-told .given .1) (c .before .before .before .place-of .ensures) (c .before .before .before .before .word-count .ensures) (c .further .ensures) (omega arith)
+    past-by 13 (c .before .before .enum-told .given .1) (c .before .before .before .before .place-of .ensures) (c .before .word-count .ensures) (c .further .ensures) (omega arith)
 
 enum-told-2 : tie.Need-enum-told-2
 enum-told-2 c = search needs
@@ -37,8 +38,11 @@ enum-known-place c = search needs
 
 fill-word-requires : tie.Need-fill-word-requires
 fill-word-requires c κs =
-    let count = c .before .before .before .before .before .word-count in
-    omega (arith, count .ensures, starts (count .result) (c .before .before .place .given .1) (c .before .before .before .before .place-of .ensures) .1)
+    let word = c .before .before .before .before .before .before .args .word in
+    omega (arith, at-most-thirteen word (omega arith), starts 13 (c .before .before .place .given .1) (c .before .before .before .before .place-of .ensures) .1)
+
+sub-further : tie.Need-sub-further
+sub-further c = search needs
 
 further-requires-2 : tie.Need-further-requires-2
 further-requires-2 c κs = search needs
@@ -50,16 +54,16 @@ returns-3 : tie.Need-returns-3
 returns-3 c =
     let place = c .before .before .before .before .before .before .place in
     let place-of = c .before .before .before .before .before .before .before .before .place-of in
-    let count = c .before .before .before .before .before .before .before .before .before .word-count in
-    inside (place .given .1) (place-of .ensures) (count .ensures) (c .further2 .ensures) (c .before .before .before .fill-word .ensures) (omega arith)
+    let fill = c .before .before .before .fill-word in
+    inside-by 13 (place .given .1) (place-of .ensures) (omega (arith, fill .ensures .1)) (c .further2 .ensures) (fill .ensures .0) (omega arith)
 
 pub write-word-spec : {M : Type 1} → statement M
 write-word-spec =
     tie.close
     (tie.spec
-    word-count-requires
     place-of-requires
     enum-told
+    word-count-requires
     further-requires
     returns
     enum-told-2
@@ -68,6 +72,7 @@ write-word-spec =
     returns-2
     enum-known-place
     fill-word-requires
+    sub-further
     further-requires-2
     same-length-2
     returns-3)
