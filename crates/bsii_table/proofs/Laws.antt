@@ -1,7 +1,7 @@
 -- The laws of the table: rows in order and the search among them, what a look-up finds, and what stays of it when a row is changed or added.
-use Prim.Native.Nat.{ℕ, zero, suc, _+_, _*_, _≤_, _<_}
+use Prim.Native.Nat.{ℕ, zero, suc, _+_, _-_, _*_, _≤_, _<_}
 use native.Mathlib.Nat.{eq-or-lt-of-le}
-use native.Mathlib.Decide.{ℕ-discrete}
+use native.Mathlib.Decide.{ℕ-discrete, decLt}
 use native.Mathlib.Numerals.{add-one}
 use native.Mathlib.Omega.{arith}
 use mathlib.Core.Path.{_≡_, refl, sym, ap, ap₂, _∙_, subst}
@@ -9,9 +9,10 @@ use mathlib.Core.Logic.{_⊎_, inl, inr, ⊎-elim}
 use mathlib.Core.Bool.{cond}
 use mathlib.Core.Option.{Option, none, some, Option·map}
 use mathlib.Core.List.{List, _++_, append-nil}
-use lib.ListN.{length, getD, set, length-set, drop, replicate}
-use lib.Seq.{drop-length, getD-set-same, getD-set-other}
+use lib.ListN.{length, getD, set, length-set, take, drop, replicate, List·getD-append}
+use lib.Seq.{drop-length, length-take-le, getD-set-same, getD-set-other, getD-append-add, getD-take, getD-drop}
 use lib.Dec.{eqb}
+use borrow.Rule.Slice.PartMut.{midOf, postOf, putMid, same-len-mid, mid-len}
 use borrow.Author.Count.{below-none, below-more}
 use borrow.Author.Tests.{eq-eqb, ne-eqb}
 use Rattle.bsii_table.specs.Rows.{Row, offsets, idAt, rowAt, lookupFrom, lookup, Rows}
@@ -401,3 +402,41 @@ opened-more {t} {u} {j} {end} w i z room = record {
 
     first : getD t′ (i + 3) 0 ≡ getD t i 0
     first = getD-set-same u (i + 3) (getD u i 0) 0 (omega (arith, w .size)) ∙ w .kept i (omega arith)
+
+-- room in the part from `at` on is room in the whole
+pub opened-part : (t : List ℕ) (at end : ℕ) {q : List ℕ} → at ≤ end → end + 3 ≤ length t → Opened (midOf at (length t - at) t) 0 (end - at) q
+    → Opened t at end (putMid at (length t - at) t q)
+opened-part t at end {q} l room w = record {
+  size = same-len-mid at (length t - at) t q (w .size);
+  kept = λ k m. kept k m (decLt k at);
+  moved = λ k m n.
+      now-at (k + 3) (omega arith) (omega arith)
+      ∙ ap (λ (n : ℕ). getD q n 0) (omega arith)
+      ∙ w .moved (k - at) (omega arith) (omega arith)
+      ∙ was-at k m (omega arith);
+}
+  where
+    t′ : List ℕ
+    t′ = putMid at (length t - at) t q
+
+    front : length (take at t) ≡ at
+    front = length-take-le at t (omega arith)
+
+    size : length q ≡ length t - at
+    size = w .size ∙ mid-len at (length t) t (omega arith)
+
+    now-at : (k : ℕ) → at ≤ k → k < length t → getD t′ k 0 ≡ getD q (k - at) 0
+    now-at k m n =
+        ap (λ (n : ℕ). getD t′ n 0) (omega (arith, front))
+        ∙ getD-append-add (take at t) (q ++ postOf at (length t - at) t) (k - at) 0
+        ∙ List·getD-append q (postOf at (length t - at) t) 0 (k - at) (omega (arith, size))
+
+    was-at : (k : ℕ) → at ≤ k → k < length t → getD (midOf at (length t - at) t) (k - at) 0 ≡ getD t k 0
+    was-at k m n =
+        getD-take (length t - at) (drop at t) (k - at) 0 (omega arith)
+        ∙ getD-drop at t (k - at) 0
+        ∙ ap (λ (n : ℕ). getD t n 0) (omega arith)
+
+    kept : (k : ℕ) → k < at + 3 → Dec (k < at) → getD t′ k 0 ≡ getD t k 0
+    kept k m (yes y) = List·getD-append (take at t) (q ++ postOf at (length t - at) t) 0 k (omega (arith, front)) ∙ getD-take at t k 0 y
+    kept k m (no n) = now-at k (omega arith) (omega arith) ∙ w .kept (k - at) (omega arith) ∙ was-at k (omega arith) (omega arith)

@@ -52,16 +52,24 @@ fn locate(table: &[u32], rows: usize, id: u32) -> Slot
     Slot::Free(3 * low)
 }
 
-// Room for a row at an index: the words from `at` up to `end` move up by one row, the last one first.
+// The words move up by one row, the last one first: of a slice from the opened row on, so that the machine's code is one memmove.
+fn shift_up(part: &mut [u32], count: usize)
+    requires { ⌜ count + 3 ≤ length (now part) ⌝ }
+    ensures { λ _. ⌜ Opened (now (part .entry)) 0 count (now (part .exit)) ⌝ }
+{
+    let mut i = count;
+    while 0 < i {
+        i -= 1;
+        part[i + 3] = part[i];
+    }
+}
+
+// Room for a row at an index: the words from `at` up to `end` move up.
 fn open_row(table: &mut [u32], at: usize, end: usize)
     requires { ⌜ (at ≤ end) × (end + 3 ≤ length (now table)) ⌝ }
     ensures { λ _. ⌜ Opened (now (table .entry)) at end (now (table .exit)) ⌝ }
 {
-    let mut i = end;
-    while at < i {
-        i -= 1;
-        table[i + 3] = table[i];
-    }
+    shift_up(&mut table[at..], end - at);
 }
 
 // The offsets of an id.

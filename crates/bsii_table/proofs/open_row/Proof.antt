@@ -1,72 +1,45 @@
--- `open_row` meets its contract. The loop's invariant: the words from `i` on are moved.
-use Prim.Native.Nat.{ℕ, _-_, _≤_}
-use mathlib.Core.Path.{_≡_, subst}
-use native.Mathlib.Omega.{arith}
+-- `open_row` meets its contract: what `shift_up` did to the part, seen in the whole table.
 use denote.Ref.{now}
-use Rattle.bsii_table.specs.Table.{Opened}
-use Rattle.bsii_table.proofs.Laws.{opened-none, opened-more}
+use borrow.Author.Needs.{needs}
+use Rattle.bsii_table.proofs.Laws.{opened-part}
 use Rattle.bsii_table.proofs.open_row.Statement.{statement}
 use Rattle.bsii_table.proofs.open_row.Tie as tie
 
-abbrev Inv-loop : tie.InvT-loop
-Inv-loop table₀ at end i₀ table i = (at ≤ i) × (i ≤ end) × Opened table₀ i end table
+mul-shift-up : tie.Need-mul-shift-up
+mul-shift-up c = search needs
 
-abbrev μ-loop : tie.MeasureT-loop
-μ-loop table₀ at end i₀ table i = i
+sub-shift-up : tie.Need-sub-shift-up
+sub-shift-up c = search needs
 
-loop-holds : tie.Need-loop-holds Inv-loop μ-loop
-loop-holds c = (omega arith, omega arith, opened-none (now (c .args .table)) (c .args .end))
+part-shift-up-start : tie.Need-part-shift-up-start
+part-shift-up-start c = search needs
 
-sub-i : tie.Need-sub-i Inv-loop μ-loop
-sub-i c = omega arith
+part-shift-up-end : tie.Need-part-shift-up-end
+part-shift-up-end c = search needs
 
-mul-table : tie.Need-mul-table Inv-loop μ-loop
-mul-table c = omega arith
+sub-shift-up-2 : tie.Need-sub-shift-up-2
+sub-shift-up-2 c = search needs
 
-slice-read-table : tie.Need-slice-read-table Inv-loop μ-loop
-slice-read-table c = omega arith
+shift-up-requires : tie.Need-shift-up-requires
+shift-up-requires c κs = search needs
 
-add-table : tie.Need-add-table Inv-loop μ-loop
-add-table c = omega arith
+same-length : tie.Need-same-length
+same-length c = search needs
 
-mul-table-2 : tie.Need-mul-table-2 Inv-loop μ-loop
-mul-table-2 c = omega arith
-
-slice-write-table : tie.Need-slice-write-table Inv-loop μ-loop
-slice-write-table c = omega arith
-
-loop-less : tie.Need-loop-less Inv-loop μ-loop
-loop-less c = omega arith
-
-loop-again : tie.Need-loop-again Inv-loop μ-loop
-loop-again c =
-    let x = c .before .before .loop in
-    (omega arith, omega arith, opened-more (x .inv .2) (x .i - 1) (omega arith) (omega arith))
-
-same-length : tie.Need-same-length Inv-loop μ-loop
-same-length c = c .before .loop .inv .2 .size
-
-returns : tie.Need-returns Inv-loop μ-loop
+returns : tie.Need-returns
 returns c =
-    let x = c .before .loop in
-    let a = c .before .before .args in
-    let z : x .i ≡ a .at = omega arith in
-    subst (λ (n : ℕ). Opened (now (a .table)) n (a .end) (x .table)) z (x .inv .2)
+    let s = c .before .before .before .before .before in
+    opened-part (now (s .args .table)) (s .args .at) (s .args .end) (s .pre .0) (s .pre .1) (c .before .before .shift-up .ensures)
 
 pub open-row-spec : {M : Type 1} → statement M
 open-row-spec =
     tie.close
     (tie.spec
-    Inv-loop
-    μ-loop
-    loop-holds
-    sub-i
-    mul-table
-    slice-read-table
-    add-table
-    mul-table-2
-    slice-write-table
-    loop-less
-    loop-again
+    mul-shift-up
+    sub-shift-up
+    part-shift-up-start
+    part-shift-up-end
+    sub-shift-up-2
+    shift-up-requires
     same-length
     returns)
