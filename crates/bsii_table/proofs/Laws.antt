@@ -49,6 +49,11 @@ once h {i} {j} (front l) k m q = absurd (omega (arith, h .sorted j i l k))
 once h here k m q = refl
 once h {i} (behind {j} l) k m q = absurd (omega (arith, h .sorted i (suc j) (omega arith) m))
 
+-- so there are no more rows than ids
+pub id-from : {t : List ℕ} {rows : ℕ} → Rows t rows → (i : ℕ) → i < rows → i ≤ idAt t i
+id-from h zero l = omega arith
+id-from h (suc i) l = omega (arith, id-from h i (omega arith), h .sorted i (suc i) (omega arith) l)
+
 -- where an id would stand among those of the rows: the rows in front of `low` have lesser ids, those from `high` on greater ones
 pub record Bracket (t : List ℕ) (rows : ℕ) (id : ℕ) (low : ℕ) (high : ℕ) : Type 0 where
   pub ordered : low ≤ high

@@ -2,12 +2,12 @@
 // definition). It may come in with anything in it. A zero id is a valid id, so the number of rows is carried beside the table.
 // The reading walk defines ids; a second walk over an accepted file enters each definition again as it meets it.
 //
-// The rows stand in the order of their ids: a look-up halves the rows that are left with each id it reads, and the row of a new id moves
-// those of the greater ids up.
+// The rows stand in the order of their ids: a look-up tries the row where ids that are spread evenly would have it, then halves the rows
+// that are left with each id it reads; and the row of a new id moves those of the greater ids up.
 //
 // `find`, `define` and `enter` require `Rows`, that the rows are in the table and in that order: callers have it from the relation to the
 // definitions so far that they carry anyway.
-ghost use Prim.Native.Nat.{_+_, _≤_};
+ghost use Prim.Native.Nat.{_+_, _≤_, _<_};
 ghost use mathlib.Core.Path.{_≡_};
 ghost use lib.ListN.{length, replicate};
 ghost use Rattle.bsii_table.specs.Rows.{Rows, lookup};
@@ -31,7 +31,26 @@ enum Slot {
     Free(usize),
 }
 
-fn locate(table: &[u32], rows: usize, id: u32) -> Slot
+// Where the id would stand if the ids were spread evenly from the first to the last. Only a guess: any row will do.
+fn likely_row(table: &[u32], rows: usize, id: u32) -> usize
+    requires { ⌜ Rows (now table) rows × (0 < rows) ⌝ }
+    ensures { λ r. ⌜ r < rows ⌝ }
+{
+    let first = table[0];
+    let last = table[3 * (rows - 1)];
+    if id <= first {
+        return 0;
+    }
+    if last <= id {
+        return rows - 1;
+    }
+    let ahead = (id - first) as usize;
+    let spread = (last - first) as usize;
+    // The product fits: there are no more rows than ids.
+    ahead * (rows - 1) / spread
+}
+
+fn binary_search(table: &[u32], rows: usize, id: u32) -> Slot
     requires { ⌜ Rows (now table) rows ⌝ }
     ensures { λ r. ⌜ Locate (now (table .entry)) rows id r ⌝ }
 {
@@ -50,6 +69,19 @@ fn locate(table: &[u32], rows: usize, id: u32) -> Slot
         }
     }
     Slot::Free(3 * low)
+}
+
+fn locate(table: &[u32], rows: usize, id: u32) -> Slot
+    requires { ⌜ Rows (now table) rows ⌝ }
+    ensures { λ r. ⌜ Locate (now (table .entry)) rows id r ⌝ }
+{
+    if 0 < rows {
+        let row = likely_row(table, rows, id);
+        if table[3 * row] == id {
+            return Slot::Row(3 * row);
+        }
+    }
+    binary_search(table, rows, id)
 }
 
 // The words move up by one row, the last one first: of a slice from the opened row on, so that the machine's code is one memmove.

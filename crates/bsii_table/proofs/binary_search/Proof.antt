@@ -1,11 +1,11 @@
--- `locate` meets its contract. The loop's invariant: the rows in front of `low` have lesser ids, those from `high` on greater ones.
+-- `binary_search` meets its contract. The loop's invariant: the rows in front of `low` have lesser ids, those from `high` on greater ones.
 use Prim.Native.Nat.{_+_, _-_, _/_}
 use mathlib.Core.Path.{refl}
 use native.Mathlib.Omega.{arith}
 use denote.Ref.{now}
 use Rattle.bsii_table.proofs.Laws.{Bracket, bracket-all, bracket-up, bracket-down, bracket-free}
-use Rattle.bsii_table.proofs.locate.Statement.{statement}
-use Rattle.bsii_table.proofs.locate.Tie as tie
+use Rattle.bsii_table.proofs.binary_search.Statement.{statement}
+use Rattle.bsii_table.proofs.binary_search.Tie as tie
 
 abbrev Inv-loop : tie.InvT-loop
 Inv-loop table rows id low₀ high₀ low high = Bracket table rows id low high
@@ -64,8 +64,8 @@ mul-t14 c = omega arith
 returns-2 : tie.Need-returns-2 Inv-loop μ-loop
 returns-2 c = bracket-free (c .before .loop .inv) (c .loop-test .left)
 
-pub locate-spec : {M : Type 1} → statement M
-locate-spec =
+pub binary-search-spec : {M : Type 1} → statement M
+binary-search-spec =
     tie.close
     (tie.spec
     Inv-loop
