@@ -2,7 +2,10 @@
 use mathlib.Core.Path.{_≡_, refl, ap, _∙_}
 use Prim.Native.Nat.{ℕ, zero, suc, _/_, _%_, _≤_, _<_}
 use native.Mathlib.Omega.{arith}
-use mathlib.Core.Bool.{true, false}
+use native.Mathlib.Decide.{ℕ-discrete}
+use mathlib.Core.Bool.{true, false, not}
+use lib.Dec.{eqb}
+use borrow.Author.Tests.{eq-eqb, ne-eqb}
 use mathlib.Core.Option.{Option, none, some, Option·map}
 use mathlib.Core.List.{List}
 use Rattle.bsii_format.specs.Strings.{digitThen, base38From, base38, isSome, spelled}
@@ -45,3 +48,22 @@ pub spelled-none : (n : ℕ) → n ≤ 0 → spelled n ≡ true
 unfolding spelled base38 base38From isSome
 spelled-none zero h = refl
 spelled-none (suc n) h = absurd (omega arith)
+
+-- two digits
+module _ (n : ℕ) (l : 1443 < n) (k : n % 38 ≡ 0 → ⊥) where
+  pub spelled-second : n / 38 % 38 ≡ 0 → spelled n ≡ false
+  spelled-second m = spelled-more n (omega arith) k ∙ spelled-not (n / 38) (omega arith) m
+
+  pub spelled-two : (n / 38 % 38 ≡ 0 → ⊥) → spelled n ≡ spelled (n / 1444)
+  spelled-two m = spelled-more n (omega arith) k ∙ spelled-more (n / 38) (omega arith) m ∙ ap spelled (omega arith)
+
+-- the second of two digits, if it is there, is not 0
+pub spelled-short : (n : ℕ) → 0 < n → n < 1444 → spelled n ≡ not (eqb (n % 38) 0)
+spelled-short n l h = go (ℕ-discrete (n % 38) 0) (ℕ-discrete (n / 38) 0)
+  where
+    go : Dec (n % 38 ≡ 0) → Dec (n / 38 ≡ 0) → spelled n ≡ not (eqb (n % 38) 0)
+    go (yes y) d = rw (eq-eqb (n % 38) 0 y) (spelled-not n l y)
+    go (no k) (yes y) = rw (ne-eqb (n % 38) 0 k) (spelled-more n l k ∙ spelled-none (n / 38) (omega arith))
+    go (no k) (no m) =
+        rw (ne-eqb (n % 38) 0 k)
+        (spelled-more n l k ∙ spelled-more (n / 38) (omega arith) (omega arith) ∙ spelled-none (n / 38 / 38) (omega arith))

@@ -11,6 +11,7 @@ use crate::numbers::left;
 use crate::numbers::size;
 use crate::utf8::is_utf8;
 ghost use mathlib.Core.Path.{_≡_};
+ghost use Prim.Native.Nat.{_<_};
 ghost use lib.ListN.{drop};
 ghost use Rattle.bsii_format.specs.Reader.{repeat};
 ghost use Rattle.bsii_format.specs.Numbers.{number};
@@ -69,18 +70,32 @@ pub fn str_past(s: &[u8], at: usize) -> Parsed
     }
 }
 
-// Whether no digit to base 38 is 0.
+// Whether no digit to base 38 is 0, of two at most: only the last can be.
+fn short_spelled(n: u64) -> bool
+    requires { ⌜ n < 1444 ⌝ }
+    ensures { λ r. ⌜ r ≡ spelledOf n ⌝ }
+{
+    if n == 0 {
+        return true;
+    }
+    n % 38 != 0
+}
+
+// Whether no digit to base 38 is 0. Two digits a turn, 1444 being the square of 38: half as many divisions wait for the one before.
 pub fn spelled(n: u64) -> bool
     ensures { λ r. ⌜ r ≡ spelledOf n ⌝ }
 {
     let mut rest = n;
-    while 0 < rest {
+    while 1443 < rest {
         if rest % 38 == 0 {
             return false;
         }
-        rest = rest / 38;
+        if rest / 38 % 38 == 0 {
+            return false;
+        }
+        rest = rest / 1444;
     }
-    true
+    short_spelled(rest)
 }
 
 pub fn encoded_str_parser(s: &[u8], at: usize) -> Word
