@@ -26,7 +26,7 @@ pub stored-length : (l : List ℕ) (k : ℕ) (x : List ℕ) {m : List ℕ} → m
 stored-length l k x e = ap length e ∙ length-sets l k x
 
 -- a piece behind what is stored
-stored-more : (l : List ℕ) (i : ℕ) (x y : List ℕ) {m : List ℕ} (k : ℕ) → m ≡ sets l i x → k ≡ i + length x → sets m k y ≡ sets l i (x ++ y)
+pub stored-more : (l : List ℕ) (i : ℕ) (x y : List ℕ) {m : List ℕ} (k : ℕ) → m ≡ sets l i x → k ≡ i + length x → sets m k y ≡ sets l i (x ++ y)
 stored-more l i x y k e h = ap (λ (n : List ℕ). sets n k y) e ∙ ap (λ (j : ℕ). sets (sets l i x) j y) h ∙ sets-append l i x y
 
 pub name-stored : (l : List ℕ) (start : ℕ) (name : List ℕ) {m : List ℕ} → m ≡ sets (set (set l start 32) (start + 1) 32) (start + 2) name

@@ -1,4 +1,5 @@
 // What stands in front of a value: its name, and in an array its index.
+use crate::names::copy_name;
 use bsii_window::digits::decimal_count;
 use bsii_window::digits::fill_decimal;
 use bsii_window::digits::write_decimal;
@@ -7,7 +8,6 @@ use bsii_window::window::further;
 use bsii_window::window::place_of;
 use bsii_window::window::put;
 use bsii_window::window::put_all;
-use bsii_window::window::store;
 ghost use mathlib.Core.Path.{_≡_};
 ghost use mathlib.Core.List.{_++_};
 ghost use Prim.Native.Nat.{_+_, _≤_};
@@ -25,7 +25,7 @@ fn store_name(out: &mut [u8], start: usize, name: &[u8])
 {
     out[start] = b' ';
     out[start + 1] = b' ';
-    store(out, start + 2, name);
+    copy_name(out, start + 2, name);
 }
 
 // `  NAME: `, likewise.

@@ -17,19 +17,19 @@ add-out c = search needs
 slice-write-out-2 : tie.Need-slice-write-out-2
 slice-write-out-2 c = let a = c .before .before .args in omega (arith, length-set (a .out .now) (a .start) 32)
 
-add-store : tie.Need-add-store
-add-store c = search needs
+add-copy-name : tie.Need-add-copy-name
+add-copy-name c = search needs
 
-store-requires : tie.Need-store-requires
-store-requires c κs = let a = c .before .before .before .args in omega (arith, length-two (a .out .now) (a .start) 32 32)
+copy-name-requires : tie.Need-copy-name-requires
+copy-name-requires c κs = let a = c .before .before .before .args in omega (arith, length-two (a .out .now) (a .start) 32 32)
 
 same-length : tie.Need-same-length
 same-length c =
     let a = c .before .before .before .before .before .before .args in
-    stored-length (now (a .out)) (a .start) (ascii "  " ++ now (a .name)) (name-stored (now (a .out)) (a .start) (now (a .name)) (c .before .before .store .ensures))
+    stored-length (now (a .out)) (a .start) (ascii "  " ++ now (a .name)) (name-stored (now (a .out)) (a .start) (now (a .name)) (c .before .before .copy-name .ensures))
 
 returns : tie.Need-returns
-returns c = let a = c .before .before .before .before .before .before .args in name-stored (now (a .out)) (a .start) (now (a .name)) (c .before .before .store .ensures)
+returns c = let a = c .before .before .before .before .before .before .args in name-stored (now (a .out)) (a .start) (now (a .name)) (c .before .before .copy-name .ensures)
 
 pub store-name-spec : {M : Type 1} → statement M
 store-name-spec =
@@ -38,7 +38,7 @@ store-name-spec =
     slice-write-out
     add-out
     slice-write-out-2
-    add-store
-    store-requires
+    add-copy-name
+    copy-name-requires
     same-length
     returns)
