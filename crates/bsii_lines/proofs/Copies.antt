@@ -1,11 +1,12 @@
 -- A text that is copied piece by piece, from its front on.
-use Prim.Native.Nat.{ℕ, _+_, _≤_}
-use mathlib.Core.Path.{_≡_, sym, ap, _∙_}
-use mathlib.Core.List.{List, _++_}
+use Prim.Native.Nat.{ℕ, suc, _+_, _-_, _≤_}
+use mathlib.Core.Path.{_≡_, refl, sym, ap, _∙_}
+use mathlib.Core.List.{List, [], _∷_, _++_}
 use native.Mathlib.Omega.{arith}
 use lib.ListN.{set, length, getD, take, drop, length-drop, take-append-drop}
-use lib.Seq.{sets, length-take-le, take-all, drop-cons, drop-drop, getD-drop, take-add}
+use lib.Seq.{sets, set-set, length-take-le, take-all, drop-cons, getD-drop, take-add}
 use Rattle.bsii_window.proofs.Laws.{more}
+use Rattle.bsii_window.proofs.Fills.{sets-before}
 use Rattle.bsii_lines.proofs.Stores.{stored-more}
 
 -- ---- byte by byte, from an index of the text on
@@ -57,9 +58,36 @@ piece-stored l to text i k h e f = f ∙ behind l to text i (take k (drop i text
 pub rest-stored : (l : List ℕ) (to : ℕ) (text : List ℕ) (k : ℕ) {m : List ℕ} → k ≤ length text → m ≡ sets l to (take k text) → sets m (to + k) (drop k text) ≡ sets l to text
 rest-stored l to text k h e = behind l to text k (drop k text) h e ∙ ap (sets l to) (take-append-drop k text)
 
--- the same, from an index of the text on
-pub rest-stored-from : (l : List ℕ) (to : ℕ) (text : List ℕ) (from k : ℕ) {m n : List ℕ} → from + k ≤ length text → m ≡ sets l to (take k (drop from text))
-    → n ≡ sets m (to + k) (drop (from + k) text) → n ≡ sets l to (drop from text)
-rest-stored-from l to text from k {m} h e f =
-    let z = length-drop from text in
-    f ∙ ap (sets m (to + k)) (sym (drop-drop k from text)) ∙ rest-stored l to (drop from text) k (omega arith) e
+-- ---- pieces that overlap
+
+-- what is stored last stays
+sets-over : (l : List ℕ) (j : ℕ) (xs ys : List ℕ) → length xs ≤ length ys → sets (sets l j xs) j ys ≡ sets l j ys
+sets-over l j [] ys h = refl
+sets-over l j (x ∷ xs) [] h = absurd (omega arith)
+sets-over l j (x ∷ xs) (y ∷ ys) h =
+    let z : j + 1 ≡ suc j = omega arith in
+    ap (λ (m : List ℕ). sets m (suc j) ys) (sets-before (set l j x) j (suc j) (y ∷ []) xs z ∙ ap (λ (m : List ℕ). sets m (suc j) xs) (set-set l j x y))
+    ∙ sets-over (set l j y) (suc j) xs ys (omega arith)
+
+-- all from byte k on, behind the first m bytes
+pub overlapped : (l : List ℕ) (to : ℕ) (text : List ℕ) (k m : ℕ) {a b : List ℕ} → k ≤ m → m ≤ length text → a ≡ sets l to (take m text)
+    → b ≡ sets a (to + k) (drop k text) → b ≡ sets l to text
+overlapped l to text k m {a} h g e f =
+    let middle = take (m - k) (drop k text) in
+    let z : m ≡ k + (m - k) = omega arith in
+    let front : sets (sets l to (take k text)) (to + k) middle ≡ sets l to (take m text) =
+    piece-stored l to text k (m - k) (omega arith) refl refl ∙ ap (λ (n : ℕ). sets l to (take n text)) (sym z)
+    in
+    let short : length middle ≤ length (drop k text) = let y = length-drop k text in let x = length-take-le (m - k) (drop k text) (omega arith) in omega arith in
+    f
+    ∙ ap (λ (n : List ℕ). sets n (to + k) (drop k text)) (e ∙ sym front)
+    ∙ sets-over (sets l to (take k text)) (to + k) middle (drop k text) short
+    ∙ rest-stored l to text k (omega arith) refl
+
+-- the last k bytes
+pub last-stored : (l : List ℕ) (to : ℕ) (text : List ℕ) (k m : ℕ) {a b : List ℕ} → k ≤ length text → length text ≤ m + k → m ≤ length text → a ≡ sets l to (take m text)
+    → b ≡ sets a (to + (length text - k)) (take k (drop (length text - k) text)) → b ≡ sets l to text
+last-stored l to text k m {a} h g j e f =
+    let at = length text - k in
+    let z = length-drop at text in
+    overlapped l to text at m (omega arith) j e (f ∙ ap (sets a (to + at)) (take-all k (drop at text) (omega arith)))

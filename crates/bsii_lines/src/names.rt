@@ -62,40 +62,57 @@ fn copy_last(out: &mut [u8], to: usize, text: &[u8], from: usize)
     }
 }
 
-fn copy_below_four(out: &mut [u8], to: usize, text: &[u8], from: usize)
-    requires { ⌜ (from ≤ length (now text)) × (length (now text) < from + 4) × (to + (length (now text) - from) ≤ length (now out)) ⌝ }
-    ensures { λ _. ⌜ now (out .exit) ≡ sets (now (out .entry)) to (drop from (now (text .entry))) ⌝ }
-{
-    if text.len() - from < 2 {
-        copy_last(out, to, text, from);
-        return;
-    }
-    copy_two(out, to, text, from);
-    copy_last(out, to + 2, text, from + 2);
-}
-
-fn copy_below_eight(out: &mut [u8], to: usize, text: &[u8], from: usize)
-    requires { ⌜ (from ≤ length (now text)) × (length (now text) < from + 8) × (to + (length (now text) - from) ≤ length (now out)) ⌝ }
-    ensures { λ _. ⌜ now (out .exit) ≡ sets (now (out .entry)) to (drop from (now (text .entry))) ⌝ }
-{
-    if text.len() - from < 4 {
-        copy_below_four(out, to, text, from);
-        return;
-    }
-    copy_four(out, to, text, from);
-    copy_below_four(out, to + 4, text, from + 4);
-}
-
-fn copy_short(out: &mut [u8], start: usize, name: &[u8])
-    requires { ⌜ start + length (now name) ≤ length (now out) ⌝ }
+fn copy_below_four(out: &mut [u8], start: usize, name: &[u8])
+    requires { ⌜ (length (now name) < 4) × (start + length (now name) ≤ length (now out)) ⌝ }
     ensures { λ _. ⌜ now (out .exit) ≡ sets (now (out .entry)) start (now (name .entry)) ⌝ }
 {
-    let mut i = 0;
-    while 8 <= name.len() - i {
-        copy_eight(out, start + i, name, i);
-        i += 8;
+    if name.len() < 2 {
+        copy_last(out, start, name, 0);
+        return;
     }
-    copy_below_eight(out, start + i, name, i);
+    copy_two(out, start, name, 0);
+    copy_last(out, start + 2, name, 2);
+}
+
+// The first four bytes and the last four, some of them twice: no branch for each length.
+fn copy_below_eight(out: &mut [u8], start: usize, name: &[u8])
+    requires { ⌜ (length (now name) < 8) × (start + length (now name) ≤ length (now out)) ⌝ }
+    ensures { λ _. ⌜ now (out .exit) ≡ sets (now (out .entry)) start (now (name .entry)) ⌝ }
+{
+    if name.len() < 4 {
+        copy_below_four(out, start, name);
+        return;
+    }
+    let last = name.len() - 4;
+    copy_four(out, start, name, 0);
+    copy_four(out, start + last, name, last);
+}
+
+// Eights from the front on, until eight bytes or fewer are left; and how many were copied.
+fn copy_front(out: &mut [u8], start: usize, name: &[u8]) -> usize
+    requires { ⌜ (8 ≤ length (now name)) × (length (now name) ≤ 32) × (start + length (now name) ≤ length (now out)) ⌝ }
+    ensures { λ r. ⌜ (now (out .exit) ≡ sets (now (out .entry)) start (take r (now (name .entry)))) × (r ≤ length (now (name .entry))) × (length (now (name .entry)) ≤ r + 8) ⌝ }
+{
+    copy_eight(out, start, name, 0);
+    if name.len() <= 16 {
+        return 8;
+    }
+    copy_eight(out, start + 8, name, 8);
+    if name.len() <= 24 {
+        return 16;
+    }
+    copy_eight(out, start + 16, name, 16);
+    24
+}
+
+// The last eight bytes once more, for those that are left.
+fn copy_short(out: &mut [u8], start: usize, name: &[u8])
+    requires { ⌜ (8 ≤ length (now name)) × (length (now name) ≤ 32) × (start + length (now name) ≤ length (now out)) ⌝ }
+    ensures { λ _. ⌜ now (out .exit) ≡ sets (now (out .entry)) start (now (name .entry)) ⌝ }
+{
+    copy_front(out, start, name);
+    let last = name.len() - 8;
+    copy_eight(out, start + last, name, last);
 }
 
 // A long name by one call.
@@ -103,9 +120,13 @@ pub fn copy_name(out: &mut [u8], start: usize, name: &[u8])
     requires { ⌜ start + length (now name) ≤ length (now out) ⌝ }
     ensures { λ _. ⌜ now (out .exit) ≡ sets (now (out .entry)) start (now (name .entry)) ⌝ }
 {
-    if 64 <= name.len() {
-        store(out, start, name);
+    if name.len() < 8 {
+        copy_below_eight(out, start, name);
         return;
     }
-    copy_short(out, start, name);
+    if name.len() <= 32 {
+        copy_short(out, start, name);
+        return;
+    }
+    store(out, start, name);
 }

@@ -89,10 +89,20 @@ fn put_index_across(out: &mut [u8], to: usize, name: &[u8], i: u32) -> usize
     put_all(out, close, b"]: ")
 }
 
+// How many digits an index has: most have one.
+fn index_count(i: u32) -> usize
+    ensures { λ r. ⌜ r ≡ length (decimal i) ⌝ }
+{
+    if i < 10 {
+        return 1;
+    }
+    decimal_count(i as u64)
+}
+
 pub fn put_index(out: &mut [u8], to: usize, name: &[u8], i: u32) -> usize
     ensures { λ r. ⌜ Wrote (now (out .entry)) to (ascii "  " ++ indexed (now (name .entry)) i ++ ascii ": ") r (now (out .exit)) ⌝ }
 {
-    let digits = decimal_count(i as u64);
+    let digits = index_count(i);
     let count = name.len() + digits + 6;
     let place = place_of(out.len(), to, count);
     match place {

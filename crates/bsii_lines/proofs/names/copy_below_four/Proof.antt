@@ -1,12 +1,10 @@
+use mathlib.Core.Path.{_∙_}
 use native.Mathlib.Omega.{arith}
 use denote.Ref.{now}
-use Rattle.bsii_lines.proofs.Copies.{rest-stored-from}
+use Rattle.bsii_lines.proofs.Copies.{rest-stored}
 use borrow.Author.Needs.{needs}
 use Rattle.bsii_lines.proofs.names.copy_below_four.Statement.{statement}
 use Rattle.bsii_lines.proofs.names.copy_below_four.Tie as tie
-
-sub-if1 : tie.Need-sub-if1
-sub-if1 c = search needs
 
 copy-last-requires : tie.Need-copy-last-requires
 copy-last-requires c κs = search needs
@@ -23,9 +21,6 @@ copy-two-requires c κs = search needs
 add-copy-last : tie.Need-add-copy-last
 add-copy-last c = search needs
 
-add-copy-last-2 : tie.Need-add-copy-last-2
-add-copy-last-2 c = search needs
-
 copy-last-requires-2 : tie.Need-copy-last-requires-2
 copy-last-requires-2 c κs = search needs
 
@@ -35,19 +30,17 @@ same-length-2 c = search needs
 returns-2 : tie.Need-returns-2
 returns-2 c =
     let a = c .before .before .before .before .before .before .before .before .before .before .before .args in
-    rest-stored-from (now (a .out)) (a .to) (now (a .text)) (a .from) 2 (omega arith) (c .before .before .before .before .before .before .copy-two .ensures) (c .before .before .copy-last2 .ensures)
+    c .before .before .copy-last2 .ensures ∙ rest-stored (now (a .out)) (a .start) (now (a .name)) 2 (omega arith) (c .before .before .before .before .before .before .copy-two .ensures)
 
 pub copy-below-four-spec : {M : Type 1} → statement M
 copy-below-four-spec =
     tie.close
     (tie.spec
-    sub-if1
     copy-last-requires
     same-length
     returns
     copy-two-requires
     add-copy-last
-    add-copy-last-2
     copy-last-requires-2
     same-length-2
     returns-2)

@@ -9,14 +9,14 @@ use borrow.Author.Needs.{needs}
 use Rattle.bsii_lines.proofs.openings.put_index.Statement.{statement}
 use Rattle.bsii_lines.proofs.openings.put_index.Tie as tie
 
-decimal-count-requires : tie.Need-decimal-count-requires
-decimal-count-requires c κs = search needs
+index-count-requires : tie.Need-index-count-requires
+index-count-requires c κs = search needs
 
 add-count : tie.Need-add-count
-add-count c = omega (arith, c .decimal-count .ensures, count-most (c .before .before .before .args .i))
+add-count c = omega (arith, c .index-count .ensures, count-most (c .before .before .before .args .i))
 
 add-count-2 : tie.Need-add-count-2
-add-count-2 c = omega (arith, c .decimal-count .ensures, count-most (c .before .before .before .args .i))
+add-count-2 c = omega (arith, c .index-count .ensures, count-most (c .before .before .before .args .i))
 
 place-of-requires : tie.Need-place-of-requires
 place-of-requires c κs = search needs
@@ -30,7 +30,7 @@ further-requires c κs = search needs
 returns : tie.Need-returns
 returns c =
     let a = c .before .before .before .before .before .before .before .args in
-    let d = c .before .before .before .before .decimal-count in
+    let d = c .before .before .before .before .index-count in
     past (c .before .enum-told .given .1) (c .before .before .before .place-of .ensures) (index-length (now (a .name)) (a .i) (d .result) (d .ensures)) (c .further .ensures) (omega arith)
 
 enum-told-2 : tie.Need-enum-told-2
@@ -50,11 +50,11 @@ enum-known-place c = search needs
 
 store-index-requires : tie.Need-store-index-requires
 store-index-requires c κs =
-    let d = c .before .before .before .before .before .decimal-count in
+    let d = c .before .before .before .before .before .index-count in
     (d .ensures, starts (length (now (c .before .before .before .before .before .before .before .before .args .name)) + d .result + 6) (c .before .before .place .given .1) (c .before .before .before .before .place-of .ensures) .1)
 
 add-result : tie.Need-add-result
-add-result c = omega (arith, starts (length (now (c .before .before .before .before .before .before .before .before .before .before .before .args .name)) + c .before .before .before .before .before .before .before .before .decimal-count .result + 6) (c .before .before .before .before .before .place .given .1) (c .before .before .before .before .before .before .before .place-of .ensures))
+add-result c = omega (arith, starts (length (now (c .before .before .before .before .before .before .before .before .before .before .before .args .name)) + c .before .before .before .before .before .before .before .before .index-count .result + 6) (c .before .before .before .before .before .place .given .1) (c .before .before .before .before .before .before .before .place-of .ensures))
 
 same-length-2 : tie.Need-same-length-2
 same-length-2 c = search needs
@@ -62,14 +62,14 @@ same-length-2 c = search needs
 returns-3 : tie.Need-returns-3
 returns-3 c =
     let a = c .before .before .before .before .before .before .before .before .before .before .before .args in
-    let d = c .before .before .before .before .before .before .before .before .decimal-count in
+    let d = c .before .before .before .before .before .before .before .before .index-count in
     inside-sum (c .before .before .before .before .before .place .given .1) (c .before .before .before .before .before .before .before .place-of .ensures) (index-length (now (a .name)) (a .i) (d .result) (d .ensures)) (c .before .before .store-index .ensures) (omega arith)
 
 pub put-index-spec : {M : Type 1} → statement M
 put-index-spec =
     tie.close
     (tie.spec
-    decimal-count-requires
+    index-count-requires
     add-count
     add-count-2
     place-of-requires
