@@ -115,7 +115,7 @@ pub fn write_decimal(out: &mut [u8], at: usize, n: u64) -> usize
 }
 
 // The last so many digits up to an index, from the last ones on.
-fn fill_hex(out: &mut [u8], end: usize, n: u64, count: u32)
+pub fn fill_hex(out: &mut [u8], end: usize, n: u64, count: u32)
     requires { ⌜ (count ≤ end) × (end ≤ length (now out)) ⌝ }
     ensures { λ _. ⌜ now (out .exit) ≡ sets (now (out .entry)) (end - count) (hexPadded count n) ⌝ }
 {
