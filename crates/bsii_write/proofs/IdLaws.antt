@@ -5,7 +5,9 @@ use mathlib.Core.Logic.{⊎-elim}
 use mathlib.Core.Bool.{Bool, true, false, cond}
 use mathlib.Core.List.{List, [], _∷_, _++_, append-assoc}
 use native.Mathlib.Omega.{arith}
-use lib.ListN.{length, drop, length-append}
+use lib.ListN.{length, take, drop, length-append}
+use lib.Seq.{sets, sets-eq, take-at}
+use lib.Count.{leadingZeros}
 use lib.Dec.{eqb}
 use borrow.Author.Tests.{eq-eqb, ne-eqb, lt-ltb, le-ltb}
 use Rattle.bsii_format.specs.Ascii.{ascii}
@@ -20,22 +22,18 @@ use Rattle.bsii_float.proofs.NumbersAt.{split, number-is, number-moves}
 use Rattle.bsii_write.specs.Words.{spelling}
 use Rattle.bsii_window.specs.Window.{Wrote}
 use Rattle.bsii_window.proofs.Laws.{lt-or-le, being, same}
-use Rattle.bsii_window.proofs.DigitLaws.{one, more, padded-length}
+use Rattle.bsii_window.proofs.DigitLaws.{one, more, hex-count, padded-length, padded-whole}
 use Rattle.bsii_write.specs.Ids.{wordAt, dottedAt, IdWritten}
 use Rattle.bsii_write.proofs.WordLaws.{characters-spelling}
 
 -- ---- groups of 16 bits
 
-pub groups-last : (k n : ℕ) → k ≡ 0 → groups k n ≡ ascii "." ++ hexadecimal n
-unfolding groups
-groups-last k n e = ap (λ (k : ℕ). groups k n) e
-
-pub groups-small : (k n : ℕ) → n < 0x1_0000 → groups k n ≡ ascii "." ++ hexadecimal n
+groups-small : (k n : ℕ) → n < 0x1_0000 → groups k n ≡ ascii "." ++ hexadecimal n
 unfolding groups
 groups-small zero n h = refl
 groups-small (suc k) n h = ap (λ (b : Bool). cond b (ascii "." ++ hexadecimal n) (groups k (n / 0x1_0000) ++ ascii "." ++ hexPadded 4 (n % 0x1_0000))) (lt-ltb n 0x1_0000 h)
 
-pub groups-more : (k n : ℕ) → 0 < k → 0x1_0000 ≤ n → groups k n ≡ groups (k - 1) (n / 0x1_0000) ++ (ascii "." ++ hexPadded 4 (n % 0x1_0000))
+groups-more : (k n : ℕ) → 0 < k → 0x1_0000 ≤ n → groups k n ≡ groups (k - 1) (n / 0x1_0000) ++ (ascii "." ++ hexPadded 4 (n % 0x1_0000))
 unfolding groups
 groups-more zero n p h = absurd (omega arith)
 groups-more (suc k) n p h =
@@ -43,6 +41,38 @@ groups-more (suc k) n p h =
     ap (λ (b : Bool). cond b (ascii "." ++ hexadecimal n) (groups k (n / 0x1_0000) ++ ascii "." ++ hexPadded 4 (n % 0x1_0000))) (le-ltb n 0x1_0000 h)
     ∙ append-assoc (groups k (n / 0x1_0000)) (ascii ".") (hexPadded 4 (n % 0x1_0000))
     ∙ ap (λ (j : ℕ). groups j (n / 0x1_0000) ++ (ascii "." ++ hexPadded 4 (n % 0x1_0000))) z
+
+-- one group more makes no difference to a number that needs none
+abbrev Enough : ℕ → ℕ → Type 0
+Enough k n = groups (k - 1) n ≡ groups k n
+
+enough-small : (k n : ℕ) → n < 0x1_0000 → Enough k n
+enough-small k n h = groups-small (k - 1) n h ∙ sym (groups-small k n h)
+
+enough-more : (k m : ℕ) → 1 < k → ((n : ℕ) → n < m → Enough (k - 1) n) → (n : ℕ) → n < 0x1_0000 * m → Enough k n
+enough-more k m p f n h =
+    ⊎-elim
+    (λ l. enough-small k n l)
+    (λ l.
+    groups-more (k - 1) n (omega arith) l
+    ∙ ap (λ (x : List ℕ). x ++ (ascii "." ++ hexPadded 4 (n % 0x1_0000))) (f (n / 0x1_0000) (omega arith))
+    ∙ sym (groups-more k n (omega arith) l))
+    (lt-or-le n 0x1_0000)
+
+-- the last group of a number of 64 bits
+pub groups-end : (n : ℕ) → n < 0x1_0000_0000_0000_0000 → 0x1_0000 ≤ n → groups 3 n ≡ groups 3 (n / 0x1_0000) ++ (ascii "." ++ hexPadded 4 (n % 0x1_0000))
+groups-end n h l =
+    let e : (m : ℕ) → m < 0x1_0000_0000_0000 → Enough 3 m = enough-more 3 0x1_0000_0000 (omega arith) (enough-more 2 0x1_0000 (omega arith) (enough-small 1)) in
+    groups-more 3 n (omega arith) l ∙ ap (λ (x : List ℕ). x ++ (ascii "." ++ hexPadded 4 (n % 0x1_0000))) (e (n / 0x1_0000) (omega arith))
+
+pub five-more : (n : ℕ) {i : ℕ} → n < 0x1_0000_0000_0000_0000 → 0x1_0000 ≤ n → length (groups 3 n) ≤ i → 5 ≤ i
+five-more n h l k =
+    let e = ap length (groups-end n h l) ∙ length-append (groups 3 (n / 0x1_0000)) (ascii "." ++ hexPadded 4 (n % 0x1_0000)) in
+    omega (arith, e, padded-length 4 (n % 0x1_0000))
+
+-- the first one, by the number of its digits
+pub groups-start : (n d : ℕ) → n < 0x1_0000 → d ≡ length (hexadecimal n) → groups 3 n ≡ ascii "." ++ hexPadded d n
+groups-start n d h e = groups-small 3 n h ∙ ap (λ (x : List ℕ). ascii "." ++ x) (sym (padded-whole n (omega arith)) ∙ ap (λ (w : ℕ). hexPadded w n) (sym e))
 
 -- ---- how long they are
 
@@ -97,11 +127,29 @@ long-more k m p f n h =
     ∙ omega (arith, f (n / 0x1_0000) (omega arith), hex-four n l, padded-length 4 (n % 0x1_0000)))
     (lt-or-le n 0x1_0000)
 
-pub nameless-length : (n d : ℕ) → n < 0x1_0000_0000_0000_0000 → length (hexadecimal n) ≡ d → length (idText (nameless n)) ≡ 9 + d + (d + 3) / 4
+-- behind `_nameless`
+pub nameless-behind : (n : ℕ) → length (idText (nameless n)) ≡ 9 + length (groups 3 n)
 unfolding idText
+nameless-behind n = length-append (ascii "_nameless") (groups 3 n)
+
+pub nameless-length : (n d : ℕ) → n < 0x1_0000_0000_0000_0000 → length (hexadecimal n) ≡ d → length (idText (nameless n)) ≡ 9 + d + (d + 3) / 4
 nameless-length n d h e =
     let g : Long 3 n = long-more 3 0x1_0000_0000_0000 (omega arith) (long-more 2 0x1_0000_0000 (omega arith) (long-more 1 0x1_0000 (omega arith) (long-small 0))) n h in
-    length-append (ascii "_nameless") (groups 3 n) ∙ omega (arith, g, e)
+    nameless-behind n ∙ omega (arith, g, e)
+
+hex-most : (n : ℕ) → n < 0x1_0000_0000_0000_0000 → length (hexadecimal n) ≤ 16
+hex-most n h =
+    ⊎-elim
+    (λ l. omega (arith, hex-one n l))
+    (λ l. omega (arith, ap length (hex-count n (omega arith) h) ∙ padded-length ((67 - leadingZeros 64 n) / 4) n))
+    (lt-or-le n 16)
+
+pub nameless-most : (n : ℕ) → n < 0x1_0000_0000_0000_0000 → length (idText (nameless n)) ≤ 29
+nameless-most n h = omega (arith, nameless-length n (length (hexadecimal n)) h refl, hex-most n h)
+
+-- a text that was stored at the start, read back
+pub stored : (l x : List ℕ) (n : ℕ) → n ≡ length x → n ≤ length l → take n (sets l 0 x) ≡ x
+stored l x n e h = ap (take n) (sets-eq x l 0 (omega (arith, e))) ∙ take-at x (drop (0 + length x) l) n (sym e)
 
 -- ---- words
 

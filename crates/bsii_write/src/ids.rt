@@ -2,50 +2,49 @@
 use crate::words::write_word;
 use bsii_float::numbers::u8_at;
 use bsii_float::numbers::u64_at;
+use bsii_window::digits::fill_hex;
 use bsii_window::digits::hex_count;
-use bsii_window::digits::write_hex;
-use bsii_window::digits::write_hex_padded;
 use bsii_window::window::Place;
 use bsii_window::window::further;
 use bsii_window::window::place_of;
 use bsii_window::window::put;
 use bsii_window::window::put_all;
+use bsii_window::window::store;
 ghost use mathlib.Core.Path.{_≡_};
 ghost use mathlib.Core.List.{_++_};
+ghost use Prim.Native.Nat.{_+_, _-_, _≤_};
 ghost use lib.ListN.{length};
+ghost use lib.Seq.{sets};
 ghost use Rattle.bsii_format.specs.Ascii.{ascii};
-ghost use Rattle.bsii_format.specs.Digits.{hexadecimal, hexPadded};
+ghost use Rattle.bsii_format.specs.Digits.{hexPadded};
 ghost use Rattle.bsii_format.specs.Text.{groups, idText};
 ghost use Rattle.bsii_format.specs.Strings.{nameless};
 ghost use Rattle.bsii_window.specs.Window.{Wrote};
 ghost use Rattle.bsii_write.specs.Ids.{wordAt, dottedAt, IdWritten};
 
-fn write_first_group(out: &mut [u8], at: usize, n: u64) -> usize
-    ensures { λ r. ⌜ Wrote (now (out .entry)) at (ascii "." ++ hexadecimal n) r (now (out .exit)) ⌝ }
+// A dot and the last so many digits, up to an index.
+fn fill_group(out: &mut [u8], end: usize, n: u64, count: u32)
+    requires { ⌜ (count + 1 ≤ end) × (end ≤ length (now out)) ⌝ }
+    ensures { λ _. ⌜ now (out .exit) ≡ sets (now (out .entry)) (end - (count + 1)) (ascii "." ++ hexPadded count n) ⌝ }
 {
-    let next = put(out, at, b'.');
-    write_hex(out, next, n)
+    let width = count as usize;
+    out[end - (width + 1)] = b'.';
+    fill_hex(out, end, n, count);
 }
 
-fn write_later_group(out: &mut [u8], at: usize, n: u64) -> usize
-    ensures { λ r. ⌜ Wrote (now (out .entry)) at (ascii "." ++ hexPadded 4 n) r (now (out .exit)) ⌝ }
+// The groups up to an index, from the last one on: a dot and four digits for each division.
+fn fill_groups(out: &mut [u8], end: usize, n: u64)
+    requires { ⌜ (length (groups 3 n) ≤ end) × (end ≤ length (now out)) ⌝ }
+    ensures { λ _. ⌜ now (out .exit) ≡ sets (now (out .entry)) (end - length (groups 3 n)) (groups 3 n) ⌝ }
 {
-    let next = put(out, at, b'.');
-    write_hex_padded(out, next, n, 4)
-}
-
-// Groups of 16 bits from the first one that is not zero, at most so many behind it.
-fn write_groups(out: &mut [u8], at: usize, n: u64, behind: u32) -> usize
-    ensures { λ r. ⌜ Wrote (now (out .entry)) at (groups behind n) r (now (out .exit)) ⌝ }
-{
-    if behind == 0 {
-        return write_first_group(out, at, n);
+    let mut i = end;
+    let mut rest = n;
+    while 0xffff < rest {
+        fill_group(out, i, rest % 0x1_0000, 4);
+        i -= 5;
+        rest = rest / 0x1_0000;
     }
-    if n < 0x1_0000 {
-        return write_first_group(out, at, n);
-    }
-    let next = write_groups(out, at, n / 0x1_0000, behind - 1);
-    write_later_group(out, next, n % 0x1_0000)
+    fill_group(out, i, rest, hex_count(rest));
 }
 
 // How long `_nameless` and the groups are: the digits, and a dot for every four of them.
@@ -56,17 +55,38 @@ fn nameless_count(n: u64) -> usize
     9 + digits + (digits + 3) / 4
 }
 
-// Where the window ends in front of it, it is only counted.
+// All of its text, of so many bytes, from an index on.
+fn fill_nameless(out: &mut [u8], start: usize, n: u64, count: usize)
+    requires { ⌜ (count ≡ length (idText (nameless n))) × (start + count ≤ length (now out)) ⌝ }
+    ensures { λ _. ⌜ now (out .exit) ≡ sets (now (out .entry)) start (idText (nameless n)) ⌝ }
+{
+    store(out, start, b"_nameless");
+    fill_groups(out, start + count, n);
+}
+
+// By a copy, for a text across an edge of the window. The longest has four dots and 16 digits behind `_nameless`.
+fn put_nameless(out: &mut [u8], at: usize, n: u64, count: usize) -> usize
+    requires { ⌜ count ≡ length (idText (nameless n)) ⌝ }
+    ensures { λ r. ⌜ Wrote (now (out .entry)) at (idText (nameless n)) r (now (out .exit)) ⌝ }
+{
+    let mut text = [0u8; 29];
+    fill_nameless(&mut text, 0, n, count);
+    put_all(out, at, &text[..count])
+}
+
 fn write_nameless(out: &mut [u8], at: usize, n: u64) -> usize
     ensures { λ r. ⌜ Wrote (now (out .entry)) at (idText (nameless n)) r (now (out .exit)) ⌝ }
 {
     let count = nameless_count(n);
     let place = place_of(out.len(), at, count);
-    if let Place::Past = place {
-        return further(at, count);
+    match place {
+        Place::Past => return further(at, count),
+        Place::Across => return put_nameless(out, at, n, count),
+        Place::Inside(start) => {
+            fill_nameless(out, start, n, count);
+            return at + count;
+        }
     }
-    let next = put_all(out, at, b"_nameless");
-    write_groups(out, next, n, 3)
 }
 
 // The word at a place, without its bit 63.

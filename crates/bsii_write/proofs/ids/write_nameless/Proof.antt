@@ -1,6 +1,5 @@
 use native.Mathlib.Omega.{arith}
-use Rattle.bsii_format.specs.Text.{idText}
-use Rattle.bsii_window.proofs.Laws.{then, past}
+use Rattle.bsii_window.proofs.Laws.{past, starts, inside-sum}
 use borrow.Author.Needs.{needs}
 use Rattle.bsii_write.proofs.ids.write_nameless.Statement.{statement}
 use Rattle.bsii_write.proofs.ids.write_nameless.Tie as tie
@@ -21,21 +20,39 @@ returns : tie.Need-returns
 returns c =
     past (c .before .enum-told .given .1) (c .before .before .before .place-of .ensures) (c .before .before .before .before .nameless-count .ensures) (c .further .ensures) (omega arith)
 
-slice-aggregate-put-all : tie.Need-slice-aggregate-put-all
-slice-aggregate-put-all c = search needs
+enum-told-2 : tie.Need-enum-told-2
+enum-told-2 c = search needs
 
-put-all-requires : tie.Need-put-all-requires
-put-all-requires c κs = search needs
-
-write-groups-requires : tie.Need-write-groups-requires
-write-groups-requires c κs = search needs
+put-nameless-requires : tie.Need-put-nameless-requires
+put-nameless-requires c κs = search needs
 
 same-length : tie.Need-same-length
 same-length c = search needs
 
 returns-2 : tie.Need-returns-2
-unfolding idText
-returns-2 c = then (c .before .before .before .before .before .before .put-all .ensures) (c .before .before .write-groups .ensures)
+returns-2 c = search needs
+
+enum-known-place : tie.Need-enum-known-place
+enum-known-place c = search needs
+
+fill-nameless-requires : tie.Need-fill-nameless-requires
+fill-nameless-requires c κs =
+    let place-of = c .before .before .before .before in
+    let k = place-of .before .nameless-count in
+    (k .ensures, starts (k .result) (c .before .before .place .given .1) (place-of .place-of .ensures) .1)
+
+add-result : tie.Need-add-result
+add-result c =
+    let at = c .before .before .before .before .before in
+    omega (arith, starts (at .before .before .before .nameless-count .result) (at .place .given .1) (at .before .before .place-of .ensures))
+
+same-length-2 : tie.Need-same-length-2
+same-length-2 c = search needs
+
+returns-3 : tie.Need-returns-3
+returns-3 c =
+    let at = c .before .before .before .before .before in
+    inside-sum (at .place .given .1) (at .before .before .place-of .ensures) (at .before .before .before .nameless-count .ensures) (c .before .before .fill-nameless .ensures) (omega arith)
 
 pub write-nameless-spec : {M : Type 1} → statement M
 write-nameless-spec =
@@ -46,8 +63,12 @@ write-nameless-spec =
     enum-told
     further-requires
     returns
-    slice-aggregate-put-all
-    put-all-requires
-    write-groups-requires
+    enum-told-2
+    put-nameless-requires
     same-length
-    returns-2)
+    returns-2
+    enum-known-place
+    fill-nameless-requires
+    add-result
+    same-length-2
+    returns-3)
