@@ -1,5 +1,5 @@
 -- The header of a file and the heads of records, part by part.
-use mathlib.Core.Path.{_≡_, refl, sym, ap, ap₂, _∙_}
+use mathlib.Core.Path.{_≡_, refl, ap, ap₂, _∙_}
 use Prim.Native.Nat.{ℕ, zero, suc, _+_, _-_, _≤_, _<_}
 use native.Mathlib.Numerals.{add-one}
 use native.Mathlib.Omega.{arith}
@@ -11,20 +11,17 @@ use lib.Dec.{leb, eqb}
 use borrow.Author.Tests.{eq-eqb, ne-eqb, le-leb, lt-leb}
 use Rattle.bsii_format.specs.Ascii.{ascii}
 use Rattle.bsii_format.specs.Replies.{Fault, malformed, invalidHeader, unsupportedVersion}
-use Rattle.bsii_format.specs.Reader.{Result, ok, fault, faultAt, Reader, after, _>>=_, success, fail, _<$>_, bytes, verify, same, tag}
-use Rattle.bsii_format.specs.Numbers.{littleEndian, number, leU8, leU32}
+use Rattle.bsii_format.specs.Reader.{Result, ok, fault, faultAt, Reader, after, _>>=_, success, fail, bytes, verify, same, tag}
+use Rattle.bsii_format.specs.Numbers.{number, leU8, leU32}
 use Rattle.bsii_format.specs.Strings.{strParser}
 use Rattle.bsii_format.specs.File.{Head, ending, defining, carrying, markParser, headParser, headerParser}
-use Rattle.bsii_format.proofs.Readers.{fault≢ok, ok-val, fault-is, after-ok, cond-ok, ok-at, ok-rest}
+use Rattle.bsii_format.proofs.Readers.{after-ok, cond-ok, ok-at, ok-rest}
 use Rattle.bsii_format.proofs.Positions.{bytes-at, bytes-short, bind-ok, bind-fault, verify-ok, verify-not, verify-fault}
-use Rattle.bsii_value.specs.Answers.{strOf, uncheckedStr, endOf}
-use Rattle.bsii_value.specs.declared.answers.Str.{Str}
-use Rattle.bsii_value.specs.declared.answers.Str.the-variants.{Text, Cut, NotUtf8}
-use Rattle.bsii_value.specs.declared.answers.Parsed.the-variants.{Next, Fault as Refused}
+use Rattle.bsii_value.specs.Answers.{uncheckedStr, endOf}
+use Rattle.bsii_value.specs.declared.answers.Parsed.the-variants.{Next}
 use Rattle.bsii_prototype.specs.Entries.{markedParser, uncheckedHead}
 use Rattle.bsii_prototype.proofs.Agrees.{str-agrees}
-use Rattle.bsii_prototype.proofs.Entries.{next-is, fault-is as end-fault}
-use Rattle.bsii_prototype.proofs.Names.{Front, unchecked, named, bytes-front, number-front, bytes-join}
+use Rattle.bsii_prototype.proofs.Names.{Front, bytes-front, number-front, bytes-join}
 
 -- ---- equal bytes
 
@@ -179,31 +176,7 @@ pub head-next : (at : ℕ) (s : List ℕ) {id : ℕ} {name : List ℕ} {next : �
 unfolding endOf
 head-next at s e = ap endOf (head-past at s e)
 
--- and `name_at` the place of its name
-pub head-name : (s : List ℕ) (at : ℕ) {id : ℕ} {name : List ℕ} {next : ℕ} {rest : List ℕ} → headParser at (drop at s) ≡ ok (defining id name) next rest → (a b : ℕ)
-    → strOf s (Text a b) ≡ uncheckedHead at (drop at s) → (take (b - a) (drop a s) ≡ name) × (b ≡ next)
-head-name s at e a b h = let q = h ∙ head-past at (drop at s) e in (ok-val q, ok-at q)
-
-pub head-found : (s : List ℕ) (at : ℕ) {id : ℕ} {name : List ℕ} {next : ℕ} {rest : List ℕ} → headParser at (drop at s) ≡ ok (defining id name) next rest → (r : Str)
-    → strOf s r ≡ uncheckedHead at (drop at s) → (a : ℕ) × (b : ℕ) × (r ≡ Text a b)
-head-found s at e (Text a b) h = (a, b, refl)
-head-found s at e (Cut p) h = fault≢ok (h ∙ head-past at (drop at s) e)
-head-found s at e (NotUtf8 p) h = fault≢ok (h ∙ head-past at (drop at s) e)
-
 -- ---- the second walk
-
--- without the check a string can only run out
-unchecked-runs : (at : ℕ) (s : List ℕ) {x : Fault} → uncheckedStr at s ≡ fault x → x .number ≡ malformed
-unfolding uncheckedStr _>>=_ after number _<$>_ bytes success
-unchecked-runs at s {x} e = go (leb 4 (length s)) e
-  where
-    last : (b : Bool) (v : List ℕ) (n p : ℕ) (r : List ℕ) → cond b (ok v n r) (faultAt malformed p) ≡ fault x → x .number ≡ malformed
-    last true v n p r h = fault≢ok (sym h)
-    last false v n p r h = sym (ap (λ (f : Fault). f .number) (fault-is h))
-
-    go : (b : Bool) → after (after (cond b (ok (take 4 s) (at + 4) (drop 4 s)) (faultAt malformed at)) (λ l. success (littleEndian l))) bytes ≡ fault x → x .number ≡ malformed
-    go true h = let k = littleEndian (take 4 s) in last (leb k (length (drop 4 s))) (take k (drop 4 s)) (at + 4 + k) (at + 4) (drop k (drop 4 s)) h
-    go false h = sym (ap (λ (f : Fault). f .number) (fault-is h))
 
 module _ (s : List ℕ) (at : ℕ) where
   pub past-short : length s - at < 9 → uncheckedHead at (drop at s) ≡ faultAt malformed at
@@ -214,16 +187,3 @@ module _ (s : List ℕ) (at : ℕ) where
     pub past-string : uncheckedHead at (drop at s) ≡ uncheckedStr (at + 9) (drop (at + 9) s)
     unfolding uncheckedHead
     past-string = bind-ok (bytes 9) (λ h. uncheckedStr) (bytes-at 9 s at h)
-
-    pub past-cut : {k p : ℕ} → Refused k p ≡ endOf (uncheckedStr (at + 9) (drop (at + 9) s)) → faultAt malformed p ≡ uncheckedHead at (drop at s)
-    past-cut {k} {p} e =
-        let f = end-fault (uncheckedStr (at + 9) (drop (at + 9) s)) e in
-        ap (λ (n : ℕ). faultAt n p) (sym (unchecked-runs (at + 9) (drop (at + 9) s) f)) ∙ sym (past-string ∙ f)
-
-    pub past-name : {n : ℕ} → Next n ≡ endOf (uncheckedStr (at + 9) (drop (at + 9) s)) → ok (take (n - (at + 13)) (drop (at + 13) s)) n (drop n s) ≡ uncheckedHead at (drop at s)
-    past-name {n} e =
-        let q = next-is (uncheckedStr (at + 9) (drop (at + 9) s)) e in
-        let w = named unchecked s (at + 9) (q .2) in
-        let p : at + 13 ≡ at + 9 + 4 = omega arith in
-        ap (λ (i : ℕ). ok (take (n - i) (drop i s)) n (drop n s)) p
-        ∙ ap₂ (λ (v r : List ℕ). ok v n r) (sym (w .place)) (sym (w .rest)) ∙ sym (past-string ∙ q .2)

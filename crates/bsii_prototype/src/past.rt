@@ -3,7 +3,6 @@ use crate::answers::Counted;
 use crate::answers::Entry;
 use bsii_value::answers::Num;
 use bsii_value::answers::Parsed;
-use bsii_value::answers::Str;
 use bsii_value::numbers::le_u32;
 use bsii_value::numbers::left;
 use bsii_value::strings::str_past;
@@ -11,7 +10,7 @@ ghost use mathlib.Core.Path.{_≡_};
 ghost use Prim.Native.Nat.{_+_};
 ghost use lib.ListN.{drop};
 ghost use Rattle.bsii_format.specs.Reader.{repeat};
-ghost use Rattle.bsii_value.specs.Answers.{endOf, strOf, uncheckedStr};
+ghost use Rattle.bsii_value.specs.Answers.{endOf, uncheckedStr};
 ghost use Rattle.bsii_prototype.specs.Entries.{enumValueWith, enumValuesWith, definitionWith, entryWith, fieldsWith, uncheckedHead};
 ghost use Rattle.bsii_prototype.specs.Answers.{entryOf, countOf};
 
@@ -129,21 +128,4 @@ pub fn fields_at(s: &[u8], offset: usize) -> Parsed
         return Parsed::Fault { number: 3, offset };
     }
     str_past(s, offset + 9)
-}
-
-// The name of the prototype record at offset.
-pub fn name_at(s: &[u8], offset: usize) -> Str
-    ensures { λ r. ⌜ strOf (now (s .entry)) r ≡ uncheckedHead offset (drop offset (now (s .entry))) ⌝ }
-{
-    if left(s, offset) < 9 {
-        return Str::Cut(offset);
-    }
-    let string = str_past(s, offset + 9);
-    match string {
-        Parsed::Fault { number: _, offset } => Str::Cut(offset),
-        Parsed::Next(next) => Str::Text {
-            start: offset + 13,
-            next,
-        },
-    }
 }
