@@ -113,6 +113,20 @@ count-most n =
     (λ l. let e = count-more n l in let h = count-all (n / 10) in omega (arith, e, h))
     (lt-or-le n 10)
 
+-- as many at most as the power of ten that it is below
+count-below : (k n : ℕ) → n < 10 ^ suc k → length (decimal n) ≤ suc k
+count-below zero n h = omega (arith, count-one n (omega arith))
+count-below (suc k) n h =
+    let z : 1 + suc k ≡ suc (suc k) = omega arith in
+    let p : 10 ^ suc (suc k) ≡ 10 * 10 ^ suc k = ap (λ (j : ℕ). 10 ^ j) (sym z) ∙ pow-add 10 1 (suc k) in
+    ⊎-elim
+    (λ l. omega (arith, count-one n l))
+    (λ l. omega (arith, count-more n l, count-below k (n / 10) (omega arith)))
+    (lt-or-le n 10)
+
+pub at-most-twenty : (n : ℕ) → n < 2 ^ 64 → length (decimal n) ≤ 20
+at-most-twenty n h = count-below 19 n (omega arith)
+
 count-four : (n : ℕ) → 10000 ≤ n → length (decimal n) ≡ 4 + length (decimal (n / 10000))
 count-four n h =
     let z : n / 10 / 10 / 10 / 10 ≡ n / 10000 = omega arith in

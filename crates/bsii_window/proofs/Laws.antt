@@ -8,7 +8,7 @@ use native.Mathlib.Nat.{add-zero, zero-add}
 use native.Mathlib.Omega.{arith}
 use lib.Dec.{ltb}
 use lib.ListN.{set, length, getD, take, drop, length-append, length-drop, take-append-drop, drop-of-length-le}
-use lib.Seq.{sets, length-take-le, take-suc, take-all, set-out, length-sets, drop-append-le, drop-append-add, drop-nil}
+use lib.Seq.{sets, length-take-le, take-suc, take-all, set-out, length-sets, drop-append-le, drop-append-add, drop-nil, sets-eq, take-at}
 use borrow.Author.Tests.{le-leb, lt-leb, ltb-true, ltb-false}
 use Rattle.bsii_window.specs.Window.{capped, written, Wrote}
 use Rattle.bsii_window.specs.Places.{PlaceOf}
@@ -226,3 +226,10 @@ enough l at text n h e =
 -- a part up to a slice's end
 pub rest : (n : ℕ) (l : List ℕ) → take (length l - n) (drop n l) ≡ drop n l
 rest n l = let e = length-drop n l in take-all (length l - n) (drop n l) (omega arith)
+
+-- a text that was stored at the start, read back
+pub stored : (l x : List ℕ) {i : ℕ} (n : ℕ) → i ≡ 0 → n ≡ length x → n ≤ length l → take n (sets l i x) ≡ x
+stored l x n z e h =
+    ap (λ (i : ℕ). take n (sets l i x)) z
+    ∙ ap (take n) (sets-eq x l 0 (omega (arith, e)))
+    ∙ take-at x (drop (0 + length x) l) n (sym e)

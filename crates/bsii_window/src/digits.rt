@@ -2,7 +2,7 @@
 use crate::window::Place;
 use crate::window::further;
 use crate::window::place_of;
-use crate::window::put;
+use crate::window::put_all;
 ghost use mathlib.Core.Path.{_≡_};
 ghost use Prim.Native.Nat.{_+_, _-_, _≤_, _<_};
 ghost use mathlib.Core.List.{[], _∷_};
@@ -88,15 +88,14 @@ pub fn fill_decimal(out: &mut [u8], end: usize, n: u64)
     fill_first(out, i, rest);
 }
 
-// One digit after the other, for a text across an edge of the window.
-fn put_decimal(out: &mut [u8], at: usize, n: u64) -> usize
+// By a copy, for a text across an edge of the window. The longest has 20 digits.
+fn put_decimal(out: &mut [u8], at: usize, n: u64, count: usize) -> usize
+    requires { ⌜ count ≡ length (decimal n) ⌝ }
     ensures { λ r. ⌜ Wrote (now (out .entry)) at (decimal n) r (now (out .exit)) ⌝ }
 {
-    if n < 10 {
-        return put(out, at, digit(n));
-    }
-    let next = put_decimal(out, at, n / 10);
-    put(out, next, digit(n % 10))
+    let mut text = [0u8; 20];
+    fill_decimal(&mut text, count, n);
+    put_all(out, at, &text[..count])
 }
 
 pub fn write_decimal(out: &mut [u8], at: usize, n: u64) -> usize
@@ -106,7 +105,7 @@ pub fn write_decimal(out: &mut [u8], at: usize, n: u64) -> usize
     let place = place_of(out.len(), at, count);
     match place {
         Place::Past => return further(at, count),
-        Place::Across => return put_decimal(out, at, n),
+        Place::Across => return put_decimal(out, at, n, count),
         Place::Inside(start) => {
             fill_decimal(out, start + count, n);
             return at + count;
@@ -133,16 +132,15 @@ pub fn fill_hex(out: &mut [u8], end: usize, n: u64, count: u32)
     }
 }
 
-// The last so many digits, one after the other, for a text across an edge of the window.
+// By a copy, for a text across an edge of the window.
 fn put_hex(out: &mut [u8], at: usize, n: u64, count: u32) -> usize
     requires { ⌜ count ≤ 16 ⌝ }
     ensures { λ r. ⌜ Wrote (now (out .entry)) at (hexPadded count n) r (now (out .exit)) ⌝ }
 {
-    if count == 0 {
-        return further(at, 0);
-    }
-    let next = put_hex(out, at, n / 16, count - 1);
-    put(out, next, digit(n % 16))
+    let width = count as usize;
+    let mut text = [0u8; 16];
+    fill_hex(&mut text, width, n, count);
+    put_all(out, at, &text[..width])
 }
 
 // The last so many digits.

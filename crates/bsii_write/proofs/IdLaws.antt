@@ -6,7 +6,7 @@ use mathlib.Core.Bool.{Bool, true, false, cond}
 use mathlib.Core.List.{List, [], _∷_, _++_, append-assoc}
 use native.Mathlib.Omega.{arith}
 use lib.ListN.{length, take, drop, length-append}
-use lib.Seq.{sets, sets-eq, take-at}
+use lib.Seq.{sets}
 use lib.Count.{leadingZeros}
 use lib.Dec.{eqb}
 use borrow.Author.Tests.{eq-eqb, ne-eqb, lt-ltb, le-ltb}
@@ -146,10 +146,6 @@ hex-most n h =
 
 pub nameless-most : (n : ℕ) → n < 0x1_0000_0000_0000_0000 → length (idText (nameless n)) ≤ 29
 nameless-most n h = omega (arith, nameless-length n (length (hexadecimal n)) h refl, hex-most n h)
-
--- a text that was stored at the start, read back
-pub stored : (l x : List ℕ) (n : ℕ) → n ≡ length x → n ≤ length l → take n (sets l 0 x) ≡ x
-stored l x n e h = ap (take n) (sets-eq x l 0 (omega (arith, e))) ∙ take-at x (drop (0 + length x) l) n (sym e)
 
 -- ---- words
 

@@ -3,24 +3,16 @@ use bsii_window::digits::reaches;
 use bsii_window::window::Place;
 use bsii_window::window::further;
 use bsii_window::window::place_of;
-use bsii_window::window::put;
 use bsii_window::window::put_all;
 ghost use mathlib.Core.Path.{_≡_};
 ghost use Prim.Native.Nat.{_+_, _≤_, _<_};
 ghost use lib.ListN.{length};
 ghost use lib.Seq.{sets};
 ghost use Rattle.bsii_window.specs.Window.{Wrote};
-ghost use Rattle.bsii_write.specs.Words.{charOf, spelling, encodedText};
+ghost use Rattle.bsii_write.specs.Words.{spelling, encodedText};
 
 // Digit 1 is the first of `0-9a-z_`. No accepted word has a digit 0: `?` stands in.
 const CHARS: [u8; 38] = *b"?0123456789abcdefghijklmnopqrstuvwxyz_";
-
-fn char_of(d: u64) -> u8
-    requires { ⌜ d < 38 ⌝ }
-    ensures { λ r. ⌜ r ≡ charOf d ⌝ }
-{
-    CHARS[d as usize]
-}
 
 // How many characters there are: one for each power of 38 that the word reaches.
 fn word_count(n: u64) -> usize
@@ -72,17 +64,13 @@ fn fill_word(out: &mut [u8], start: usize, word: u64) -> usize
     fill_last(out, i, rest)
 }
 
-// One character after the other, for a text across an edge of the window.
+// By a copy, for a text across an edge of the window.
 fn put_word(out: &mut [u8], at: usize, word: u64) -> usize
     ensures { λ r. ⌜ Wrote (now (out .entry)) at (spelling word) r (now (out .exit)) ⌝ }
 {
-    let mut rest = word;
-    let mut to = at;
-    while 0 < rest {
-        to = put(out, to, char_of(rest % 38));
-        rest = rest / 38;
-    }
-    to
+    let mut text = [0u8; 13];
+    let end = fill_word(&mut text, 0, word);
+    put_all(out, at, &text[..end])
 }
 
 // A word's characters, the lowest digit first. No word of 64 bits has more than thirteen, so that with room for those nothing is counted.

@@ -1,12 +1,12 @@
-use mathlib.Core.Path.{sym, ap, _∙_}
+use mathlib.Core.Path.{refl, sym, ap, _∙_}
 use native.Mathlib.Omega.{arith}
 use borrow.Author.Needs.{needs}
 use lib.ListN.{take}
 use lib.Seq.{length-take-le}
 use Rattle.bsii_format.specs.Strings.{nameless}
 use Rattle.bsii_format.specs.Text.{idText}
-use Rattle.bsii_window.proofs.Laws.{being}
-use Rattle.bsii_write.proofs.IdLaws.{nameless-most, stored}
+use Rattle.bsii_window.proofs.Laws.{being, stored}
+use Rattle.bsii_write.proofs.IdLaws.{nameless-most}
 use Rattle.bsii_write.proofs.ids.put_nameless.Statement.{statement}
 use Rattle.bsii_write.proofs.ids.put_nameless.Tie as tie
 
@@ -39,7 +39,7 @@ returns c =
     let b = c .before .before .before .before .before .before .before .before .before in
     let f = c .before .before .before .before .before .before .fill-nameless in
     let text = idText (nameless (b .args .n)) in
-    being (ap (take (b .args .count)) (f .ensures) ∙ stored _ text (b .args .count) (b .pre) (omega (arith, b .pre, nameless-most (b .args .n) (omega arith)))) (c .before .before .put-all .ensures)
+    being (ap (take (b .args .count)) (f .ensures) ∙ stored _ text (b .args .count) refl (b .pre) (omega (arith, b .pre, nameless-most (b .args .n) (omega arith)))) (c .before .before .put-all .ensures)
 
 pub put-nameless-spec : {M : Type 1} → statement M
 put-nameless-spec =

@@ -1,56 +1,54 @@
-use mathlib.Core.Path.{sym, ap, _∙_}
-use Prim.Native.Nat.{ℕ, _/_}
-use mathlib.Core.List.{_∷_}
-use Rattle.bsii_window.proofs.Loops.{Begun, begin, turn, end, kept}
-use Rattle.bsii_write.specs.Words.{spelling}
-use Rattle.bsii_write.proofs.WordLaws.{spelling-more, spelling-none}
-use borrow.Author.Needs.{needs}
+use Prim.Native.Nat.{_≤_}
+use mathlib.Core.Path.{_≡_, refl, sym, ap, _∙_}
 use native.Mathlib.Omega.{arith}
+use lib.ListN.{length, take}
+use lib.Seq.{length-take-le}
+use Rattle.bsii_window.proofs.Laws.{being, stored}
+use Rattle.bsii_write.specs.Words.{spelling}
+use Rattle.bsii_write.proofs.WordLaws.{at-most-thirteen}
+use borrow.Author.Needs.{needs}
 use Rattle.bsii_write.proofs.words.put_word.Statement.{statement}
 use Rattle.bsii_write.proofs.words.put_word.Tie as tie
 
-abbrev Inv-loop : tie.InvT-loop
-Inv-loop out₀ at word rest₀ to₀ out rest to = Begun out₀ at (spelling word) (spelling rest) to out
+slice-aggregate-fill-word : tie.Need-slice-aggregate-fill-word
+slice-aggregate-fill-word c = search needs
 
-abbrev μ-loop : tie.MeasureT-loop
-μ-loop out₀ at word rest₀ to₀ out rest to = rest
+fill-word-requires : tie.Need-fill-word-requires
+fill-word-requires c κs = omega (arith, at-most-thirteen (c .before .before .args .word) (omega arith))
 
-loop-holds : tie.Need-loop-holds Inv-loop μ-loop
-loop-holds c = begin (omega arith) (omega arith)
+array-share-prefix-text : tie.Need-array-share-prefix-text
+array-share-prefix-text c =
+    let word = c .before .before .before .before .before .args .word in
+    omega (arith, c .before .before .fill-word .ensures .1, at-most-thirteen word (omega arith))
 
-char-of-requires : tie.Need-char-of-requires Inv-loop μ-loop
-char-of-requires c κs = search needs
+slice-aggregate-put-all : tie.Need-slice-aggregate-put-all
+slice-aggregate-put-all c =
+    let word = c .before .before .before .before .before .before .args .word in
+    let f = c .before .before .before .fill-word in
+    sym (length-take-le (f .result) (f .last .0) (omega (arith, f .ensures .1, at-most-thirteen word (omega arith))))
 
-put-requires : tie.Need-put-requires Inv-loop μ-loop
-put-requires c κs = search needs
+put-all-requires : tie.Need-put-all-requires
+put-all-requires c κs = search needs
 
-loop-less : tie.Need-loop-less Inv-loop μ-loop
-loop-less c = search needs
+same-length : tie.Need-same-length
+same-length c = search needs
 
-loop-again : tie.Need-loop-again Inv-loop μ-loop
-loop-again c =
-    let n = c .before .before .before .before .before .before .loop .rest in
-    let loop = c .before .before .before .before .before .before .loop in
-    let loop-test = c .before .before .before .before .before .loop-test in
-    let char-of = c .before .before .before .char-of in
-    turn (loop .inv) (c .before .before .put .ensures) (spelling-more n (loop-test .taken) ∙ ap (λ (x : ℕ). x ∷ spelling (n / 38)) (sym (char-of .ensures)))
-
-same-length : tie.Need-same-length Inv-loop μ-loop
-same-length c = kept (c .before .loop .inv)
-
-returns : tie.Need-returns Inv-loop μ-loop
-returns c = end (c .before .loop .inv) (spelling-none (c .before .loop .rest) (c .loop-test .left))
+returns : tie.Need-returns
+returns c =
+    let word = c .before .before .before .before .before .before .before .before .before .args .word in
+    let f = c .before .before .before .before .before .before .fill-word in
+    being
+    (ap (take (f .result)) (f .ensures .0) ∙ stored _ (spelling word) (f .result) refl (omega (arith, f .ensures .1)) (omega (arith, f .ensures .1, at-most-thirteen word (omega arith))))
+    (c .before .before .put-all .ensures)
 
 pub put-word-spec : {M : Type 1} → statement M
 put-word-spec =
     tie.close
     (tie.spec
-    Inv-loop
-    μ-loop
-    loop-holds
-    char-of-requires
-    put-requires
-    loop-less
-    loop-again
+    slice-aggregate-fill-word
+    fill-word-requires
+    array-share-prefix-text
+    slice-aggregate-put-all
+    put-all-requires
     same-length
     returns)
