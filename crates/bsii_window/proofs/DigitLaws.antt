@@ -35,12 +35,21 @@ module _ (base : ℕ) (h : (n : ℕ) → base ≤ n → n / base < n) where
   unfolding digits digitsFrom
   more n e = let d = h n e in rw (le-ltb n base e) (ap (λ (x : List ℕ). x ++ (digit (n % base) ∷ [])) (fuel n (suc (n / base)) (n / base) d (omega arith)))
 
+  pub length-one : (n : ℕ) → n < base → length (digits base n) ≡ 1
+  length-one n e = ap length (one n e)
+
+  pub length-more : (n : ℕ) → base ≤ n → length (digits base n) ≡ suc (length (digits base (n / base)))
+  length-more n e = ap length (more n e) ∙ length-append (digits base (n / base)) (digit (n % base) ∷ []) ∙ omega arith
+
+  pub some-digit : (n : ℕ) → 1 ≤ length (digits base n)
+  some-digit n = ⊎-elim (λ l. omega (arith, length-one n l)) (λ l. omega (arith, length-more n l)) (lt-or-le n base)
+
 -- ---- hexadecimal
 
 four-up : (n : ℕ) → 2 ^ (4 * suc n) ≡ 16 * 2 ^ (4 * n)
 four-up n = let z : 4 * suc n ≡ 4 + 4 * n = omega arith in rw z (pow-add 2 4 (4 * n))
 
-sixteen : (n : ℕ) → 16 ≤ n → n / 16 < n
+pub sixteen : (n : ℕ) → 16 ≤ n → n / 16 < n
 sixteen n h = omega arith
 
 -- a number between two powers of 16 has that many digits
@@ -76,7 +85,7 @@ padded-none w n e = rw e refl
 
 -- ---- decimal
 
-ten : (n : ℕ) → 10 ≤ n → n / 10 < n
+pub ten : (n : ℕ) → 10 ≤ n → n / 10 < n
 ten n h = omega arith
 
 pub decimal-one : (n : ℕ) → n < 10 → decimal n ≡ digit n ∷ []
@@ -100,10 +109,10 @@ unfolding digits
 count-all n = count-fuel (suc n) (ltb n 10) n
 
 pub count-one : (n : ℕ) → n < 10 → length (decimal n) ≡ 1
-count-one n h = ap length (decimal-one n h)
+count-one = length-one 10 ten
 
 pub count-more : (n : ℕ) → 10 ≤ n → length (decimal n) ≡ suc (length (decimal (n / 10)))
-count-more n h = ap length (decimal-more n h) ∙ length-append (decimal (n / 10)) (digit (n % 10) ∷ []) ∙ omega arith
+count-more = length-more 10 ten
 
 -- fewer than a number of 64 bits can say
 pub count-most : (n : ℕ) → length (decimal n) ≤ 2 + n / 10
@@ -112,20 +121,6 @@ count-most n =
     (λ l. let e = count-one n l in omega (arith, e))
     (λ l. let e = count-more n l in let h = count-all (n / 10) in omega (arith, e, h))
     (lt-or-le n 10)
-
--- as many at most as the power of ten that it is below
-count-below : (k n : ℕ) → n < 10 ^ suc k → length (decimal n) ≤ suc k
-count-below zero n h = omega (arith, count-one n (omega arith))
-count-below (suc k) n h =
-    let z : 1 + suc k ≡ suc (suc k) = omega arith in
-    let p : 10 ^ suc (suc k) ≡ 10 * 10 ^ suc k = ap (λ (j : ℕ). 10 ^ j) (sym z) ∙ pow-add 10 1 (suc k) in
-    ⊎-elim
-    (λ l. omega (arith, count-one n l))
-    (λ l. omega (arith, count-more n l, count-below k (n / 10) (omega arith)))
-    (lt-or-le n 10)
-
-pub at-most-twenty : (n : ℕ) → n < 2 ^ 64 → length (decimal n) ≤ 20
-at-most-twenty n h = count-below 19 n (omega arith)
 
 count-four : (n : ℕ) → 10000 ≤ n → length (decimal n) ≡ 4 + length (decimal (n / 10000))
 count-four n h =

@@ -3,18 +3,16 @@ use Prim.Native.Nat.{ℕ, zero, suc, _+_, _-_, _*_, _/_, _%_, _<_, _≤_}
 use mathlib.Core.Path.{_≡_, refl, sym, ap, ap₂, _∙_}
 use mathlib.Core.Logic.{⊎-elim}
 use mathlib.Core.Bool.{Bool, true, false, cond}
-use mathlib.Core.List.{List, [], _∷_, _++_, append-assoc}
+use mathlib.Core.List.{List, [], _++_, append-assoc}
 use native.Mathlib.Omega.{arith}
-use lib.ListN.{length, take, drop, length-append}
-use lib.Seq.{sets}
-use lib.Count.{leadingZeros}
+use lib.ListN.{length, drop, length-append}
 use lib.Dec.{eqb}
 use borrow.Author.Tests.{eq-eqb, ne-eqb, lt-ltb, le-ltb}
 use Rattle.bsii_format.specs.Ascii.{ascii}
 use Rattle.bsii_format.specs.Reader.{ok, verify, success, repeat, _>>=_, _<$>_}
 use Rattle.bsii_format.specs.Numbers.{number, leU64}
 use Rattle.bsii_format.specs.Strings.{low63, spelled, characters, encodedStrParser, Id, nameless, named, idParser}
-use Rattle.bsii_format.specs.Digits.{digit, hexadecimal, hexPadded}
+use Rattle.bsii_format.specs.Digits.{hexadecimal, hexPadded}
 use Rattle.bsii_format.specs.Text.{groups, dotted, idText}
 use Rattle.bsii_format.proofs.Readers.{after-ok, map-ok, cond-ok, is-true, ok-val, ok-at, ok-rest}
 use Rattle.bsii_float.specs.NumbersAt.{numberAt}
@@ -22,7 +20,8 @@ use Rattle.bsii_float.proofs.NumbersAt.{split, number-is, number-moves}
 use Rattle.bsii_write.specs.Words.{spelling}
 use Rattle.bsii_window.specs.Window.{Wrote}
 use Rattle.bsii_window.proofs.Laws.{lt-or-le, being, same}
-use Rattle.bsii_window.proofs.DigitLaws.{one, more, hex-count, padded-length, padded-whole}
+use Rattle.bsii_window.proofs.DigitLaws.{length-more, some-digit, sixteen, padded-length, padded-whole}
+use Rattle.bsii_window.proofs.Counts.{hex-below}
 use Rattle.bsii_write.specs.Ids.{wordAt, dottedAt, IdWritten}
 use Rattle.bsii_write.proofs.WordLaws.{characters-spelling}
 
@@ -76,28 +75,8 @@ groups-start n d h e = groups-small 3 n h ∙ ap (λ (x : List ℕ). ascii "." +
 
 -- ---- how long they are
 
-sixteen : (n : ℕ) → 16 ≤ n → n / 16 < n
-sixteen n h = omega arith
-
-pub hex-one : (n : ℕ) → n < 16 → length (hexadecimal n) ≡ 1
-hex-one n h = ap length (one 16 sixteen n h)
-
 hex-more : (n : ℕ) → 16 ≤ n → length (hexadecimal n) ≡ suc (length (hexadecimal (n / 16)))
-hex-more n h = ap length (more 16 sixteen n h) ∙ length-append (hexadecimal (n / 16)) (digit (n % 16) ∷ []) ∙ omega arith
-
--- a digit more for 16 times as many numbers
-digit-more : (d m : ℕ) → ((n : ℕ) → n < m → length (hexadecimal n) ≤ d) → (n : ℕ) → n < 16 * m → length (hexadecimal n) ≤ suc d
-digit-more d m f n h =
-    ⊎-elim
-    (λ l. omega (arith, hex-one n l))
-    (λ l. omega (arith, hex-more n l, f (n / 16) (omega arith)))
-    (lt-or-le n 16)
-
-four-digits : (n : ℕ) → n < 0x1_0000 → length (hexadecimal n) ≤ 4
-four-digits = digit-more 3 0x1000 (digit-more 2 0x100 (digit-more 1 0x10 (λ (n : ℕ) (h : n < 0x10). omega (arith, hex-one n h))))
-
-some-digit : (n : ℕ) → 1 ≤ length (hexadecimal n)
-some-digit n = ⊎-elim (λ l. omega (arith, hex-one n l)) (λ l. omega (arith, hex-more n l)) (lt-or-le n 16)
+hex-more = length-more 16 sixteen
 
 hex-four : (n : ℕ) → 0x1_0000 ≤ n → length (hexadecimal n) ≡ 4 + length (hexadecimal (n / 0x1_0000))
 hex-four n h =
@@ -114,7 +93,7 @@ abbrev Long : ℕ → ℕ → Type 0
 Long k n = length (groups k n) ≡ length (hexadecimal n) + (length (hexadecimal n) + 3) / 4
 
 long-small : (k n : ℕ) → n < 0x1_0000 → Long k n
-long-small k n h = ap length (groups-small k n h) ∙ omega (arith, four-digits n h, some-digit n)
+long-small k n h = ap length (groups-small k n h) ∙ omega (arith, hex-below 3 n h, some-digit 16 sixteen n)
 
 -- a group more
 long-more : (k m : ℕ) → 0 < k → ((n : ℕ) → n < m → Long (k - 1) n) → (n : ℕ) → n < 0x1_0000 * m → Long k n
@@ -137,15 +116,8 @@ nameless-length n d h e =
     let g : Long 3 n = long-more 3 0x1_0000_0000_0000 (omega arith) (long-more 2 0x1_0000_0000 (omega arith) (long-more 1 0x1_0000 (omega arith) (long-small 0))) n h in
     nameless-behind n ∙ omega (arith, g, e)
 
-hex-most : (n : ℕ) → n < 0x1_0000_0000_0000_0000 → length (hexadecimal n) ≤ 16
-hex-most n h =
-    ⊎-elim
-    (λ l. omega (arith, hex-one n l))
-    (λ l. omega (arith, ap length (hex-count n (omega arith) h) ∙ padded-length ((67 - leadingZeros 64 n) / 4) n))
-    (lt-or-le n 16)
-
 pub nameless-most : (n : ℕ) → n < 0x1_0000_0000_0000_0000 → length (idText (nameless n)) ≤ 29
-nameless-most n h = omega (arith, nameless-length n (length (hexadecimal n)) h refl, hex-most n h)
+nameless-most n h = omega (arith, nameless-length n (length (hexadecimal n)) h refl, hex-below 15 n h)
 
 -- ---- words
 

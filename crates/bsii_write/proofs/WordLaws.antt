@@ -1,5 +1,5 @@
 -- A word's digits, the lowest first.
-use Prim.Native.Nat.{ℕ, zero, suc, _+_, _*_, _/_, _%_, _^_, _≤_, _<_}
+use Prim.Native.Nat.{ℕ, zero, suc, _+_, _/_, _%_, _^_, _≤_, _<_}
 use mathlib.Core.Path.{_≡_, refl, sym, ap, _∙_}
 use mathlib.Core.Bool.{true}
 use mathlib.Core.Option.{Option, none, some, Option·getD}
@@ -8,7 +8,7 @@ use native.Mathlib.Omega.{arith}
 use lib.ListN.{length, getD, set}
 use lib.Seq.{sets}
 use Rattle.bsii_window.specs.Counts.{reach}
-use Rattle.bsii_window.proofs.Counts.{counted, scaled-by, reach-most}
+use Rattle.bsii_window.proofs.Counts.{Divides, counted, counted-most}
 use Rattle.bsii_format.specs.Strings.{charEncodings, digitThen, base38From, base38, isSome, spelled, characters}
 use Rattle.bsii_format.specs.Text.{orEmpty, encodedStringText}
 use Rattle.bsii_write.specs.Words.{charOf, spellingFrom, spelling, encodedText}
@@ -54,22 +54,23 @@ count-more n h = ap length (spelling-more n h)
 pub count-two : (n : ℕ) → 38 ≤ n → length (spelling n) ≡ 2 + length (spelling (n / 1444))
 count-two n h = ap length (spelling-two n h) ∙ omega arith
 
+by-38 : Divides 38
+by-38 = record {
+  up = λ b n l. omega arith;
+  down = λ n b l. omega arith;
+  below = λ b n l. omega arith;
+  less = λ n. omega arith;
+  smaller = λ n l. omega arith;
+}
+
 -- one for each power that is reached, of thirteen
 pub thirteen : (n : ℕ) → n < 2 ^ 64
     → length (spelling n)
     ≡ reach 1 n + (reach 38 n + (reach 1444 n + (reach 54872 n + (reach 2085136 n + (reach 79235168 n + (reach 3010936384 n + (reach 114415582592 n + (reach 4347792138496 n + (reach 165216101262848 n + (reach 6278211847988224 n + (reach 238572050223552512 n + (reach 9065737908494995456 n + 0))))))))))))
-thirteen n h =
-    counted 38 1 (λ (n : ℕ). length (spelling n)) count-none count-more (λ (b n : ℕ). scaled-by 38 b n (λ l. omega arith) (λ l. omega arith))
-    (λ (n t : ℕ) (l : n < 38 * t). omega arith)
-    (λ (n : ℕ). omega arith)
-    13
-    n
-    (omega arith)
+thirteen n h = counted 38 by-38 1 (λ (n : ℕ). length (spelling n)) count-none count-more 13 n (omega arith)
 
 pub at-most-thirteen : (n : ℕ) → n < 2 ^ 64 → length (spelling n) ≤ 13
-at-most-thirteen n h =
-    omega
-    (arith, thirteen n h, reach-most 1 n, reach-most 38 n, reach-most 1444 n, reach-most 54872 n, reach-most 2085136 n, reach-most 79235168 n, reach-most 3010936384 n, reach-most 114415582592 n, reach-most 4347792138496 n, reach-most 165216101262848 n, reach-most 6278211847988224 n, reach-most 238572050223552512 n, reach-most 9065737908494995456 n)
+at-most-thirteen n h = counted-most 38 by-38 1 (λ (n : ℕ). length (spelling n)) count-none count-more 13 n (omega arith)
 
 -- ---- characters that are stored
 
