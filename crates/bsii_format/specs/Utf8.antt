@@ -1,4 +1,4 @@
--- UTF-8: the Unicode Standard, table 3-7, "Well-Formed UTF-8 Byte Sequences"; FORMAT.md, "Strings".
+-- UTF-8: the Unicode Standard, table 3-7 (Well-Formed UTF-8 Byte Sequences); FORMAT.md, "Strings".
 use Prim.Native.Nat.{ℕ}
 use mathlib.Core.Bool.{Bool, true, false, _&&_, cond}
 use mathlib.Core.Option.{Option, none, some}
