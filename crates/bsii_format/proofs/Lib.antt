@@ -5,4 +5,5 @@ pub mod Parsers
 pub mod Records
 pub mod File
 pub mod Worked
+pub mod WorkedCalls
 pub mod Replies

@@ -17,3 +17,4 @@ pub mod Text
 pub mod BlockText
 pub mod Calls
 pub mod Worked
+pub mod WorkedCalls
