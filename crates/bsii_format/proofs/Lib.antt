@@ -6,4 +6,6 @@ pub mod Records
 pub mod File
 pub mod Worked
 pub mod WorkedCalls
+pub mod Refusals
+pub mod CallRefusals
 pub mod Replies

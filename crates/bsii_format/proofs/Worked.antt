@@ -4,7 +4,7 @@ use Prim.Native.Nat.{ℕ}
 use mathlib.Core.List.{List}
 use lib.ListN.{length}
 use lib.Ieee.{ofBits, toBits, add, ofInt, toSigned, isNan}
-use Rattle.bsii_format.specs.Replies.{Reply, gives, refusal, tableFull}
+use Rattle.bsii_format.specs.Replies.{gives, refusal, tableFull}
 use Rattle.bsii_format.specs.Reader.{after, _>>=_, success, fail, _<$>_, bytes, verify, consumed, repeat, same, tag}
 use Rattle.bsii_format.specs.Numbers.{littleEndian, number, signed}
 use Rattle.bsii_format.specs.Utf8.{within, table3-7, trailOf, step, steps, complete, utf8}

@@ -1,6 +1,6 @@
 -- What the calls answer for small files, found and refused: FORMAT.md, "A worked file", "A prototype id defined again" and "Calls". A case is a
 -- line, its answer read off document 01; proofs/WorkedCalls.antt computes them.
-use Prim.Native.Nat.{ℕ, _+_}
+use Prim.Native.Nat.{ℕ}
 use mathlib.Core.Bool.{true, false}
 use mathlib.Core.List.{List, [], _∷_, _++_}
 use lib.ListN.{length, take, drop, set, replicate}

@@ -1,4 +1,4 @@
--- How long a text can be (Bounded), how many characters a word has (Words), and that no refusal has the number 0 (Refusals).
+-- How long a text can be (Bounded), and how many characters a word has (Words).
 pub mod Digits
 pub mod Taken
 pub mod Elements
@@ -6,4 +6,3 @@ pub mod Lines
 pub mod Records
 pub mod Bounded
 pub mod Words
-pub mod Refusals
