@@ -8,14 +8,14 @@ use mathlib.Core.List.{List, [], _∷_, _++_}
 use lib.ListN.{length, take, replicate, getElem?, length-replicate}
 use lib.Dec.{T, leb, eqb, leb→le}
 use Rattle.bsii_format.specs.Ascii.{ascii}
-use Rattle.bsii_format.specs.Replies.{Fault, Reply, gives, refuses, refusal, enumValue, inputLong, absent}
+use Rattle.bsii_format.specs.Replies.{Fault, Reply, gives, refuses, refusal, inputLong, absent}
 use Rattle.bsii_format.specs.Reader.{Result, ok, fault, faultAt, Consumed}
 use Rattle.bsii_format.specs.Prototypes.{ValuePrototype, Prototype}
 use Rattle.bsii_format.specs.Values.{Value, valueParser}
 use Rattle.bsii_format.specs.Blocks.{DataValue, DataBlock, getPrototype}
 use Rattle.bsii_format.specs.File.{Record, prototype, block, recordBytes, prototypesOf, BsiiFile, lengthLimit, parse}
 use Rattle.bsii_format.specs.Text.{valueText}
-use Rattle.bsii_format.specs.BlockText.{joined, orRefuse, blockOpening, closing, fileOpening, valuesOffset, fieldsText, blockText, recordsText, fileText}
+use Rattle.bsii_format.specs.BlockText.{joined, orRefuse, valuesOffset, fieldsText, blockText, recordsText, fileText}
 use Rattle.bsii_format.specs.Calls.{ofFile, orAbsent, blocksOf, readingOf, readingCall, prototypeOf, prototypeCall, blockAnswer, blockCall, blocksByPrototypeName, namedBlockCall, fieldOf, fieldCall, datum, elementsOf, ofValue, elementCall, textOf, TextAnswer, textAnswer, textCall}
 use Rattle.bsii_format.specs.Refusals.{fileNumbers, readingNumbers, lookupNumbers, elementNumbers, valueNumbers, textNumbers, among, Each, none as nothing, _also_, Within, Gives, GivesExactly}
 use Rattle.bsii_format.specs.Worked.{le, u32, u64, workedFile}
@@ -46,7 +46,7 @@ unfolding elementCall
 element-within t s i = go (valueParser t 0 s) (value-only t .only 0 s)
   where
     go : (q : Result Value) → Told valueNumbers q → Within elementNumbers (ofValue i q)
-    go (ok v at r) h = unfold ofValue in or-within elementNumbers absent 0 tt (Option·map datum (getElem? (elementsOf v) i))
+    go (ok v at r) h = unfold ofValue in or-within elementNumbers _ _ tt (Option·map datum (getElem? (elementsOf v) i))
     go (fault x) h = unfold ofValue in among-all elementNumbers valueNumbers tt (x .number) h
 
 cond-within : {A B : Type 0} (g : A → Reply B) (b : Bool) (x y : A) → Within textNumbers (g x) → Within textNumbers (g y) → Within textNumbers (g (cond b x y))
@@ -68,29 +68,25 @@ unfolding fieldsText
 fields-within at [] l = tt
 fields-within at (f ∷ fs) [] = tt
 fields-within at (f ∷ fs) (v ∷ l) =
-    let o = valueText (f .value) (v .value) in
-    joined-within (orRefuse enumValue at o) (fieldsText valueText (at + length (v .raw)) fs l) (or-within textNumbers enumValue at tt o) (fields-within (at + length (v .raw)) fs l)
+    joined-within _ _ (or-within textNumbers _ at tt (valueText (f .value) (v .value))) (fields-within (at + length (v .raw)) fs l)
 
 block-within : (at : ℕ) (o : Option Prototype) (b : DataBlock) → Within textNumbers (blockText valueText at o b)
 unfolding blockText
 block-within at none b = tt
 block-within at (some p) b =
     cond-within (λ q. q) (eqb (length (p .fields)) (length (b .values))) _ _
-    (framed-within (blockOpening (p .name) (b .id .value)) closing (fieldsText valueText (valuesOffset at b) (p .fields) (b .values)) (fields-within (valuesOffset at b) (p .fields) (b .values)))
-    tt
+    (framed-within _ _ _ (fields-within (valuesOffset at b) (p .fields) (b .values))) tt
 
 records-within : (last : List Prototype) (at : ℕ) (l : List Record) → Within textNumbers (recordsText valueText last at l)
 unfolding recordsText
 records-within last at [] = tt
 records-within last at (prototype p ∷ l) = records-within last (at + length (recordBytes (prototype p))) l
 records-within last at (block b ∷ l) =
-    let o = getPrototype (b .prototypeId) last in
-    let next = at + length (recordBytes (block b)) in
-    joined-within (blockText valueText at o b) (recordsText valueText last next l) (block-within at o b) (records-within last next l)
+    joined-within _ _ (block-within at (getPrototype (b .prototypeId) last) b) (records-within last (at + length (recordBytes (block b))) l)
 
 file-within : (f : BsiiFile) → Within textNumbers (fileText valueText f)
 unfolding fileText
-file-within f = framed-within fileOpening closing _ (records-within (prototypesOf (f .records)) (length (f .header .raw)) (f .records))
+file-within f = framed-within _ _ _ (records-within (prototypesOf (f .records)) (length (f .header .raw)) (f .records))
 
 text-within : (words : ℕ) (s out : List ℕ) → Within textNumbers (textCall words s out .reply)
 unfolding textCall textOf
@@ -163,7 +159,7 @@ lookup-refusals : {X A : Type 0} (find : X → BsiiFile → Option A) (x : X) �
     → GivesExactly {Q = ℕ × List ℕ × X} lookupNumbers (λ q. ofFile (λ f at. orAbsent (find (q .2) f)) (parse (q .0) (q .1)))
 unfolding ofFile
 lookup-refusals find x e = record {
-  only = λ q. call-within lookupNumbers _ tt (λ f at. or-within lookupNumbers absent 0 tt (find (q .2) f)) (q .0) (q .1);
+  only = λ q. call-within lookupNumbers _ tt (λ f at. or-within lookupNumbers _ _ tt (find (q .2) f)) (q .0) (q .1);
   each = handed (λ words s. (words, s, x)) (λ words s f e. ap (ofFile _) e) (record { question = (3, workedFile, x); offset = 0; refused = e } also nothing);
   nonzero = refl;
 }

@@ -7,11 +7,10 @@ use mathlib.Core.List.{List, [], _∷_}
 use lib.ListN.{length, take}
 use lib.Dec.{T, leb, eqb, eqb→eq}
 use Rattle.bsii_format.specs.Ascii.{ascii}
-use Rattle.bsii_format.specs.Replies.{unsupportedVersion, malformed, notUtf8, zeroDigit, unlistedType, inputLong}
+use Rattle.bsii_format.specs.Replies.{malformed}
 use Rattle.bsii_format.specs.Reader.{Result, ok, fault, faultAt, Reader, after, _>>=_, success, fail, _<$>_, bytes, verify, Consumed, with, consumed, repeat, same, tag}
 use Rattle.bsii_format.specs.Numbers.{number, littleEndian}
-use Rattle.bsii_format.specs.Utf8.{utf8}
-use Rattle.bsii_format.specs.Strings.{strParser, low63, spelled, encodedStrParser, Id, nameless, named, idParser}
+use Rattle.bsii_format.specs.Strings.{strParser, low63, encodedStrParser, Id, nameless, named, idParser}
 use Rattle.bsii_format.specs.Types.{width, arity, Kind, numbers, string, encodedString, id, Shape, one, many, shapeOf}
 use Rattle.bsii_format.specs.Values.{Element, Value, single, array, nums, str, word, ident, elementParser, shapeParser, valueParser}
 use Rattle.bsii_format.specs.Prototypes.{EnumValue, ValuePrototype, Prototype, enumValueParser, enumValuesParser, valuePrototypeParser, Fields, consField, fieldsThen, fieldsFrom, fieldsParser}
@@ -102,11 +101,11 @@ module _ {l : List ℕ} where
 
 str-only : Only valueNumbers (List ℕ) strParser
 unfolding strParser
-str-only = bind-only _ (number-only 4 tt) (λ n. verify-only utf8 notUtf8 tt (bytes-only n tt))
+str-only = bind-only _ (number-only 4 tt) (λ n. verify-only _ _ tt (bytes-only n tt))
 
 word-only : Only valueNumbers ℕ encodedStrParser
 unfolding encodedStrParser
-word-only = verify-only spelled zeroDigit tt (map-only low63 (number-only 8 tt))
+word-only = verify-only _ _ tt (map-only low63 (number-only 8 tt))
 
 id-only : Only valueNumbers Id idParser
 unfolding idParser
@@ -121,7 +120,7 @@ element-only id = map-only ident id-only
 
 shape-only : (o : Option Shape) → Only valueNumbers Value (shapeParser o)
 unfolding shapeParser
-shape-only none = fail-only unlistedType tt
+shape-only none = fail-only _ tt
 shape-only (some (one k)) = map-only single (consumed-only (element-only k))
 shape-only (some (many k)) = map-only array (bind-only _ (number-only 4 tt) (λ n. repeat-only n (consumed-only (element-only k))))
 
@@ -162,7 +161,7 @@ then-only R h (some d) c = map-only (consField (with d c)) h
 
 fieldsFrom-only : (n : ℕ) → Only fileNumbers Fields (fieldsFrom n)
 unfolding fieldsFrom
-fieldsFrom-only zero = fail-only malformed tt
+fieldsFrom-only zero = fail-only _ tt
 fieldsFrom-only (suc n) = bind-only _ (consumed-only entry-only) (λ e. then-only (fieldsFrom n) (fieldsFrom-only n) (e .value) (e .raw))
 
 fields-only : Only fileNumbers Fields fieldsParser
@@ -185,7 +184,7 @@ head-only : Only fileNumbers Head headParser
 unfolding headParser
 head-only =
     bind-only _ u32-only
-    (λ n. cond-only (eqb n 0) (bind-only markParser (verify-only (λ m. leb m 1) malformed tt (number-only 1 tt)) mark-only) (success-only (carrying n)))
+    (λ n. cond-only (eqb n 0) (bind-only markParser (verify-only _ _ tt (number-only 1 tt)) mark-only) (success-only (carrying n)))
 
 block-only : (start : ℕ) (hd : List ℕ) (c : ℕ) (o : Option Prototype) → Only fileNumbers Step (dataBlockParser start hd c o)
 unfolding dataBlockParser
@@ -223,7 +222,7 @@ header-only : Only fileNumbers ℕ headerParser
 unfolding headerParser tag
 header-only =
     bind-only _ (record { only = λ at s. cond-told fileNumbers (same (take 4 s) (ascii "BSII")) _ _ tt tt })
-    (λ u. bind-only _ u32-only (λ v. cond-only (eqb v 1) (fail-only unsupportedVersion tt) (success-only v)))
+    (λ u. bind-only _ u32-only (λ v. cond-only (eqb v 1) (fail-only _ tt) (success-only v)))
 
 file-only : (rooms : ℕ) → Only fileNumbers BsiiFile (bsiiParser rooms)
 unfolding bsiiParser recordsParser
@@ -233,4 +232,4 @@ file-only rooms =
 
 pub parse-told : (words : ℕ) (s : List ℕ) → Told fileNumbers (parse words s)
 unfolding parse
-parse-told words s = cond-told fileNumbers (leb (length s) lengthLimit) _ (faultAt inputLong 0) (file-only (words / 3) .only 0 s) tt
+parse-told words s = cond-told fileNumbers (leb (length s) lengthLimit) _ _ (file-only (words / 3) .only 0 s) tt
