@@ -19,7 +19,7 @@ use Rattle.bsii_format.specs.BlockText.{joined, orRefuse, valuesOffset, 
 use Rattle.bsii_format.specs.Calls.{ofFile, orAbsent, blocksOf, readingOf, readingCall, prototypeOf, prototypeCall, blockAnswer, blockCall, blocksByPrototypeName, namedBlockCall, fieldOf, fieldCall, datum, elementsOf, ofValue, elementCall, textOf, TextAnswer, textAnswer, textCall}
 use Rattle.bsii_format.specs.Refusals.{fileNumbers, readingNumbers, lookupNumbers, elementNumbers, valueNumbers, textNumbers, among, Each, none as nothing, _also_, Within, Gives, GivesExactly}
 use Rattle.bsii_format.specs.Worked.{le, u32, u64, workedFile}
-use Rattle.bsii_format.specs.WorkedCalls.{workedWith, regroupedFile, unlistedEnumFile}
+use Rattle.bsii_format.specs.WorkedCalls.{workedWith, shortenedFile, unlistedEnumFile}
 use Rattle.bsii_format.proofs.Readers.{is-false}
 use Rattle.bsii_format.proofs.Worked.{computes}
 use Rattle.bsii_format.proofs.Refusals.{allAmong, among-all, Told, value-only, parse-told}
@@ -197,13 +197,13 @@ element-refusals = record {
 
 -- and an output
 pub text-refusals : GivesExactly {Q = ℕ × List ℕ × List ℕ} textNumbers (λ q. textCall (q .0) (q .1) (q .2) .reply)
-unfolding computes regroupedFile unlistedEnumFile
+unfolding computes shortenedFile unlistedEnumFile
 text-refusals = record {
   only = λ q. text-within (q .0) (q .1) (q .2);
   each =
       handed (λ words s. (words, s, [])) (λ words s f e. ap (λ q. textAnswer [] (ofFile (λ f at. fileText valueText f) q) .reply) e)
       (
-      record { question = (3, regroupedFile, []); offset = 44; refused = refl }
+      record { question = (3, shortenedFile, []); offset = 48; refused = refl }
       also record { question = (3, unlistedEnumFile, []); offset = 65; refused = refl }
       also record { question = (3, workedFile, []); offset = 0; refused = refl }
       also nothing

@@ -61,6 +61,10 @@ enumFile =
     ++ u32 1 ++ le 1 0 ++ u32 5
     )
 
+-- the worked file with its prototype again, without fields, in front of the end record
+unfoldable pub shortenedFile : List ℕ
+shortenedFile = take 77 workedFile ++ prototypeRecord 7 (ascii "trip") [] ++ drop 77 workedFile
+
 -- the worked file's `km` as an enum with an empty list, which moves its value to 65
 unfoldable pub unlistedEnumFile : List ℕ
 unlistedEnumFile = take 35 (workedWith 25 0x37) ++ u32 0 ++ drop 35 workedFile
@@ -202,7 +206,9 @@ unfoldable pub texts : List (Fact TextAnswer)
 texts =
     textCall 3 workedFile (replicate 75 1) says written workedText (1 ∷ 1 ∷ []) ∷
     textCall 3 workedFile (replicate 72 1) says unwritten outputShort 0 73 (replicate 72 1) ∷
+    textCall 0 (fileWith []) (replicate 13 1) says written (ascii "SiiNunit\n{\n}\n") [] ∷
     textCall 3 redefinedFile (replicate 33 1) says written (ascii "SiiNunit\n{\nq : null {\n  g: 9\n}\n}\n") [] ∷
     textCall 3 enumFile (replicate 36 1) says written (ascii "SiiNunit\n{\np : null {\n  e: high\n}\n}\n") [] ∷
     textCall 3 regroupedFile [] says unwritten fieldCount 44 0 [] ∷
+    textCall 3 shortenedFile [] says unwritten fieldCount 48 0 [] ∷
     textCall 3 unlistedEnumFile [] says unwritten enumValue 65 0 [] ∷ []
