@@ -9,7 +9,7 @@ use lib.ListN.{length, take, drop, getD, length-drop}
 use lib.Seq.{getD-drop, length-take-le}
 use lib.Dec.{leb, leb→le}
 use Rattle.bsii_format.specs.Replies.{notUtf8}
-use Rattle.bsii_format.specs.Reader.{ok, faultAt, Reader, after, _>>=_, success, fail, _<$>_, bytes, verify, Consumed, with, consumed, repeat}
+use Rattle.bsii_format.specs.Reader.{ok, faultAt, Reader, after, _>>=_, success, fail, _<$>_, bytes, verify, Consumed, consumed, repeat}
 use Rattle.bsii_format.specs.Numbers.{littleEndian, number}
 use Rattle.bsii_format.specs.Utf8.{utf8}
 use Rattle.bsii_format.specs.Strings.{strParser}
