@@ -331,7 +331,7 @@ unfolding recordsThen recordsBytes stepBytes consRecord defineAll success
 whole-step {rooms} {env} K ih {at} {s} {z = end l} x e =
     ok-move (λ q at′ r. GoodWhole rooms env q at s at′ r) e (record { good = nil; roomed = λ h. h; last = x .good; front = x .front; place = x .place })
 whole-step {rooms} {env} K ih {at} {s} {at₁} {s₁} {z = more i} x {at′ = at′} {r} e =
-    let w = cond-reader (hasRoom rooms env i) (consRecord i <$> K (define i env)) (record { number = tableFull; offset = at }) at₁ s₁ e in
+    let w = cond-reader (hasRoom rooms env i) (consRecord i <$> K (define i env)) _ at₁ s₁ e in
     let m = map-ok (consRecord i) (K (define i env)) at₁ s₁ (w .1) in
     let j = ih (define i env) at₁ s₁ (m .0) at′ r (m .2) in
     subst (λ q. GoodWhole rooms env q at s at′ r) (m .1) (record {
