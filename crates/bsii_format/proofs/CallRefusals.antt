@@ -8,7 +8,7 @@ use mathlib.Core.List.{List, [], _∷_, _++_}
 use lib.ListN.{length, take, replicate, getElem?, length-replicate}
 use lib.Dec.{T, leb, eqb, leb→le}
 use Rattle.bsii_format.specs.Ascii.{ascii}
-use Rattle.bsii_format.specs.Replies.{Fault, Reply, gives, refuses, refusal, inputLong, absent}
+use Rattle.bsii_format.specs.Replies.{Fault, Reply, gives, refuses, refusal, invalidHeader, unsupportedVersion, malformed, notUtf8, zeroDigit, undefinedPrototype, unlistedType, fieldCount, enumValue, tableFull, outputShort, inputLong, absent}
 use Rattle.bsii_format.specs.Reader.{Result, ok, fault, faultAt, Consumed}
 use Rattle.bsii_format.specs.Prototypes.{ValuePrototype, Prototype}
 use Rattle.bsii_format.specs.Values.{Value, valueParser}
@@ -98,15 +98,22 @@ text-within words s out = go (ofFile (λ f at. fileText valueText f) (parse word
 
 -- ---- each of them
 
--- a table and a file whose first fault has the number n
+abbrev fails : ℕ → ℕ → Fault
+fails n at = record { number = n; offset = at }
+
+abbrev given : {Q A : Type 0} {call : Q → Reply A} (q : Q) (f : Fault) → call q ≡ refuses f → Gives call (f .number)
+given q f e = record { question = q; fault = f; refused = e; numbered = refl }
+
+-- a table's words and a file, whose first fault has the number n
 record Faulty (n : ℕ) : Type 0 where
   words : ℕ
   file : List ℕ
-  offset : ℕ
-  faulty : parse words file ≡ faultAt n offset
+  first : Fault
+  faulty : parse words file ≡ fault first
+  numbered : first .number ≡ n
 
-abbrev faults : {n : ℕ} (words : ℕ) (file : List ℕ) (offset : ℕ) → parse words file ≡ faultAt n offset → Faulty n
-faults words file offset e = record { words = words; file = file; offset = offset; faulty = e }
+abbrev faults : (words : ℕ) (file : List ℕ) (f : Fault) → parse words file ≡ fault f → Faulty (f .number)
+faults words file f e = record { words = words; file = file; first = f; faulty = e; numbered = refl }
 
 pub parse-long : (words : ℕ) (s : List ℕ) → lengthLimit < length s → parse words s ≡ faultAt inputLong 0
 unfolding parse
@@ -120,15 +127,15 @@ long n = (replicate (suc n) 0, rw length-replicate (omega arith))
 file-faults : Each Faulty fileNumbers
 unfolding computes
 file-faults =
-    faults 3 (long lengthLimit .0) 0 (parse-long 3 (long lengthLimit .0) (long lengthLimit .1))
-    also faults 3 (workedWith 0 0x58) 0 refl
-    also faults 3 (workedWith 4 1) 8 refl
-    also faults 3 (take 70 workedFile) 69 refl
-    also faults 3 (workedWith 33 0xff) 33 refl
-    also faults 3 (workedWith 53 38) 53 refl
-    also faults 3 (workedWith 48 8) 48 refl
-    also faults 3 (workedWith 25 0x08) 61 refl
-    also faults 2 workedFile 8 refl
+    faults 3 (long lengthLimit .0) (fails inputLong 0) (parse-long 3 (long lengthLimit .0) (long lengthLimit .1))
+    also faults 3 (workedWith 0 0x58) (fails invalidHeader 0) refl
+    also faults 3 (workedWith 4 1) (fails unsupportedVersion 8) refl
+    also faults 3 (take 70 workedFile) (fails malformed 69) refl
+    also faults 3 (workedWith 33 0xff) (fails notUtf8 33) refl
+    also faults 3 (workedWith 53 38) (fails zeroDigit 53) refl
+    also faults 3 (workedWith 48 8) (fails undefinedPrototype 48) refl
+    also faults 3 (workedWith 25 0x08) (fails unlistedType 61) refl
+    also faults 2 workedFile (fails tableFull 8) refl
     also nothing
 
 each-map : {P Q : ℕ → Type 0} → ((n : ℕ) → P n → Q n) → {l : List ℕ} → Each P l → Each Q l
@@ -142,7 +149,7 @@ each-append (h also d) e = h also each-append d e
 -- a call that hands the file's first fault on gives each of the file's refusals, and those of its own
 handed : {Q A : Type 0} {call : Q → Reply A} (ask : ℕ → List ℕ → Q) → ((words : ℕ) (s : List ℕ) (f : Fault) → parse words s ≡ fault f → call (ask words s) ≡ refuses f)
     → {own : List ℕ} → Each (Gives call) own → Each (Gives call) (fileNumbers ++ own)
-handed ask h own = each-append (each-map (λ n x. record { question = ask (x .words) (x .file); offset = x .offset; refused = h (x .words) (x .file) _ (x .faulty) }) file-faults) own
+handed ask h own = each-append (each-map (λ n x. record { question = ask (x .words) (x .file); fault = x .first; refused = h (x .words) (x .file) (x .first) (x .faulty); numbered = x .numbered }) file-faults) own
 
 -- ---- the calls; a question is the number of table words, the file, and what else is asked
 
@@ -160,7 +167,7 @@ lookup-refusals : {X A : Type 0} (find : X → BsiiFile → Option A) (x : X) �
 unfolding ofFile
 lookup-refusals find x e = record {
   only = λ q. call-within lookupNumbers _ tt (λ f at. or-within lookupNumbers _ _ tt (find (q .2) f)) (q .0) (q .1);
-  each = handed (λ words s. (words, s, x)) (λ words s f e. ap (ofFile _) e) (record { question = (3, workedFile, x); offset = 0; refused = e } also nothing);
+  each = handed (λ words s. (words, s, x)) (λ words s f e. ap (ofFile _) e) (given (3, workedFile, x) (fails absent 0) e also nothing);
   nonzero = refl;
 }
 
@@ -186,11 +193,11 @@ unfolding computes
 element-refusals = record {
   only = λ q. element-within (q .0) (q .1) (q .2);
   each =
-      record { question = (0x27, [], 0); offset = 0; refused = refl }
-      also record { question = (0x01, u32 1 ++ le 1 0xff, 0); offset = 4; refused = refl }
-      also record { question = (0x03, u64 38, 0); offset = 0; refused = refl }
-      also record { question = (0x08, [], 0); offset = 0; refused = refl }
-      also record { question = (0x27, u32 0, 1); offset = 0; refused = refl }
+      given (0x27, [], 0) (fails malformed 0) refl
+      also given (0x01, u32 1 ++ le 1 0xff, 0) (fails notUtf8 4) refl
+      also given (0x03, u64 38, 0) (fails zeroDigit 0) refl
+      also given (0x08, [], 0) (fails unlistedType 0) refl
+      also given (0x27, u32 0, 1) (fails absent 0) refl
       also nothing;
   nonzero = refl;
 }
@@ -203,9 +210,9 @@ text-refusals = record {
   each =
       handed (λ words s. (words, s, [])) (λ words s f e. ap (λ q. textAnswer [] (ofFile (λ f at. fileText valueText f) q) .reply) e)
       (
-      record { question = (3, shortenedFile, []); offset = 48; refused = refl }
-      also record { question = (3, unlistedEnumFile, []); offset = 65; refused = refl }
-      also record { question = (3, workedFile, []); offset = 0; refused = refl }
+      given (3, shortenedFile, []) (fails fieldCount 48) refl
+      also given (3, unlistedEnumFile, []) (fails enumValue 65) refl
+      also given (3, workedFile, []) (fails outputShort 0) refl
       also nothing
       );
   nonzero = refl;

@@ -5,7 +5,7 @@ use mathlib.Core.Path.{_≡_}
 use mathlib.Core.Bool.{Bool, false, _||_}
 use mathlib.Core.List.{List, [], _∷_, _++_}
 use lib.Dec.{T, eqb}
-use Rattle.bsii_format.specs.Replies.{invalidHeader, unsupportedVersion, malformed, notUtf8, zeroDigit, undefinedPrototype, unlistedType, fieldCount, enumValue, tableFull, outputShort, inputLong, absent, Reply, gives, refuses, refusal}
+use Rattle.bsii_format.specs.Replies.{invalidHeader, unsupportedVersion, malformed, notUtf8, zeroDigit, undefinedPrototype, unlistedType, fieldCount, enumValue, tableFull, outputShort, inputLong, absent, Fault, Reply, gives, refuses}
 
 -- ---- the numbers
 
@@ -50,8 +50,9 @@ Within numbers (refuses f) = T (among numbers (f .number))
 -- a question to which the call refuses with the number n
 pub record Gives {Q A : Type 0} (call : Q → Reply A) (n : ℕ) : Type 0 where
   pub question : Q
-  pub offset : ℕ
-  pub refused : call question ≡ refusal n offset
+  pub fault : Fault
+  pub refused : call question ≡ refuses fault
+  pub numbered : fault .number ≡ n
 
 -- the call refuses with these numbers and no others; 0, which C callers take for an answer, is none of them
 pub record GivesExactly {Q A : Type 0} (numbers : List ℕ) (call : Q → Reply A) : Type 0 where

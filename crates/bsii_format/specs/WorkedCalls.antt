@@ -210,5 +210,4 @@ texts =
     textCall 3 redefinedFile (replicate 33 1) says written (ascii "SiiNunit\n{\nq : null {\n  g: 9\n}\n}\n") [] ∷
     textCall 3 enumFile (replicate 36 1) says written (ascii "SiiNunit\n{\np : null {\n  e: high\n}\n}\n") [] ∷
     textCall 3 regroupedFile [] says unwritten fieldCount 44 0 [] ∷
-    textCall 3 shortenedFile [] says unwritten fieldCount 48 0 [] ∷
     textCall 3 unlistedEnumFile [] says unwritten enumValue 65 0 [] ∷ []
