@@ -9,11 +9,11 @@ use Rattle.bsii_format.specs.Replies.{invalidHeader, unsupportedVersion,
 
 -- ---- the numbers
 
--- of a value
+-- of a value: 3, 4, 5, 7
 abbrev pub valueNumbers : List ℕ
 valueNumbers = malformed ∷ notUtf8 ∷ zeroDigit ∷ unlistedType ∷ []
 
--- of a file, and so of every call that takes one
+-- of a file, and so of every call that takes one: 1 to 7, 10, 12
 abbrev pub fileNumbers : List ℕ
 fileNumbers =
     inputLong ∷ invalidHeader ∷ unsupportedVersion ∷ malformed ∷ notUtf8 ∷ zeroDigit ∷ undefinedPrototype ∷ unlistedType ∷ tableFull ∷ []
@@ -21,13 +21,15 @@ fileNumbers =
 abbrev pub readingNumbers : List ℕ
 readingNumbers = fileNumbers
 
--- prototype by id, block by number, n-th block under a name, field
+-- prototype by id, block by number, n-th block under a name, field: 13 too
 abbrev pub lookupNumbers : List ℕ
 lookupNumbers = fileNumbers ++ (absent ∷ [])
 
+-- 3, 4, 5, 7, 13
 abbrev pub elementNumbers : List ℕ
 elementNumbers = valueNumbers ++ (absent ∷ [])
 
+-- 1 to 12
 abbrev pub textNumbers : List ℕ
 textNumbers = fileNumbers ++ (fieldCount ∷ enumValue ∷ outputShort ∷ [])
 
@@ -37,6 +39,7 @@ abbrev pub among : List ℕ → ℕ → Bool
 among [] n = false
 among (m ∷ l) n = eqb n m || among l n
 
+-- P holds of each number of the list
 infixr 60 _also_
 pub data Each (P : ℕ → Type 0) : List ℕ → Type 0 where
   none : Each P []

@@ -43,8 +43,8 @@ regroupedFile =
     ++ prototypeRecord 1 (ascii "p") (definition 0x31 (ascii "f") ++ definition 0x35 (ascii "g") ++ definition 0x01 (ascii "h"))
     )
 
--- 127 bytes and one behind the end record: prototype 0, `z`, at 8; prototype 1, `p` with two fields `x`, at 26, and a nameless block of it at 62; prototype 2, `p` too, at 83, and
--- a block of it with two words, the second one empty, at 101
+-- 127 bytes and one behind the end record: at 8 prototype 0, `z`; at 26 prototype 1, `p` with two fields `x`, and at 62 a nameless block of it;
+-- at 83 prototype 2, `p` too, and at 101 a block of it with two words, the second one empty
 unfoldable pub twinFile : List ℕ
 twinFile =
     fileWith (
