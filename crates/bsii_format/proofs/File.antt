@@ -57,7 +57,7 @@ pub parse-ok : (words : ℕ) (s : List ℕ) {f : BsiiFile} {at : ℕ} {r : List 
     → (length s ≤ lengthLimit) × (bsiiParser (words / 3) 0 s ≡ ok f at r)
 unfolding parse
 parse-ok words s e =
-    let w = cond-ok (leb (length s) lengthLimit) (bsiiParser (words / 3) 0 s) (record { number = inputLong; offset = 0 }) e in
+    let w = cond-ok (leb (length s) lengthLimit) (bsiiParser (words / 3) 0 s) _ e in
     (leb→le (length s) lengthLimit (w .0), w .1)
 
 pub parse-fits : (words : ℕ) (f : BsiiFile) (r : List ℕ) → GoodFile (words / 3) f → length (fileBytes f ++ r) ≤ lengthLimit

@@ -5,4 +5,7 @@ pub mod Parsers
 pub mod Records
 pub mod File
 pub mod Worked
+pub mod WorkedCalls
+pub mod Refusals
+pub mod CallRefusals
 pub mod Replies

@@ -149,7 +149,7 @@ unfolding verify
 verify-exact {A} p n {R} h = record {
   took = λ at s v at′ r e.
       let q = after-ok (R at s) (λ a at₁ s₁. cond (p a) (ok a at₁ s₁) (faultAt n at)) e in
-      let w = cond-ok (p (q .0)) (ok (q .0) (q .1) (q .2)) (record { number = n; offset = at }) (q .4) in
+      let w = cond-ok (p (q .0)) (ok (q .0) (q .1) (q .2)) _ (q .4) in
       let x = h .took at s v at′ r (q .3 ∙ w .1) in
       (x .0, record { front = x .1 .front; place = x .1 .place; fits = verify-fits p n (x .1 .fits) (subst (λ (a : A). T (p a)) (ok-val (w .1)) (w .0)) });
 }

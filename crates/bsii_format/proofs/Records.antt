@@ -79,12 +79,12 @@ fields-cons d c {l = l} h p q i = record {
 }
 
 fields-step : (n : ℕ) → ((at : ℕ) (s : List ℕ) (l : Fields) (at′ : ℕ) (r : List ℕ) → fieldsFrom n at s ≡ ok l at′ r → GoodList l at s at′ r)
-    → (at : ℕ) (s : List ℕ) (at₁ : ℕ) (s₁ : List ℕ) (o : Option ValuePrototype) (c : List ℕ) → Fits (Option ValuePrototype) valuePrototypeParser o c → s ≡ c ++ s₁ → at₁ ≡ at + length c
-    → (l : Fields) (at′ : ℕ) (r : List ℕ) → fieldsThen (fieldsFrom n) o c at₁ s₁ ≡ ok l at′ r → GoodList l at s at′ r
+    → {at : ℕ} {s : List ℕ} {at₁ : ℕ} (s₁ : List ℕ) {o : Option ValuePrototype} {c : List ℕ} → Fits (Option ValuePrototype) valuePrototypeParser o c → s ≡ c ++ s₁ → at₁ ≡ at + length c
+    → {l : Fields} {at′ : ℕ} {r : List ℕ} → fieldsThen (fieldsFrom n) o c at₁ s₁ ≡ ok l at′ r → GoodList l at s at′ r
 unfolding fieldsThen success fieldsBytes
-fields-step n ih at s at₁ s₁ none c h p q l at′ r e =
+fields-step n ih {at} {s} s₁ {o = none} h p q e =
     ok-move (λ l at′ r. GoodList l at s at′ r) e (record { good = nil; last = h; front = p; place = q })
-fields-step n ih at s at₁ s₁ (some d) c h p q l at′ r e =
+fields-step n ih {at} {s} {at₁} s₁ {o = some d} {c} h p q {at′ = at′} {r} e =
     let m = map-ok (consField (with d c)) (fieldsFrom n) at₁ s₁ e in
     subst (λ l. GoodList l at s at′ r) (m .1) (fields-cons d c h p q (ih at₁ s₁ (m .0) at′ r (m .2)))
 
@@ -94,7 +94,7 @@ fields-good zero at s l at′ r e = fault≢ok e
 fields-good (suc n) at s l at′ r e =
     let q = after-ok (consumed valuePrototypeParser at s) (λ e. fieldsThen (fieldsFrom n) (e .value) (e .raw)) e in
     let x = consumed-took valuePrototype-exact at s (q .0) (q .1) (q .2) (q .3) in
-    fields-step n (fields-good n) at s (q .1) (q .2) (q .0 .value) (q .0 .raw) (x .fit) (x .front) (x .place) l at′ r (q .4)
+    fields-step n (fields-good n) (q .2) (x .fit) (x .front) (x .place) (q .4)
 
 -- ---- a block's values
 
@@ -199,12 +199,12 @@ pub record GoodTaken (env : List Prototype) (q : Step) (at : ℕ) (s : List ℕ)
   pub front : s ≡ stepBytes q ++ r
   pub place : at′ ≡ at + length (stepBytes q)
 
-block-good : (env : List Prototype) (at : ℕ) (s : List ℕ) (n : ℕ) (hd : List ℕ) (at₁ : ℕ) (s₁ : List ℕ) (o : Option Prototype) → getPrototype n env ≡ o
+block-good : {env : List Prototype} {at : ℕ} {s : List ℕ} {n : ℕ} {hd : List ℕ} {at₁ : ℕ} (s₁ : List ℕ) {o : Option Prototype} → getPrototype n env ≡ o
     → Fits Head headParser (carrying n) hd → s ≡ hd ++ s₁ → at₁ ≡ at + length hd
-    → (q : Step) (at′ : ℕ) (r : List ℕ) → dataBlockParser at hd n o at₁ s₁ ≡ ok q at′ r → GoodTaken env q at s at′ r
+    → {q : Step} {at′ : ℕ} {r : List ℕ} → dataBlockParser at hd n o at₁ s₁ ≡ ok q at′ r → GoodTaken env q at s at′ r
 unfolding dataBlockParser _>>=_ blockStep stepBytes recordBytes
-block-good env at s n hd at₁ s₁ none k f p l q at′ r e = fault≢ok e
-block-good env at s n hd at₁ s₁ (some y) k f p l q at′ r e =
+block-good s₁ {o = none} k f p l e = fault≢ok e
+block-good {env} {at} {s} {n} {hd} {at₁} s₁ {o = some y} k f p l {at′ = at′} {r} e =
     let w = after-ok (consumed idParser at₁ s₁) (λ i. blockStep hd n i <$> dataValuesParser (y .fields)) e in
     let x = consumed-took id-exact at₁ s₁ (w .0) (w .1) (w .2) (w .3) in
     let m = map-ok (blockStep hd n (w .0)) (dataValuesParser (y .fields)) (w .1) (w .2) (w .4) in
@@ -215,12 +215,12 @@ block-good env at s n hd at₁ s₁ (some y) k f p l q at′ r e =
       place = rw (length-append, length-append) (omega (arith, x .place, c .place));
     })
 
-step-good : (env : List Prototype) (at : ℕ) (s : List ℕ) (h : Head) (hd : List ℕ) (at₁ : ℕ) (s₁ : List ℕ)
+step-good : {env : List Prototype} {at : ℕ} {s : List ℕ} {h : Head} {hd : List ℕ} {at₁ : ℕ} (s₁ : List ℕ)
     → Fits Head headParser h hd → s ≡ hd ++ s₁ → at₁ ≡ at + length hd
-    → (q : Step) (at′ : ℕ) (r : List ℕ) → stepParser env at hd h at₁ s₁ ≡ ok q at′ r → GoodTaken env q at s at′ r
+    → {q : Step} {at′ : ℕ} {r : List ℕ} → stepParser env at hd h at₁ s₁ ≡ ok q at′ r → GoodTaken env q at s at′ r
 unfolding stepParser success stepBytes recordBytes prototypeStep fieldsParser
-step-good env at s ending hd at₁ s₁ f p l q at′ r e = ok-move (λ q at′ r. GoodTaken env q at s at′ r) e (record { good = f; front = p; place = l })
-step-good env at s (defining n m) hd at₁ s₁ f p l q at′ r e =
+step-good {env} {at} {s} {h = ending} s₁ f p l e = ok-move (λ q at′ r. GoodTaken env q at s at′ r) e (record { good = f; front = p; place = l })
+step-good {env} {at} {s} {h = defining n m} {hd} {at₁} s₁ f p l {at′ = at′} {r} e =
     let w = map-ok (prototypeStep hd n m) fieldsParser at₁ s₁ e in
     let d = fields-good (length s₁) at₁ s₁ (w .0) at′ r (w .2) in
     subst (λ q. GoodTaken env q at s at′ r) (w .1) (record {
@@ -228,14 +228,14 @@ step-good env at s (defining n m) hd at₁ s₁ f p l q at′ r e =
       front = p ∙ ap (λ (z : List ℕ). hd ++ z) (d .front) ∙ simp append-assoc;
       place = rw length-append (omega (arith, d .place));
     })
-step-good env at s (carrying n) hd at₁ s₁ f p l q at′ r e = block-good env at s n hd at₁ s₁ (getPrototype n env) refl f p l q at′ r e
+step-good {h = carrying n} s₁ f p l e = block-good s₁ refl f p l e
 
 pub record-good : (env : List Prototype) (at : ℕ) (s : List ℕ) (q : Step) (at′ : ℕ) (r : List ℕ) → recordParser env at s ≡ ok q at′ r → GoodTaken env q at s at′ r
 unfolding recordParser
 record-good env at s q at′ r e =
     let w = after-ok (consumed headParser at s) (λ h. stepParser env at (h .raw) (h .value)) e in
     let x = consumed-took head-exact at s (w .0) (w .1) (w .2) (w .3) in
-    step-good env at s (w .0 .value) (w .0 .raw) (w .1) (w .2) (x .fit) (x .front) (x .place) q at′ r (w .4)
+    step-good (w .2) (x .fit) (x .front) (x .place) (w .4)
 
 -- ---- lists of records
 
@@ -323,15 +323,15 @@ cond-reader : {A : Type 0} (b : Bool) (R : Reader A) (f : Fault) (at : ℕ) (s :
 cond-reader true R f at s e = (tt, e)
 cond-reader false R f at s e = fault≢ok e
 
-whole-step : (rooms : ℕ) (env : List Prototype) (K : List Prototype → Reader Records)
+whole-step : {rooms : ℕ} {env : List Prototype} (K : List Prototype → Reader Records)
     → ((env : List Prototype) (at : ℕ) (s : List ℕ) (q : Records) (at′ : ℕ) (r : List ℕ) → K env at s ≡ ok q at′ r → GoodWhole rooms env q at s at′ r)
-    → (at : ℕ) (s : List ℕ) (at₁ : ℕ) (s₁ : List ℕ) (z : Step) → GoodTaken env z at s at₁ s₁
-    → (q : Records) (at′ : ℕ) (r : List ℕ) → recordsThen rooms env at K z at₁ s₁ ≡ ok q at′ r → GoodWhole rooms env q at s at′ r
+    → {at : ℕ} {s : List ℕ} {at₁ : ℕ} {s₁ : List ℕ} {z : Step} → GoodTaken env z at s at₁ s₁
+    → {q : Records} {at′ : ℕ} {r : List ℕ} → recordsThen rooms env at K z at₁ s₁ ≡ ok q at′ r → GoodWhole rooms env q at s at′ r
 unfolding recordsThen recordsBytes stepBytes consRecord defineAll success
-whole-step rooms env K ih at s at₁ s₁ (end l) x q at′ r e =
+whole-step {rooms} {env} K ih {at} {s} {z = end l} x e =
     ok-move (λ q at′ r. GoodWhole rooms env q at s at′ r) e (record { good = nil; roomed = λ h. h; last = x .good; front = x .front; place = x .place })
-whole-step rooms env K ih at s at₁ s₁ (more i) x q at′ r e =
-    let w = cond-reader (hasRoom rooms env i) (consRecord i <$> K (define i env)) (record { number = tableFull; offset = at }) at₁ s₁ e in
+whole-step {rooms} {env} K ih {at} {s} {at₁} {s₁} {z = more i} x {at′ = at′} {r} e =
+    let w = cond-reader (hasRoom rooms env i) (consRecord i <$> K (define i env)) _ at₁ s₁ e in
     let m = map-ok (consRecord i) (K (define i env)) at₁ s₁ (w .1) in
     let j = ih (define i env) at₁ s₁ (m .0) at′ r (m .2) in
     subst (λ q. GoodWhole rooms env q at s at′ r) (m .1) (record {
@@ -348,4 +348,4 @@ unfolding recordsFrom
 records-good rooms zero env at s q at′ r e = fault≢ok e
 records-good rooms (suc n) env at s q at′ r e =
     let w = after-ok (recordParser env at s) (recordsThen rooms env at (λ e. recordsFrom rooms n e)) e in
-    whole-step rooms env (λ e. recordsFrom rooms n e) (records-good rooms n) at s (w .1) (w .2) (w .0) (record-good env at s (w .0) (w .1) (w .2) (w .3)) q at′ r (w .4)
+    whole-step (λ e. recordsFrom rooms n e) (records-good rooms n) (record-good env at s (w .0) (w .1) (w .2) (w .3)) (w .4)

@@ -1,149 +1,24 @@
--- Laws about the calls' refusals: "The element call gives 3, 4, 5, 7, 13 only", and the part is "empty exactly where the look-up refuses".
-use mathlib.Core.Path.{_≡_, refl, sym, ap, _∙_, subst}
+-- Laws about the field call's part: it is "empty exactly where the look-up refuses".
+use mathlib.Core.Path.{_≡_, refl, ap, subst}
 use Prim.Native.Nat.{ℕ, zero, suc, _≤_}
 use native.Mathlib.Omega.{arith}
-use mathlib.Core.Bool.{Bool, true, false, cond, _||_}
 use mathlib.Core.Option.{Option, none, some, Option·map}
-use mathlib.Core.List.{List, [], _∷_, _++_}
+use mathlib.Core.List.{List, [], _∷_}
 use lib.ListN.{length, getElem?}
-use lib.Dec.{T, leb, eqb}
-use Rattle.bsii_format.specs.Replies.{Fault, Reply, gives, refuses, notUtf8, zeroDigit, unlistedType, absent}
-use Rattle.bsii_format.specs.Reader.{Result, ok, fault, faultAt, Reader, after, _>>=_, success, fail, _<$>_, bytes, verify, Consumed, with, consumed, repeat}
-use Rattle.bsii_format.specs.Numbers.{number, littleEndian}
-use Rattle.bsii_format.specs.Utf8.{utf8}
-use Rattle.bsii_format.specs.Strings.{strParser, low63, spelled, encodedStrParser, Id, nameless, named, idParser}
-use Rattle.bsii_format.specs.Types.{Numeric, float, floatVec2, floatVec3, floatVec4, floatVec8, int32, int32Vec3, uint32, uint16, int64, uint64, bool, enum, width, arity, Kind, numbers, string, encodedString, id, Shape, one, many, shapeOf}
-use Rattle.bsii_format.specs.Values.{Value, single, array, nums, str, word, ident, elementParser, shapeParser, valueParser}
+use Rattle.bsii_format.specs.Replies.{Fault, refuses, absent}
+use Rattle.bsii_format.specs.Reader.{Result, ok, fault, after, _>>=_, fail, _<$>_, bytes, verify, consumed, repeat}
+use Rattle.bsii_format.specs.Numbers.{number}
+use Rattle.bsii_format.specs.Strings.{strParser, encodedStrParser, idParser}
+use Rattle.bsii_format.specs.Types.{float, floatVec2, floatVec3, floatVec4, floatVec8, int32, int32Vec3, uint32, uint16, int64, uint64, bool, enum, width, arity, numbers, string, encodedString, id, Shape, one, many, shapeOf}
+use Rattle.bsii_format.specs.Values.{Value, elementParser, shapeParser, valueParser}
 use Rattle.bsii_format.specs.Prototypes.{Prototype}
 use Rattle.bsii_format.specs.Blocks.{DataValue, DataBlock, getPrototype}
 use Rattle.bsii_format.specs.File.{BsiiFile, Record, prototype, block, recordBytes, prototypesOf, parse}
 use Rattle.bsii_format.specs.BlockText.{orRefuse, valuesOffset}
-use Rattle.bsii_format.specs.Calls.{ofFile, Placed, placed, placedRecords, consBlock, blocksIn, blocksOf, fieldIndex, atIndex, fieldUnder, fieldIn, FieldAnswer, fieldAnswer, fieldOf, fieldCall, partOf, datum, elementsOf, Datum, ofValue, elementCall}
-use Rattle.bsii_format.proofs.Readers.{Fits, fault≢ok, takes}
-use Rattle.bsii_format.proofs.Records.{GoodValue, GoodValues, GoodRecords, nil, cons}
+use Rattle.bsii_format.specs.Calls.{ofFile, Placed, placed, placedRecords, consBlock, blocksIn, blocksOf, fieldIndex, atIndex, fieldUnder, fieldIn, FieldAnswer, fieldAnswer, fieldOf, fieldCall, partOf}
+use Rattle.bsii_format.proofs.Readers.{Fits, takes}
+use Rattle.bsii_format.proofs.Records.{GoodValues, GoodRecords, nil, cons}
 use Rattle.bsii_format.proofs.File.{file-good, parse-ok}
-
--- ---- which refusals a reader gives
-
-module _ (among : ℕ → Bool) where
-  pub record Only (A : Type 0) (R : Reader A) : Type 0 where
-    pub only : (at : ℕ) (s : List ℕ) (f : Fault) → R at s ≡ fault f → T (among (f .number))
-
-  fault-inj : {A : Type 0} {f g : Fault} → _≡_ {A = Result A} (fault f) (fault g) → f ≡ g
-  fault-inj e = cc
-
-  pub fault-among : {A : Type 0} (n at : ℕ) {f : Fault} → T (among n) → _≡_ {A = Result A} (faultAt n at) (fault f) → T (among (f .number))
-  fault-among n at h e = subst (λ (z : Fault). T (among (z .number))) (fault-inj e) h
-
-  pub success-only : {A : Type 0} (a : A) → Only A (success a)
-  unfolding success
-  success-only a = record { only = λ at s f e. fault≢ok (sym e) }
-
-  pub fail-only : (A : Type 0) (n : ℕ) → T (among n) → Only A (fail n)
-  unfolding fail
-  fail-only A n h = record { only = λ at s f e. fault-among n at h e }
-
-  pub after-only : {A B : Type 0} (q : Result A) (g : A → Reader B) {f : Fault} → ((x : Fault) → q ≡ fault x → T (among (x .number)))
-      → ((a : A) (at : ℕ) (s : List ℕ) → g a at s ≡ fault f → T (among (f .number))) → after q g ≡ fault f → T (among (f .number))
-  unfolding after
-  after-only (ok a at s) g h k e = k a at s e
-  after-only (fault x) g h k e = subst (λ (z : Fault). T (among (z .number))) (fault-inj e) (h x refl)
-
-  pub bind-only : {A B : Type 0} {R : Reader A} (g : A → Reader B) → Only A R → ((a : A) → Only B (g a)) → Only B (R >>= g)
-  unfolding _>>=_
-  bind-only {R = R} g h k = record { only = λ at s f e. after-only (R at s) g (h .only at s) (λ a i t z. k a .only i t f z) e }
-
-  pub map-only : {A B : Type 0} (g : A → B) {R : Reader A} → Only A R → Only B (g <$> R)
-  unfolding _<$>_
-  map-only g h = bind-only (λ a. success (g a)) h (λ a. success-only (g a))
-
-  cond-fault : {A : Type 0} (b : Bool) (a : A) (i : ℕ) (t : List ℕ) (n at : ℕ) {f : Fault} → T (among n) → cond b (ok a i t) (faultAt n at) ≡ fault f → T (among (f .number))
-  cond-fault true a i t n at h e = fault≢ok (sym e)
-  cond-fault false a i t n at h e = fault-among n at h e
-
-  pub verify-only : {A : Type 0} (p : A → Bool) (n : ℕ) {R : Reader A} → T (among n) → Only A R → Only A (verify p n R)
-  unfolding verify
-  verify-only p n {R} m h = record { only = λ at s f e. after-only (R at s) (λ a i t. cond (p a) (ok a i t) (faultAt n at)) (h .only at s) (λ a i t z. cond-fault (p a) a i t n at m z) e }
-
-  pub consumed-only : {A : Type 0} {R : Reader A} → Only A R → Only (Consumed A) (consumed R)
-  unfolding consumed
-  consumed-only {R = R} h = record { only = λ at s f e. after-only (R at s) _ (h .only at s) (λ a i t z. fault≢ok (sym z)) e }
-
-  pub repeat-only : {A : Type 0} (n : ℕ) {R : Reader A} → Only A R → Only (List A) (repeat n R)
-  unfolding repeat
-  repeat-only zero h = success-only []
-  repeat-only (suc n) h = bind-only _ h (λ a. bind-only _ (repeat-only n h) (λ l. success-only (a ∷ l)))
-
-  pub cond-only : {A : Type 0} (b : Bool) {R S : Reader A} → Only A R → Only A S → Only A (cond b R S)
-  cond-only true h k = h
-  cond-only false h k = k
-
-  pub number-only : (w : ℕ) → T (among 3) → Only ℕ (number w)
-  unfolding number bytes
-  number-only w h = map-only littleEndian (record { only = λ at s f e. cond-fault (leb w (length s)) _ _ _ 3 at h e })
-
-  bytes-only : (n : ℕ) → T (among 3) → Only (List ℕ) (bytes n)
-  unfolding bytes
-  bytes-only n h = record { only = λ at s f e. cond-fault (leb n (length s)) _ _ _ 3 at h e }
-
--- 3, 4, 5 and 7: what a value is refused with
-abbrev pub ofValues : ℕ → Bool
-ofValues n = eqb n 3 || (eqb n 4 || (eqb n 5 || eqb n 7))
-
-pub str-only : Only ofValues (List ℕ) strParser
-unfolding strParser
-str-only = bind-only ofValues _ (number-only ofValues 4 tt) (λ n. verify-only ofValues utf8 notUtf8 tt (bytes-only ofValues n tt))
-
-word-only : Only ofValues ℕ encodedStrParser
-unfolding encodedStrParser
-word-only = verify-only ofValues spelled zeroDigit tt (map-only ofValues low63 (number-only ofValues 8 tt))
-
-pub id-only : Only ofValues Id idParser
-unfolding idParser
-id-only =
-    bind-only ofValues _ (number-only ofValues 1 tt)
-    (λ n. cond-only ofValues (eqb n 0xff) (map-only ofValues nameless (number-only ofValues 8 tt)) (map-only ofValues named (repeat-only ofValues n word-only)))
-
-element-only : (k : Kind) → Only ofValues _ (elementParser k)
-unfolding elementParser
-element-only (numbers k) = map-only ofValues (nums k) (repeat-only ofValues (arity k) (number-only ofValues (width k) tt))
-element-only string = map-only ofValues str str-only
-element-only encodedString = map-only ofValues word word-only
-element-only id = map-only ofValues ident id-only
-
-pub shape-only : (o : Option Shape) → Only ofValues Value (shapeParser o)
-unfolding shapeParser
-shape-only none = fail-only ofValues Value unlistedType tt
-shape-only (some (one k)) = map-only ofValues single (consumed-only ofValues (element-only k))
-shape-only (some (many k)) = map-only ofValues array (bind-only ofValues _ (number-only ofValues 4 tt) (λ n. repeat-only ofValues n (consumed-only ofValues (element-only k))))
-
-refuses-inj : {A : Type 0} {f g : Fault} → _≡_ {A = Reply A} (refuses f) (refuses g) → f ≡ g
-refuses-inj e = cc
-
-gives≢refuses : {A P : Type 0} {a : A} {f : Fault} → _≡_ {A = Reply A} (gives a) (refuses f) → P
-gives≢refuses {A} {P} e = let z : _≡_ {A = ℕ} 0 1 = cc in let f : ⊥ = omega arith in absurd f
-
-or-right : (a b : Bool) → T b → T (a || b)
-or-right true b h = tt
-or-right false b h = h
-
-or-left : (a b : Bool) → T a → T (a || b)
-or-left true b h = tt
-or-left false b h = absurd h
-
--- the element call gives 3, 4, 5, 7, 13 only
-pub element-refusals : (t : ℕ) (s : List ℕ) (i : ℕ) (f : Fault) → elementCall t s i ≡ refuses f → T (eqb (f .number) absent || ofValues (f .number))
-unfolding elementCall valueParser
-element-refusals t s i f e = go (shapeParser (shapeOf t) 0 s) refl e
-  where
-    found : (o : Option Datum) → orRefuse absent 0 o ≡ refuses f → T (eqb (f .number) absent || ofValues (f .number))
-    found none e = unfold orRefuse in subst (λ (z : Fault). T (eqb (z .number) absent || ofValues (z .number))) (refuses-inj e) tt
-    found (some a) e = unfold orRefuse in gives≢refuses e
-
-    go : (q : Result Value) → shapeParser (shapeOf t) 0 s ≡ q → ofValue i q ≡ refuses f → T (eqb (f .number) absent || ofValues (f .number))
-    go (ok v at r) h e = unfold ofValue in found (Option·map datum (getElem? (elementsOf v) i)) e
-    go (fault x) h e = unfold ofValue in
-        or-right (eqb (f .number) absent) (ofValues (f .number)) (subst (λ (z : Fault). T (ofValues (z .number))) (refuses-inj e) (shape-only (shapeOf t) .only 0 s x h))
 
 -- ---- an accepted value has at least one byte
 

@@ -16,4 +16,6 @@ pub mod Floats
 pub mod Text
 pub mod BlockText
 pub mod Calls
+pub mod Refusals
 pub mod Worked
+pub mod WorkedCalls

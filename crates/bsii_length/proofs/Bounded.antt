@@ -11,12 +11,13 @@ use Rattle.bsii_format.specs.Replies.{gives}
 use Rattle.bsii_format.specs.Reader.{Result, ok, fault, _<$>_}
 use Rattle.bsii_format.specs.Prototypes.{Prototype}
 use Rattle.bsii_format.specs.Blocks.{getPrototype}
-use Rattle.bsii_format.specs.File.{Record, prototype, block, recordBytes, prototypesOf, recordsParser, headerParser, BsiiFile, bsiiFile, bsiiParser, parse}
+use Rattle.bsii_format.specs.File.{Record, prototype, block, recordBytes, prototypesOf, recordsParser, headerParser, BsiiFile, bsiiFile, bsiiParser, lengthLimit, parse}
 use Rattle.bsii_format.specs.Text.{valueText}
 use Rattle.bsii_format.specs.BlockText.{joined, closing, fileOpening, blockText, recordsText, fileText}
 use Rattle.bsii_format.specs.Calls.{ofFile, textOf}
 use Rattle.bsii_format.proofs.Parsers.{header-exact}
 use Rattle.bsii_format.proofs.File.{parse-ok}
+use Rattle.bsii_length.specs.Bounds.{lineBound, textBound}
 use Rattle.bsii_length.proofs.Taken.{Takes, bind-takes, map-takes, consumed-takes, Row, nil, cons, Every}
 use Rattle.bsii_length.proofs.Lines.{answered, joined-size, ShortPrototype}
 use Rattle.bsii_length.proofs.Records.{Of, FineRecord, recordsFrom-takes, defined, found}
@@ -46,7 +47,7 @@ file-takes rooms =
     (λ q k z g. (g .size, g .row, omega (arith, g .within))))
 
 records-size : (last : List Prototype) → Every Prototype ShortPrototype last → (at : ℕ) {l : List Record} {n : ℕ} → Row Record FineRecord l n
-    → answered (recordsText valueText last at l) ≤ 0x10_0000_0000 * n
+    → answered (recordsText valueText last at l) ≤ lineBound * n
 unfolding recordsText
 records-size last h at nil = omega arith
 records-size last h at (cons {a = prototype p} g k) = omega (arith, records-size last h (at + length (recordBytes (prototype p))) k)
@@ -58,11 +59,11 @@ records-size last h at (cons {a = block b} {n = m} {l = l} g k) =
       records-size last h (at + length (recordBytes (block b))) k,
     )
   where
-    one : (o : Option Prototype) → Of ShortPrototype o → answered (blockText valueText at o b) ≤ 0x10_0000_0000 * m
+    one : (o : Option Prototype) → Of ShortPrototype o → answered (blockText valueText at o b) ≤ lineBound * m
     one none u = unfold blockText in omega arith
     one (some p) u = g .text at p u
 
-file-size : (f : BsiiFile) (n : ℕ) → Row Record FineRecord (f .records) n → answered (fileText valueText f) ≤ 0x10_0000_0000 * n + 13
+file-size : (f : BsiiFile) (n : ℕ) → Row Record FineRecord (f .records) n → answered (fileText valueText f) ≤ lineBound * n + 13
 unfolding fileText prototypesOf fileOpening closing
 file-size f n g =
     let body = recordsText valueText (prototypesOf (f .records)) (length (f .header .raw)) (f .records) in
@@ -74,16 +75,16 @@ file-size f n g =
     )
 
 -- The premise on bytes holds for a slice. The definitions take lists of any numbers, and a number that is read from such a list has no bound.
-text-size : (words : ℕ) (s t : List ℕ) → ((i : ℕ) → getD s i 0 < 256) → textOf words s ≡ gives t → length t ≤ 0x10_0000_0000 * length s + 13
+text-size : (words : ℕ) (s t : List ℕ) → ((i : ℕ) → getD s i 0 < 256) → textOf words s ≡ gives t → length t ≤ lineBound * length s + 13
 unfolding textOf
 text-size words s t h e = go (parse words s) refl e
   where
-    go : (q : Result BsiiFile) → parse words s ≡ q → ofFile (λ f at. fileText valueText f) q ≡ gives t → length t ≤ 0x10_0000_0000 * length s + 13
+    go : (q : Result BsiiFile) → parse words s ≡ q → ofFile (λ f at. fileText valueText f) q ≡ gives t → length t ≤ lineBound * length s + 13
     go (ok f at r) p e =
         let y = parse-ok words s p in
         let x = file-takes (words / 3) .taken 0 s f at r (record { bytes = h; short = y .0 }) (y .1) in
         unfold ofFile in omega (arith, ap answered e, file-size f (x .holds .0) (x .holds .1), x .holds .2, x .long)
     go (fault x) p e = unfold ofFile in omega (arith, ap answered e)
 
-pub text-bounded : (words : ℕ) (s t : List ℕ) → ((i : ℕ) → getD s i 0 < 256) → length s ≤ 16_777_216 → textOf words s ≡ gives t → length t < 0x4000_0000_0000_0000
+pub text-bounded : (words : ℕ) (s t : List ℕ) → ((i : ℕ) → getD s i 0 < 256) → length s ≤ lengthLimit → textOf words s ≡ gives t → length t < textBound
 text-bounded words s t h l e = omega (arith, text-size words s t h e)

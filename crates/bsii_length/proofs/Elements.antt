@@ -23,6 +23,7 @@ use Rattle.bsii_format.specs.Values.{Element, nums, str, word, ident, elementPa
 use Rattle.bsii_format.specs.Prototypes.{EnumValue}
 use Rattle.bsii_format.specs.Text.{allBare, escaped, stringText, orEmpty, encodedStringText, dotted, idText, orNil, boolText, firstSome, enumString, numericText, elementText}
 use Rattle.bsii_format.specs.File.{lengthLimit}
+use Rattle.bsii_length.specs.Bounds.{elementBound}
 use Rattle.bsii_length.proofs.Digits.{either, digits-length, hexPadded-length, signed-length, characters-length, groups-length}
 use Rattle.bsii_length.proofs.Taken.{Takes, bind-takes, map-takes, weaken, cond-takes, verify-takes, repeat-takes, Row, nil, cons, row-long, Every, number-takes, str-takes}
 
@@ -174,7 +175,7 @@ module _ (l : List ℕ) (h : (i : ℕ) → getD l i 0 < 2 ^ 64) where
       let c = coefficient (getD l 3 0) in
       simp (length-append, vec3-length, vec4-length) (omega (arith, sum-length 0 (floorMod c 4096), float-at 1, sum-length 2 (floorMod (floorDiv c 4096) 4096), float-at 4, float-at 5, float-at 6, float-at 7))
 
-  numeric-size : (k : Numeric) {enums : List EnumValue} → ShortEnums enums → size (numericText enums k l) ≤ 0x1_0000_0000
+  numeric-size : (k : Numeric) {enums : List EnumValue} → ShortEnums enums → size (numericText enums k l) ≤ elementBound
   unfolding numericText
   numeric-size float e = omega (arith, float-at 0)
   numeric-size floatVec2 e = rw vec2-length (omega (arith, float-at 0, float-at 1))
@@ -192,7 +193,7 @@ module _ (l : List ℕ) (h : (i : ℕ) → getD l i 0 < 2 ^ 64) where
 
 -- an element that was read, in so many bytes
 pub record FineElement (e : Element) (n : ℕ) : Type 0 where
-  pub text : (enums : List EnumValue) → ShortEnums enums → size (elementText enums e) ≤ 0x1_0000_0000
+  pub text : (enums : List EnumValue) → ShortEnums enums → size (elementText enums e) ≤ elementBound
   pub some : 1 ≤ n
 
 row-at : {l : List ℕ} {n : ℕ} → Row ℕ FineWord l n → (i : ℕ) → getD l i 0 < 2 ^ 64

@@ -1,9 +1,9 @@
--- How long a text can be (Bounded), how many characters a word has (Words), and that no refusal has the number 0 (Refusals).
+-- How long a text can be (Bounded) and must be (Asked), and how many characters a word has (Words).
 pub mod Digits
 pub mod Taken
 pub mod Elements
 pub mod Lines
 pub mod Records
 pub mod Bounded
+pub mod Asked
 pub mod Words
-pub mod Refusals

@@ -16,6 +16,7 @@ use Rattle.bsii_format.specs.Blocks.{DataValue, DataBlock, dataValue, dataValue
 use Rattle.bsii_format.specs.Text.{idText, elementText, fieldLine, indexed, append, elementLines, valueText}
 use Rattle.bsii_format.specs.File.{lengthLimit}
 use Rattle.bsii_format.specs.BlockText.{joined, orRefuse, blockOpening, closing, valuesOffset, fieldsText, blockText}
+use Rattle.bsii_length.specs.Bounds.{lineBound}
 use Rattle.bsii_length.proofs.Digits.{either, digits-length}
 use Rattle.bsii_length.proofs.Taken.{Takes, bind-takes, success-takes, fail-takes, map-takes, weaken, consumed-takes, repeat-takes, Row, nil, cons, row-long, Every, number-takes}
 use Rattle.bsii_length.proofs.Elements.{size, ShortEnums, FineId, FineElement, element-takes}
@@ -49,7 +50,7 @@ abbrev FineElements : List (Consumed Element) → ℕ → Type 0
 FineElements = Row (Consumed Element) (λ e n. FineElement (e .value) n)
 
 lines-size : (d : ValuePrototype) → ShortField d → (i : ℕ) {l : List (Consumed Element)} {n : ℕ} → FineElements l n → i + n < 2 ^ 64
-    → size (elementLines (d .name) (d .enumValues) i l) ≤ 0x10_0000_0000 * n
+    → size (elementLines (d .name) (d .enumValues) i l) ≤ lineBound * n
 unfolding elementLines
 lines-size d h i nil k = omega arith
 lines-size d h i (cons {a = e} {l = l} p q) k =
@@ -64,7 +65,7 @@ lines-size d h i (cons {a = e} {l = l} p q) k =
 
 -- a value that was read, in so many bytes
 pub record FineValue (v : Value) (n : ℕ) : Type 0 where
-  pub text : (d : ValuePrototype) → ShortField d → size (valueText d v) ≤ 0x10_0000_0000 * n
+  pub text : (d : ValuePrototype) → ShortField d → size (valueText d v) ≤ lineBound * n
 
 shape-takes : (o : Option Shape) → Takes Value (shapeParser o) FineValue
 unfolding shapeParser valueText
@@ -120,7 +121,7 @@ pub record ShortPrototype (p : Prototype) : Type 0 where
   pub fields : ShortFields (p .fields)
 
 fields-size : (at : ℕ) {fs : List (Consumed ValuePrototype)} {l : List DataValue} {n : ℕ} → ShortFields fs → Row DataValue (λ v n. FineValue (v .value) n) l n
-    → answered (fieldsText valueText at fs l) ≤ 0x10_0000_0000 * n
+    → answered (fieldsText valueText at fs l) ≤ lineBound * n
 unfolding fieldsText
 fields-size at nil q = omega arith
 fields-size at (cons h k) nil = omega arith
@@ -134,7 +135,7 @@ fields-size at (cons {a = f} {l = fs} h k) (cons {a = v} {l = l} p q) =
     )
 
 pub block-size : (at : ℕ) (p : Prototype) (b : DataBlock) (m n : ℕ) → ShortPrototype p → FineId (b .id .value) m → Row DataValue (λ v n. FineValue (v .value) n) (b .values) n
-    → answered (blockText valueText at (some p) b) ≤ 0x10_0000_0000 * (1 + m + n)
+    → answered (blockText valueText at (some p) b) ≤ lineBound * (1 + m + n)
 unfolding blockText blockOpening closing
 block-size at p b m n h i k =
     let fields = fieldsText valueText (valuesOffset at b) (p .fields) (b .values) in

@@ -14,6 +14,7 @@ use Rattle.bsii_format.specs.File.{Record, prototype, block, Head, ending, defi
 use Rattle.bsii_format.specs.Text.{valueText}
 use Rattle.bsii_format.specs.BlockText.{blockText}
 use Rattle.bsii_format.proofs.Readers.{fault≢ok}
+use Rattle.bsii_length.specs.Bounds.{lineBound}
 use Rattle.bsii_length.proofs.Taken.{Takes, after-taken, bind-takes, success-takes, fail-takes, map-takes, weaken, cond-takes, verify-takes, consumed-takes, repeat-takes, Row, nil, cons, Every, each, number-takes, str-takes}
 use Rattle.bsii_length.proofs.Elements.{ShortEnums, id-takes}
 use Rattle.bsii_length.proofs.Lines.{ShortField, values-takes, answered, ShortFields, ShortPrototype, block-size}
@@ -78,7 +79,7 @@ head-takes =
 
 -- a block that was read, in so many bytes, has a text of at most so many times 2^36 bytes, whatever definition it is written under
 pub record FineBlock (b : DataBlock) (n : ℕ) : Type 0 where
-  pub text : (at : ℕ) (p : Prototype) → ShortPrototype p → answered (blockText valueText at (some p) b) ≤ 0x10_0000_0000 * n
+  pub text : (at : ℕ) (p : Prototype) → ShortPrototype p → answered (blockText valueText at (some p) b) ≤ lineBound * n
 
 abbrev pub FineRecord : Record → ℕ → Type 0
 FineRecord (prototype p) n = ShortPrototype p

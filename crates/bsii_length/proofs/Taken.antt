@@ -9,7 +9,7 @@ use lib.ListN.{length, take, drop, getD, length-drop}
 use lib.Seq.{getD-drop, length-take-le}
 use lib.Dec.{leb, leb→le}
 use Rattle.bsii_format.specs.Replies.{notUtf8}
-use Rattle.bsii_format.specs.Reader.{ok, faultAt, Reader, after, _>>=_, success, fail, _<$>_, bytes, verify, Consumed, with, consumed, repeat}
+use Rattle.bsii_format.specs.Reader.{ok, faultAt, Reader, after, _>>=_, success, fail, _<$>_, bytes, verify, Consumed, consumed, repeat}
 use Rattle.bsii_format.specs.Numbers.{littleEndian, number}
 use Rattle.bsii_format.specs.Utf8.{utf8}
 use Rattle.bsii_format.specs.Strings.{strParser}
@@ -81,7 +81,7 @@ unfolding verify
 verify-takes p n {R} h = record {
   taken = λ at s v at′ r i e.
       let q = after-ok (R at s) (λ a at₁ s₁. cond (p a) (ok a at₁ s₁) (faultAt n at)) e in
-      h .taken at s v at′ r i (q .3 ∙ cond-ok (p (q .0)) (ok (q .0) (q .1) (q .2)) (record { number = n; offset = at }) (q .4) .1);
+      h .taken at s v at′ r i (q .3 ∙ cond-ok (p (q .0)) (ok (q .0) (q .1) (q .2)) _ (q .4) .1);
 }
 
 pub consumed-takes : {A : Type 0} {P : A → ℕ → Type 0} {R : Reader A} → Takes A R P → Takes (Consumed A) (consumed R) (λ w n. P (w .value) n)

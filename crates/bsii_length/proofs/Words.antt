@@ -10,6 +10,7 @@ use lib.ListN.{length}
 use lib.Dec.{ltb}
 use borrow.Author.Tests.{ltb-true, ltb-false}
 use Rattle.bsii_format.specs.Strings.{digitThen, base38From, base38, characters}
+use Rattle.bsii_length.specs.Bounds.{wordBound}
 
 -- the number of so many digits to base 38 that are all 1
 unfoldable ones : ℕ → ℕ
@@ -50,14 +51,14 @@ cases false = inr refl
 lt-or-le : (a b : ℕ) → (a < b) ⊎ (b ≤ a)
 lt-or-le a b = ⊎-elim (λ e. inl (ltb-true a b e)) (λ e. inr (ltb-false a b e)) (cases (ltb a b))
 
-few : (k : ℕ) → ones k < 0x8000_0000_0000_0000 → k ≤ 12
+few : (k : ℕ) → ones k < 0x8000_0000_0000_0000 → k ≤ wordBound
 unfolding ones
 few k h = ⊎-elim (λ l. omega arith) (λ l. let z : 13 + (k - 13) ≡ k = omega arith in absurd (omega (arith, ones-grow 13 (k - 13), ap ones z))) (lt-or-le k 13)
 
-spells : (o : Option (List ℕ)) (n : ℕ) → ((l : List ℕ) → o ≡ some l → ones (length l) ≤ n) → n < 0x8000_0000_0000_0000 → length (Option·getD o []) ≤ 12
+spells : (o : Option (List ℕ)) (n : ℕ) → ((l : List ℕ) → o ≡ some l → ones (length l) ≤ n) → n < 0x8000_0000_0000_0000 → length (Option·getD o []) ≤ wordBound
 spells none n h k = omega arith
 spells (some l) n h k = few (length l) (omega (arith, h l refl))
 
-pub twelve : (n : ℕ) → n < 0x8000_0000_0000_0000 → length (characters n) ≤ 12
+pub twelve : (n : ℕ) → n < 0x8000_0000_0000_0000 → length (characters n) ≤ wordBound
 unfolding characters base38
 twelve n h = spells (base38From n n) n (at-least n n) h

@@ -1,1 +1,1 @@
-// How long a text and a word can be, and that no refusal has the number 0: laws only, in proofs/. There is no code here.
+// How long a text and a word can be: laws only, in proofs/, of the bounds in specs/. There is no code here.

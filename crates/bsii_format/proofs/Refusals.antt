@@ -1,0 +1,235 @@
+-- Which refusals a reader gives, from numbers up to the whole file.
+use Prim.Native.Nat.{ℕ, zero, suc, _/_}
+use mathlib.Core.Path.{sym, subst}
+use mathlib.Core.Bool.{Bool, true, false, cond, _&&_, _||_}
+use mathlib.Core.Option.{Option, none, some}
+use mathlib.Core.List.{List, [], _∷_}
+use lib.ListN.{length, take}
+use lib.Dec.{T, leb, eqb, eqb→eq}
+use Rattle.bsii_format.specs.Ascii.{ascii}
+use Rattle.bsii_format.specs.Replies.{malformed}
+use Rattle.bsii_format.specs.Reader.{Result, ok, fault, faultAt, Reader, after, _>>=_, success, fail, _<$>_, bytes, verify, Consumed, with, consumed, repeat, same, tag}
+use Rattle.bsii_format.specs.Numbers.{number, littleEndian}
+use Rattle.bsii_format.specs.Strings.{strParser, low63, encodedStrParser, Id, nameless, named, idParser}
+use Rattle.bsii_format.specs.Types.{width, arity, Kind, numbers, string, encodedString, id, Shape, one, many, shapeOf}
+use Rattle.bsii_format.specs.Values.{Element, Value, single, array, nums, str, word, ident, elementParser, shapeParser, valueParser}
+use Rattle.bsii_format.specs.Prototypes.{EnumValue, ValuePrototype, Prototype, enumValueParser, enumValuesParser, valuePrototypeParser, Fields, consField, fieldsThen, fieldsFrom, fieldsParser}
+use Rattle.bsii_format.specs.Blocks.{DataValue, getPrototype, dataValue, dataValueParser, dataValuesParser}
+use Rattle.bsii_format.specs.File.{Head, ending, defining, carrying, markParser, headParser, Step, end, more, prototypeStep, blockStep, dataBlockParser, stepParser, recordParser, define, hasRoom, Records, consRecord, recordsThen, recordsFrom, recordsParser, headerParser, BsiiFile, bsiiFile, bsiiParser, lengthLimit, parse}
+use Rattle.bsii_format.specs.Refusals.{valueNumbers, fileNumbers, among}
+
+-- ---- lists of numbers
+
+abbrev pub allAmong : List ℕ → List ℕ → Bool
+allAmong l [] = true
+allAmong l (m ∷ k) = among l m && allAmong l k
+
+pub among-all : (l k : List ℕ) → T (allAmong l k) → (n : ℕ) → T (among k n) → T (among l n)
+among-all l [] h n t = absurd t
+among-all l (m ∷ k) h n t = go (among l m) (eqb n m) (λ e. subst (λ z. T (among l z)) (sym (eqb→eq n m e))) h (λ i. among-all l k i n) t
+  where
+    go : (a b : Bool) → (T b → T a → T (among l n)) → T (a && allAmong l k) → (T (allAmong l k) → T (among k n) → T (among l n)) → T (b || among k n) → T (among l n)
+    go true true here h there t = here tt tt
+    go true false here h there t = there h t
+    go false b here h there t = absurd h
+
+-- ---- readers
+
+-- a result, or a fault with one of the numbers
+abbrev pub Told : {A : Type 0} → List ℕ → Result A → Type 0
+Told l (ok a at s) = Unit {0}
+Told l (fault f) = T (among l (f .number))
+
+pub cond-told : {A : Type 0} (l : List ℕ) (b : Bool) (q r : Result A) → Told l q → Told l r → Told l (cond b q r)
+cond-told l true q r h k = h
+cond-told l false q r h k = k
+
+-- whatever it is given, the reader refuses with one of the numbers only
+pub record Only (l : List ℕ) (A : Type 0) (R : Reader A) : Type 0 where
+  pub only : (at : ℕ) (s : List ℕ) → Told l (R at s)
+
+module _ {l : List ℕ} where
+  success-only : {A : Type 0} (a : A) → Only l A (success a)
+  unfolding success
+  success-only a = record { only = λ at s. tt }
+
+  fail-only : {A : Type 0} (n : ℕ) → T (among l n) → Only l A (fail n)
+  unfolding fail
+  fail-only n h = record { only = λ at s. h }
+
+  after-only : {A B : Type 0} (q : Result A) (g : A → Reader B) → Told l q → ((a : A) → Only l B (g a)) → Told l (after q g)
+  unfolding after
+  after-only (ok a at s) g h k = k a .only at s
+  after-only (fault f) g h k = h
+
+  bind-only : {A B : Type 0} {R : Reader A} (g : A → Reader B) → Only l A R → ((a : A) → Only l B (g a)) → Only l B (R >>= g)
+  unfolding _>>=_
+  bind-only {R = R} g h k = record { only = λ at s. after-only (R at s) g (h .only at s) k }
+
+  map-only : {A B : Type 0} (g : A → B) {R : Reader A} → Only l A R → Only l B (g <$> R)
+  unfolding _<$>_
+  map-only g h = bind-only (λ a. success (g a)) h (λ a. success-only (g a))
+
+  verify-only : {A : Type 0} (p : A → Bool) (n : ℕ) {R : Reader A} → T (among l n) → Only l A R → Only l A (verify p n R)
+  unfolding verify
+  verify-only p n {R} m h = record {
+    only = λ at s. after-only (R at s) _ (h .only at s) (λ a. record { only = λ i t. cond-told l (p a) (ok a i t) (faultAt n at) tt m });
+  }
+
+  consumed-only : {A : Type 0} {R : Reader A} → Only l A R → Only l (Consumed A) (consumed R)
+  unfolding consumed
+  consumed-only {R = R} h = record { only = λ at s. after-only (R at s) _ (h .only at s) (λ a. record { only = λ i t. tt }) }
+
+  repeat-only : {A : Type 0} (n : ℕ) {R : Reader A} → Only l A R → Only l (List A) (repeat n R)
+  unfolding repeat
+  repeat-only zero h = success-only []
+  repeat-only (suc n) h = bind-only _ h (λ a. bind-only _ (repeat-only n h) (λ k. success-only (a ∷ k)))
+
+  cond-only : {A : Type 0} (b : Bool) {R S : Reader A} → Only l A R → Only l A S → Only l A (cond b R S)
+  cond-only true h k = h
+  cond-only false h k = k
+
+  bytes-only : (n : ℕ) → T (among l malformed) → Only l (List ℕ) (bytes n)
+  unfolding bytes
+  bytes-only n h = record { only = λ at s. cond-told l (leb n (length s)) _ _ tt h }
+
+  number-only : (w : ℕ) → T (among l malformed) → Only l ℕ (number w)
+  unfolding number
+  number-only w h = map-only littleEndian (bytes-only w h)
+
+-- ---- values
+
+str-only : Only valueNumbers (List ℕ) strParser
+unfolding strParser
+str-only = bind-only _ (number-only 4 tt) (λ n. verify-only _ _ tt (bytes-only n tt))
+
+word-only : Only valueNumbers ℕ encodedStrParser
+unfolding encodedStrParser
+word-only = verify-only _ _ tt (map-only low63 (number-only 8 tt))
+
+id-only : Only valueNumbers Id idParser
+unfolding idParser
+id-only = bind-only _ (number-only 1 tt) (λ n. cond-only (eqb n 0xff) (map-only nameless (number-only 8 tt)) (map-only named (repeat-only n word-only)))
+
+element-only : (k : Kind) → Only valueNumbers Element (elementParser k)
+unfolding elementParser
+element-only (numbers k) = map-only (nums k) (repeat-only (arity k) (number-only (width k) tt))
+element-only string = map-only str str-only
+element-only encodedString = map-only word word-only
+element-only id = map-only ident id-only
+
+shape-only : (o : Option Shape) → Only valueNumbers Value (shapeParser o)
+unfolding shapeParser
+shape-only none = fail-only _ tt
+shape-only (some (one k)) = map-only single (consumed-only (element-only k))
+shape-only (some (many k)) = map-only array (bind-only _ (number-only 4 tt) (λ n. repeat-only n (consumed-only (element-only k))))
+
+pub value-only : (t : ℕ) → Only valueNumbers Value (valueParser t)
+unfolding valueParser
+value-only t = shape-only (shapeOf t)
+
+-- ---- the file
+
+-- what a value is refused with, a file is
+in-file : {A : Type 0} {R : Reader A} → Only valueNumbers A R → Only fileNumbers A R
+in-file {A} {R} h = record { only = λ at s. go (R at s) (h .only at s) }
+  where
+    go : (q : Result A) → Told valueNumbers q → Told fileNumbers q
+    go (ok a at s) k = tt
+    go (fault f) k = among-all fileNumbers valueNumbers tt (f .number) k
+
+string-only : Only fileNumbers (List ℕ) strParser
+string-only = in-file str-only
+
+u32-only : Only fileNumbers ℕ (number 4)
+u32-only = number-only 4 tt
+
+enumValues-only : (t : ℕ) → Only fileNumbers (List EnumValue) (enumValuesParser t)
+unfolding enumValuesParser enumValueParser
+enumValues-only t =
+    cond-only (eqb t 0x37) (bind-only _ u32-only (λ n. repeat-only n (bind-only _ u32-only (λ c. bind-only _ string-only (λ s. success-only _))))) (success-only [])
+
+entry-only : Only fileNumbers (Option ValuePrototype) valuePrototypeParser
+unfolding valuePrototypeParser
+entry-only =
+    bind-only _ u32-only (λ t. cond-only (eqb t 0) (success-only none) (bind-only _ string-only (λ n. bind-only _ (enumValues-only t) (λ l. success-only _))))
+
+then-only : (R : Reader Fields) → Only fileNumbers Fields R → (o : Option ValuePrototype) (c : List ℕ) → Only fileNumbers Fields (fieldsThen R o c)
+unfolding fieldsThen
+then-only R h none c = success-only _
+then-only R h (some d) c = map-only (consField (with d c)) h
+
+fieldsFrom-only : (n : ℕ) → Only fileNumbers Fields (fieldsFrom n)
+unfolding fieldsFrom
+fieldsFrom-only zero = fail-only _ tt
+fieldsFrom-only (suc n) = bind-only _ (consumed-only entry-only) (λ e. then-only (fieldsFrom n) (fieldsFrom-only n) (e .value) (e .raw))
+
+fields-only : Only fileNumbers Fields fieldsParser
+unfolding fieldsParser
+fields-only = record { only = λ at s. fieldsFrom-only (length s) .only at s }
+
+values-only : (fs : List (Consumed ValuePrototype)) → Only fileNumbers (List DataValue) (dataValuesParser fs)
+unfolding dataValuesParser dataValueParser
+values-only [] = success-only []
+values-only (f ∷ fs) =
+    bind-only _ (map-only (dataValue (f .value .typeId)) (consumed-only (in-file (value-only (f .value .typeId)))))
+    (λ v. bind-only _ (values-only fs) (λ l. success-only (v ∷ l)))
+
+mark-only : (m : ℕ) → Only fileNumbers Head (markParser m)
+unfolding markParser
+mark-only zero = success-only ending
+mark-only (suc m) = bind-only _ u32-only (λ n. bind-only _ string-only (λ s. success-only (defining n s)))
+
+head-only : Only fileNumbers Head headParser
+unfolding headParser
+head-only =
+    bind-only _ u32-only
+    (λ n. cond-only (eqb n 0) (bind-only markParser (verify-only _ _ tt (number-only 1 tt)) mark-only) (success-only (carrying n)))
+
+block-only : (start : ℕ) (hd : List ℕ) (c : ℕ) (o : Option Prototype) → Only fileNumbers Step (dataBlockParser start hd c o)
+unfolding dataBlockParser
+block-only start hd c none = record { only = λ at s. tt }
+block-only start hd c (some p) = record {
+  only = bind-only (λ i. blockStep hd c i <$> dataValuesParser (p .fields)) (consumed-only (in-file id-only)) (λ i. map-only (blockStep hd c i) (values-only (p .fields))) .only;
+}
+
+step-only : (env : List Prototype) (start : ℕ) (hd : List ℕ) (h : Head) → Only fileNumbers Step (stepParser env start hd h)
+unfolding stepParser
+step-only env start hd ending = success-only (end hd)
+step-only env start hd (defining c name) = map-only (prototypeStep hd c name) fields-only
+step-only env start hd (carrying c) = block-only start hd c (getPrototype c env)
+
+record-only : (env : List Prototype) → Only fileNumbers Step (recordParser env)
+unfolding recordParser
+record-only env = record {
+  only = λ at s. after-only (consumed headParser at s) _ (consumed-only head-only .only at s) (λ h. step-only env at (h .raw) (h .value));
+}
+
+recordsThen-only : (rooms : ℕ) (env : List Prototype) (start : ℕ) (rest : List Prototype → Reader Records) → ((env : List Prototype) → Only fileNumbers Records (rest env))
+    → (z : Step) → Only fileNumbers Records (recordsThen rooms env start rest z)
+unfolding recordsThen
+recordsThen-only rooms env start rest h (end l) = success-only _
+recordsThen-only rooms env start rest h (more r) = cond-only (hasRoom rooms env r) (map-only (consRecord r) (h (define r env))) (record { only = λ at s. tt })
+
+records-only : (rooms n : ℕ) (env : List Prototype) → Only fileNumbers Records (recordsFrom rooms n env)
+unfolding recordsFrom
+records-only rooms zero env = record { only = λ at s. tt }
+records-only rooms (suc n) env = record {
+  only = λ at s. after-only (recordParser env at s) _ (record-only env .only at s) (recordsThen-only rooms env at (λ e. recordsFrom rooms n e) (records-only rooms n));
+}
+
+header-only : Only fileNumbers ℕ headerParser
+unfolding headerParser tag
+header-only =
+    bind-only _ (record { only = λ at s. cond-told fileNumbers (same (take 4 s) (ascii "BSII")) _ _ tt tt })
+    (λ u. bind-only _ u32-only (λ v. cond-only (eqb v 1) (fail-only _ tt) (success-only v)))
+
+file-only : (rooms : ℕ) → Only fileNumbers BsiiFile (bsiiParser rooms)
+unfolding bsiiParser recordsParser
+file-only rooms =
+    bind-only (λ h. bsiiFile h <$> recordsParser rooms) (consumed-only header-only)
+    (λ h. map-only (bsiiFile h) (record { only = λ at s. records-only rooms (length s) [] .only at s }))
+
+pub parse-told : (words : ℕ) (s : List ℕ) → Told fileNumbers (parse words s)
+unfolding parse
+parse-told words s = cond-told fileNumbers (leb (length s) lengthLimit) _ _ (file-only (words / 3) .only 0 s) tt

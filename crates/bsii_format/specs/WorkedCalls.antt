@@ -1,0 +1,213 @@
+-- What the calls answer for small files, found and refused: FORMAT.md, "A worked file", "A prototype id defined again" and "Calls". A case is a
+-- line, its answer read off document 01; proofs/WorkedCalls.antt computes them.
+use Prim.Native.Nat.{ℕ}
+use mathlib.Core.Bool.{true, false}
+use mathlib.Core.List.{List, [], _∷_, _++_}
+use lib.ListN.{length, take, drop, set, replicate}
+use lib.IntN.{pos, negsuc}
+use lib.Ieee.{Float, nan, fin}
+use Rattle.bsii_format.specs.Ascii.{ascii}
+use Rattle.bsii_format.specs.Replies.{Reply, gives, refusal, malformed, notUtf8, zeroDigit, undefinedPrototype, unlistedType, fieldCount, enumValue, tableFull, outputShort, absent}
+use Rattle.bsii_format.specs.Calls.{Place, Reading, readingCall, PrototypeAnswer, prototypeCall, BlockAnswer, blockCall, namedBlockCall, FieldAnswer, fieldCall, partOf, Datum, dString, dEncodedString, dFloat, dFloatVec2, dFloatVec3, dFloatVec4, dFloatVec8, dInt32, dInt32Vec3, dUInt32, dUInt16, dInt64, dUInt64, dBool, dEnum, dId, elementCall, TextAnswer, textCall}
+use Rattle.bsii_format.specs.Worked.{le, u32, u64, workedFile, workedText, Fact, _says_}
+
+-- ---- files
+
+abbrev pub string : List ℕ → List ℕ
+string s = u32 (length s) ++ s
+
+abbrev pub definition : ℕ → List ℕ → List ℕ
+definition t name = u32 t ++ string name
+
+abbrev pub prototypeRecord : ℕ → List ℕ → List ℕ → List ℕ
+prototypeRecord n name definitions = u32 0 ++ le 1 1 ++ u32 n ++ string name ++ definitions ++ u32 0
+
+abbrev pub fileWith : List ℕ → List ℕ
+fileWith records = ascii "BSII" ++ u32 2 ++ records ++ u32 0 ++ le 1 0
+
+-- the worked file with another byte at one offset
+abbrev pub workedWith : ℕ → ℕ → List ℕ
+workedWith at b = set workedFile at b
+
+-- 76 bytes: the block at 35 was read as a `p` with a u32 `f`, and the last definition of its id, at 44, is a `q` with a field `g` of type 06
+unfoldable pub redefinedFile : List ℕ
+redefinedFile =
+    fileWith (prototypeRecord 1 (ascii "p") (definition 0x27 (ascii "f")) ++ u32 1 ++ le 1 0 ++ u32 9 ++ prototypeRecord 1 (ascii "q") (definition 0x06 (ascii "g")))
+
+-- 104 bytes: the block at 44 has a u32 at 49 and a bool at 53; the last definition of its id, at 54, has an i64 for the u32, so that `g` would stand
+-- elsewhere, and one field more
+unfoldable pub regroupedFile : List ℕ
+regroupedFile =
+    fileWith (
+    prototypeRecord 1 (ascii "p") (definition 0x27 (ascii "f") ++ definition 0x35 (ascii "g")) ++ u32 1 ++ le 1 0 ++ u32 9 ++ le 1 1
+    ++ prototypeRecord 1 (ascii "p") (definition 0x31 (ascii "f") ++ definition 0x35 (ascii "g") ++ definition 0x01 (ascii "h"))
+    )
+
+-- 127 bytes and one behind the end record: at 8 prototype 0, `z`; at 26 prototype 1, `p` with two fields `x`, and at 62 a nameless block of it;
+-- at 83 prototype 2, `p` too, and at 101 a block of it with two words, the second one empty
+unfoldable pub twinFile : List ℕ
+twinFile =
+    fileWith (
+    prototypeRecord 0 (ascii "z") [] ++ prototypeRecord 1 (ascii "p") (definition 0x01 (ascii "x") ++ definition 0x2b (ascii "x"))
+    ++ u32 1 ++ le 1 0xff ++ u64 5 ++ string (ascii "hi") ++ le 2 7 ++ prototypeRecord 2 (ascii "p") [] ++ u32 2 ++ le 1 2 ++ u64 0x57 ++ u64 0
+    )
+    ++ le 1 0xff
+
+-- 76 bytes: the enum list has the number 5 twice, and the block at 62 has the value 5 at 67
+unfoldable pub enumFile : List ℕ
+enumFile =
+    fileWith (
+    prototypeRecord 1 (ascii "p") (definition 0x37 (ascii "e") ++ u32 2 ++ u32 5 ++ string (ascii "low") ++ u32 5 ++ string (ascii "high"))
+    ++ u32 1 ++ le 1 0 ++ u32 5
+    )
+
+-- the worked file with its prototype again, without fields, in front of the end record
+unfoldable pub shortenedFile : List ℕ
+shortenedFile = take 77 workedFile ++ prototypeRecord 7 (ascii "trip") [] ++ drop 77 workedFile
+
+-- the worked file's `km` as an enum with an empty list, which moves its value to 65
+unfoldable pub unlistedEnumFile : List ℕ
+unlistedEnumFile = take 35 (workedWith 25 0x37) ++ u32 0 ++ drop 35 workedFile
+
+-- ---- look-ups; the first argument of a call is the number of table words
+
+abbrev pub place : ℕ → ℕ → Place
+place at n = record { offset = at; size = n }
+
+abbrev pub reads : ℕ → ℕ → ℕ → Reply Reading
+reads prototypes blocks next = gives (record { prototypes = prototypes; blocks = blocks; next = next })
+
+unfoldable pub readings : List (Fact (Reply Reading))
+readings =
+    readingCall 3 workedFile says reads 1 1 82 ∷
+    readingCall 3 redefinedFile says reads 1 1 76 ∷
+    readingCall 9 twinFile says reads 3 2 127 ∷
+    readingCall 8 twinFile says refusal tableFull 83 ∷
+    readingCall 0 (fileWith []) says reads 0 0 13 ∷
+    readingCall 3 (workedWith 12 2) says refusal malformed 12 ∷ []
+
+abbrev pub defines : Place → ℕ → Reply PrototypeAnswer
+defines name fields = gives (record { name = name; fields = fields })
+
+unfoldable pub prototypes : List (Fact (Reply PrototypeAnswer))
+prototypes =
+    prototypeCall 3 workedFile 7 says defines (place 21 4) 2 ∷
+    prototypeCall 3 redefinedFile 1 says defines (place 57 1) 1 ∷
+    prototypeCall 9 twinFile 0 says defines (place 21 1) 0 ∷
+    prototypeCall 3 workedFile 8 says refusal absent 0 ∷
+    prototypeCall 3 (workedWith 48 8) 8 says refusal undefinedPrototype 48 ∷ []
+
+abbrev pub stands : ℕ → Place → Reply BlockAnswer
+stands n id = gives (record { prototypeId = n; id = id })
+
+unfoldable pub blocks : List (Fact (Reply BlockAnswer))
+blocks =
+    blockCall 3 workedFile 0 says stands 7 (place 52 9) ∷
+    blockCall 3 redefinedFile 0 says stands 1 (place 39 1) ∷
+    blockCall 9 twinFile 0 says stands 1 (place 66 9) ∷
+    blockCall 9 twinFile 1 says stands 2 (place 105 17) ∷
+    blockCall 3 workedFile 1 says refusal absent 0 ∷ []
+
+unfoldable pub namedBlocks : List (Fact (Reply ℕ))
+namedBlocks =
+    namedBlockCall 3 workedFile (ascii "trip") 0 says gives 0 ∷
+    namedBlockCall 3 workedFile (ascii "trip") 1 says refusal absent 0 ∷
+    namedBlockCall 3 redefinedFile (ascii "q") 0 says gives 0 ∷
+    namedBlockCall 3 redefinedFile (ascii "p") 0 says refusal absent 0 ∷
+    namedBlockCall 9 twinFile (ascii "p") 1 says gives 1 ∷
+    namedBlockCall 9 twinFile (ascii "z") 0 says refusal absent 0 ∷ []
+
+abbrev pub carries : ℕ → ℕ → List ℕ → Reply FieldAnswer
+carries t at l = gives (record { typeId = t; part = place at (length l); bytes = l })
+
+unfoldable pub workedPart : List ℕ
+workedPart = u32 2 ++ u32 0x3fc0_0000 ++ u32 0xc000_0000
+
+unfoldable pub fields : List (Fact (Reply FieldAnswer))
+fields =
+    fieldCall 3 workedFile 0 (ascii "km") says carries 0x27 61 (u32 300) ∷
+    fieldCall 3 workedFile 0 (ascii "w") says carries 0x06 65 workedPart ∷
+    fieldCall 3 workedFile 0 (ascii "x") says refusal absent 0 ∷
+    fieldCall 3 workedFile 1 (ascii "km") says refusal absent 0 ∷
+    fieldCall 3 redefinedFile 0 (ascii "g") says carries 0x27 40 (u32 9) ∷
+    fieldCall 3 redefinedFile 0 (ascii "f") says refusal absent 0 ∷
+    fieldCall 3 regroupedFile 0 (ascii "f") says carries 0x27 49 (u32 9) ∷
+    fieldCall 3 regroupedFile 0 (ascii "g") says carries 0x35 53 (le 1 1) ∷
+    fieldCall 3 regroupedFile 0 (ascii "h") says refusal absent 0 ∷
+    fieldCall 9 twinFile 0 (ascii "x") says carries 0x01 75 (string (ascii "hi")) ∷
+    fieldCall 9 twinFile 1 (ascii "x") says refusal absent 0 ∷
+    fieldCall 3 enumFile 0 (ascii "e") says carries 0x37 67 (u32 5) ∷
+    fieldCall 3 (workedWith 25 0x08) 0 (ascii "w") says refusal unlistedType 61 ∷ []
+
+unfoldable pub parts : List (Fact (List ℕ))
+parts =
+    partOf (fieldCall 3 workedFile 0 (ascii "w")) says workedPart ∷
+    partOf (fieldCall 3 workedFile 0 (ascii "x")) says [] ∷ []
+
+-- ---- elements
+
+-- floats as numbers, negative for `true`, so many times a power of two
+abbrev pub one : Float
+one = fin false 1 (pos 0)
+
+abbrev pub oneAndHalf : Float
+oneAndHalf = fin false 3 (negsuc 0)
+
+abbrev pub minusTwo : Float
+minusTwo = fin true 1 (pos 1)
+
+abbrev pub minusZero : Float
+minusZero = fin true 0 (pos 0)
+
+-- the bits of 1, 1.5, -2 and -0
+abbrev pub fourBits : List ℕ
+fourBits = u32 0x3f80_0000 ++ u32 0x3fc0_0000 ++ u32 0xc000_0000 ++ u32 0x8000_0000
+
+-- each kind once at least, single or in an array; then what is refused, also behind the element that was asked for
+unfoldable pub elements : List (Fact (Reply Datum))
+elements =
+    elementCall 0x02 (u32 2 ++ string (ascii "a") ++ string (ascii "hi")) 1 says gives (dString (place 13 2)) ∷
+    elementCall 0x03 (u64 0x8000_0000_0000_0057) 0 says gives (dEncodedString 0x57) ∷
+    elementCall 0x06 workedPart 1 says gives (dFloat minusTwo) ∷
+    elementCall 0x05 (u32 0x7f80_0001) 0 says gives (dFloat nan) ∷
+    elementCall 0x07 fourBits 0 says gives (dFloatVec2 one oneAndHalf) ∷
+    elementCall 0x09 fourBits 0 says gives (dFloatVec3 one oneAndHalf minusTwo) ∷
+    elementCall 0x18 (u32 1 ++ fourBits) 0 says gives (dFloatVec4 one oneAndHalf minusTwo minusZero) ∷
+    elementCall 0x19 (fourBits ++ fourBits) 0 says gives (dFloatVec8 one oneAndHalf minusTwo minusZero one oneAndHalf minusTwo minusZero) ∷
+    elementCall 0x25 (u32 0xffff_fffe) 0 says gives (dInt32 (negsuc 1)) ∷
+    elementCall 0x11 (u32 1 ++ u32 0xffff_ffff ++ u32 0x8000_0000) 0 says gives (dInt32Vec3 (pos 1) (negsuc 0) (negsuc 0x7fff_ffff)) ∷
+    elementCall 0x28 (u32 2 ++ u32 300 ++ u32 0xffff_ffff) 1 says gives (dUInt32 0xffff_ffff) ∷
+    elementCall 0x2f (u32 300) 0 says gives (dUInt32 300) ∷
+    elementCall 0x2b (le 2 0xffff) 0 says gives (dUInt16 0xffff) ∷
+    elementCall 0x31 (u64 0x8000_0000_0000_0000) 0 says gives (dInt64 (negsuc 0x7fff_ffff_ffff_ffff)) ∷
+    elementCall 0x33 (u64 0xffff_ffff_ffff_ffff) 0 says gives (dUInt64 0xffff_ffff_ffff_ffff) ∷
+    elementCall 0x36 (u32 2 ++ le 1 0 ++ le 1 2) 0 says gives (dBool false) ∷
+    elementCall 0x36 (u32 2 ++ le 1 0 ++ le 1 2) 1 says gives (dBool true) ∷
+    elementCall 0x37 (u32 5) 0 says gives (dEnum 5) ∷
+    elementCall 0x3a (u32 2 ++ le 1 1 ++ u64 0x57 ++ le 1 0) 1 says gives (dId (place 13 1)) ∷
+    elementCall 0x3d (le 1 0xff ++ u64 38) 0 says gives (dId (place 0 9)) ∷
+    elementCall 0x08 [] 0 says refusal unlistedType 0 ∷
+    elementCall 0x01 (u32 3 ++ le 1 0xc0 ++ le 1 0x80) 0 says refusal malformed 4 ∷
+    elementCall 0x01 (u32 2 ++ le 1 0xc0 ++ le 1 0x80) 0 says refusal notUtf8 4 ∷
+    elementCall 0x04 (u32 2 ++ u64 1 ++ u64 38) 0 says refusal zeroDigit 12 ∷
+    elementCall 0x06 (u32 2 ++ u32 0) 0 says refusal malformed 8 ∷
+    elementCall 0x06 (u32 0) 0 says refusal absent 0 ∷
+    elementCall 0x27 (u32 300) 1 says refusal absent 0 ∷ []
+
+-- ---- texts: in an output of ones, which shows what is written
+
+abbrev pub written : List ℕ → List ℕ → TextAnswer
+written t rest = record { reply = gives (length t); needed = 0; output = t ++ rest }
+
+abbrev pub unwritten : ℕ → ℕ → ℕ → List ℕ → TextAnswer
+unwritten n at needed out = record { reply = refusal n at; needed = needed; output = out }
+
+unfoldable pub texts : List (Fact TextAnswer)
+texts =
+    textCall 3 workedFile (replicate 75 1) says written workedText (1 ∷ 1 ∷ []) ∷
+    textCall 3 workedFile (replicate 72 1) says unwritten outputShort 0 73 (replicate 72 1) ∷
+    textCall 0 (fileWith []) (replicate 13 1) says written (ascii "SiiNunit\n{\n}\n") [] ∷
+    textCall 3 redefinedFile (replicate 33 1) says written (ascii "SiiNunit\n{\nq : null {\n  g: 9\n}\n}\n") [] ∷
+    textCall 3 enumFile (replicate 36 1) says written (ascii "SiiNunit\n{\np : null {\n  e: high\n}\n}\n") [] ∷
+    textCall 3 regroupedFile [] says unwritten fieldCount 44 0 [] ∷
+    textCall 3 unlistedEnumFile [] says unwritten enumValue 65 0 [] ∷ []

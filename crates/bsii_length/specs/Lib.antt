@@ -1,0 +1,2 @@
+-- What the laws of this crate say of lengths.
+pub mod Bounds
