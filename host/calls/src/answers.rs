@@ -146,11 +146,14 @@ pub fn parts_of(kind: u32) -> usize {
     }
 }
 
-/// A float's bits; those of a NaN as one pattern, since 01 keeps floats as floats, without a NaN's
-/// sign and payload.
+/// The bits of every NaN in an element's answer: 01 keeps floats as floats, without a NaN's sign and
+/// payload.
+pub const ONE_NAN: u32 = 0x7fc0_0000;
+
+/// A float's bits, those of a NaN as `ONE_NAN`.
 pub fn one_nan(bits: u32) -> u32 {
     if f32::from_bits(bits).is_nan() {
-        f32::NAN.to_bits()
+        ONE_NAN
     } else {
         bits
     }
@@ -165,7 +168,7 @@ impl Element {
         }
     }
 
-    /// The answer with every NaN as one pattern.
+    /// The answer with every NaN as the one that there is.
     pub fn with_one_nan(mut self) -> Self {
         if self.kind != kind::THREE_I32 {
             self.parts = self.parts.map(one_nan);

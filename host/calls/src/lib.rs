@@ -7,6 +7,7 @@ mod answers;
 
 pub use answers::{
     kind, one_nan, parts_of, Answer, Block, Element, Field, Number, Prototype, Reading, Text,
+    ONE_NAN,
 };
 
 /// The length that every call with a file refuses above (reply 12).

@@ -94,8 +94,8 @@ impl Pair<'_, '_> {
 
     /// The element call with any bytes.
     pub fn element(&mut self, type_id: u32, part: &[u8], index: u64) -> Check {
-        let found = self.library.element(type_id, part, index).with_one_nan();
-        let expected = self.model.element(type_id, part, index).with_one_nan();
+        let found = self.library.element(type_id, part, index);
+        let expected = self.model.element(type_id, part, index);
         let asked = || format!("type {type_id:#x}, index {index}, {part:02x?}");
         self.tally.same((WHO, "element"), asked, found, expected)
     }

@@ -285,12 +285,10 @@ impl Lookups<'_, '_, '_> {
         };
         for index in indices(count(value)) {
             let element = self.side.element(answer.type_id, bytes, index);
-            let expected = expected_element(value, index);
-            // The library has one NaN; the model keeps each one's bits.
-            let (element, expected) = match self.side.name {
-                "model" => (element, expected),
-                _ => (element.with_one_nan(), expected.with_one_nan()),
-            };
+            let (expected, is_other_nan) = expected_element(value, index).with_one_nan();
+            if is_other_nan {
+                self.tally.except(Exception::ElementNan);
+            }
             let ok = same_element(&element, bytes, &expected);
             let asked = || format!("{}, index {index}: {element:?}, Rust {value:?}", asked());
             let label = label(self.side, "element");
@@ -317,12 +315,14 @@ enum Expected<'a> {
 }
 
 impl Expected<'_> {
-    fn with_one_nan(self) -> Self {
+    /// With the one NaN that there is for every other, and whether there is another.
+    fn with_one_nan(self) -> (Self, bool) {
         match self {
             Expected::Parts(case, parts) if case != kind::THREE_I32 => {
-                Expected::Parts(case, parts.map(one_nan))
+                let one = parts.map(one_nan);
+                (Expected::Parts(case, one), one != parts)
             }
-            other => other,
+            other => (other, false),
         }
     }
 }

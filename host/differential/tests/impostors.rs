@@ -34,9 +34,10 @@ enum Fault {
     TypeOfLast,
     IgnoresBit63,
     EnumAsU32,
+    NanKeepsItsBits,
 }
 
-const FAULTS: [Fault; 25] = [
+const FAULTS: [Fault; 26] = [
     Fault::RefusesEach,
     Fault::FindsNoName,
     Fault::FirstBlockForAll,
@@ -62,6 +63,7 @@ const FAULTS: [Fault; 25] = [
     Fault::TypeOfLast,
     Fault::IgnoresBit63,
     Fault::EnumAsU32,
+    Fault::NanKeepsItsBits,
 ];
 
 struct Impostor {
@@ -228,6 +230,13 @@ impl Impostor {
                 kind: calls::kind::U32,
                 ..whole
             },
+            Fault::NanKeepsItsBits if type_id == 5 && whole.number == 0 => {
+                let bits = u32::from_le_bytes(part[..4].try_into().unwrap());
+                Element {
+                    parts: [bits, 0, 0, 0, 0, 0, 0, 0],
+                    ..whole
+                }
+            }
             _ => whole,
         }
     }
