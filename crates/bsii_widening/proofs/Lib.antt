@@ -9,4 +9,8 @@ pub mod Text
 pub mod Lookups
 pub mod Unlisted
 pub mod Demand3
+pub mod Equal
+pub mod Decided
+pub mod Computes
 pub mod Example
+pub mod EveryType

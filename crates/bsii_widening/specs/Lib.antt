@@ -3,4 +3,6 @@ pub mod Marks
 pub mod Insertions
 pub mod Parts
 pub mod Claim
+pub mod Written
+pub mod EveryType
 pub mod Example
