@@ -1,9 +1,14 @@
 //! Random lists of insertions, by the words of document 01's "Widening".
 
+mod broken;
 mod insertion;
 mod parts;
+mod stored;
+mod written;
 
 pub use insertion::Insertion;
+pub use stored::{allowed_lists, broken_lists};
+pub use written::{lists, text, Stored, Written};
 
 use crate::save::{Prototype, Record, Save};
 use crate::Random;
