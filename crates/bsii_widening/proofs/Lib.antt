@@ -6,8 +6,12 @@ pub mod Once
 pub mod Fields
 pub mod Invariant
 pub mod Text
+pub mod Start
 pub mod Lookups
 pub mod Unlisted
+pub mod Core
+pub mod Survives
+pub mod Exactly
 pub mod Demand3
 pub mod Equal
 pub mod Decided
