@@ -5,12 +5,16 @@ use mathlib.Core.Option.{none, some}
 use mathlib.Core.List.{[]}
 use lib.ListN.{length, replicate}
 use lib.Dec.{lit≤}
-use Rattle.bsii_format.specs.Worked.{workedFile}
+use Rattle.bsii_format.specs.Ascii.{ascii}
+use Rattle.bsii_format.specs.Replies.{gives}
+use Rattle.bsii_format.specs.Calls.{readingCall, fieldCall}
+use Rattle.bsii_format.specs.Worked.{u32, workedFile}
 use Rattle.bsii_format.specs.File.{lengthLimit}
 use Rattle.bsii_format.specs.Text.{valueText}
 use Rattle.bsii_widening.specs.Insertions.{aField, insert, AllAllowed, DefinitionAllowed}
 use Rattle.bsii_widening.specs.Claim.{OldSave, Room, StillConverts, Refused, newText, widened, newFile, firstCarried}
 use Rattle.bsii_widening.specs.Marks.{newRecords, markRecords}
+use Rattle.bsii_widening.specs.Parts.{renumber}
 use Rattle.bsii_widening.specs.Example.{oldFile, additions, additionsText, unlistedField, anyBytes, afterUnlisted, unused}
 use Rattle.bsii_widening.proofs.Computes.{computesAll}
 use Rattle.bsii_widening.proofs.Decided.{allowed-proves}
@@ -36,6 +40,20 @@ additions-convert = demand3 768 workedFile (replicate 128 0) oldFile 82 [] 73 ol
 pub additions-text : newText valueText (widened oldFile additions) ≡ additionsText
 unfolding computesAll
 additions-text = refl
+
+-- `km` was found at 61, and is found at 113 with the same type and bytes
+pub km-before : fieldCall 768 workedFile 0 (ascii "km") ≡ gives (record { typeId = 0x27; part = record { offset = 61; size = 4 }; bytes = u32 300 })
+unfolding computesAll
+km-before = refl
+
+pub km-after : fieldCall 6 (newFile oldFile [] (widened oldFile additions)) (renumber (widened oldFile additions) 0) (ascii "km")
+    ≡ gives (record { typeId = 0x27; part = record { offset = 113; size = 4 }; bytes = u32 300 })
+unfolding computesAll
+km-after = refl
+
+pub additions-read : readingCall 6 (newFile oldFile [] (widened oldFile additions)) ≡ gives (record { prototypes = 2; blocks = 2; next = 144 })
+unfolding computesAll
+additions-read = refl
 
 -- ---- the last definition
 
