@@ -1,6 +1,5 @@
 -- The list with every listed type meets the premises, and the old value is found where the block stands now: all of it is computed.
 use mathlib.Core.Path.{_≡_, refl}
-use Prim.Native.Nat.{ℕ}
 use mathlib.Core.List.{List, [], _++_}
 use Rattle.bsii_format.specs.Ascii.{ascii}
 use Rattle.bsii_format.specs.Replies.{gives}

@@ -18,3 +18,4 @@ pub mod Decided
 pub mod Computes
 pub mod Example
 pub mod EveryType
+pub mod Premises

@@ -25,7 +25,7 @@ use Rattle.bsii_widening.proofs.Invariant.{OldBlock, Inv, done, prototy
 bare : {A : Type 0} → Option (Placed A) → Option A
 bare = Option·map (λ p. p .it)
 
-blocks : List Record → List DataBlock
+unfoldable pub blocks : List Record → List DataBlock
 blocks [] = []
 blocks (prototype p ∷ l) = blocks l
 blocks (block b ∷ l) = b ∷ blocks l
