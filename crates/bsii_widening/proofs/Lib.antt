@@ -19,3 +19,4 @@ pub mod Computes
 pub mod Example
 pub mod EveryType
 pub mod Premises
+pub mod Splices
