@@ -9,21 +9,21 @@
 --
 -- where M is `markRecords (FILE .records)`, FILE the old save's, as `oldFile` is the worked one's. A type that no block carries need not be listed.
 use mathlib.Core.Path.{_≡_, refl, sym, ap, ap₂, _∙_, subst}
-use Prim.Native.Nat.{ℕ, zero, suc, _≤_}
+use Prim.Native.Nat.{ℕ, _≤_}
 use native.Mathlib.Omega.{arith}
 use mathlib.Core.Bool.{Bool, true, false, _&&_, _||_, not}
 use mathlib.Core.Option.{Option, none, some}
 use mathlib.Core.List.{List, [], _∷_}
 use lib.ListN.{length, take}
 use lib.Dec.{T, leb, eqb}
-use Rattle.bsii_format.specs.Reader.{Result, ok, fault, Consumed, WellFormed}
+use Rattle.bsii_format.specs.Reader.{Result, ok, fault, Consumed}
 use Rattle.bsii_format.specs.Values.{Element, Value, single, array}
 use Rattle.bsii_format.specs.Prototypes.{EnumValue, ValuePrototype, Prototype, valuePrototypeParser}
 use Rattle.bsii_format.specs.Blocks.{DataValue, DataBlock, getPrototype, dataValueParser}
 use Rattle.bsii_format.specs.File.{prototype, block, Step, end, more, recordParser, recordBytes, prototypesOf}
 use Rattle.bsii_format.proofs.Readers.{ok-val, ok-at, ok-rest, fault≢ok}
 use Rattle.bsii_widening.specs.Marks.{unmark, MarkedRecord, markedPrototype, markedBlock, MarkedRecords, newRecords}
-use Rattle.bsii_widening.specs.Insertions.{nextBlock, Insertion, aField, aPrototype, aBlock, insert, elementListed, ElementsListed, EnumListed, EnumsListed, hasName, DefinitionAllowed, ValueAllowed, ValuesAllowed, FieldAllowed, PrototypeAllowed, BlockAllowed, Allowed, AllAllowed}
+use Rattle.bsii_widening.specs.Insertions.{nextBlock, Insertion, aField, aPrototype, aBlock, insert, elementListed, ElementsListed, EnumListed, EnumsListed, hasName, DefinitionAllowed, ValueAllowed, ValuesAllowed, Allowed, AllAllowed}
 use Rattle.bsii_widening.proofs.Environments.{none≢some, some-inj}
 use Rattle.bsii_widening.proofs.Equal.{Decides, always, never, itself, at-most, both, only-if, restated, numberTest, definitionTest, valueTest, prototypeTest, blockTest}
 
