@@ -2,7 +2,7 @@
 
 use calls::{Answer, Call, Field, Implementation, Lent, Reading, Text};
 use differential::report::Tally;
-use differential::widening::{first_unlisted, Widenings};
+use differential::widening::{first_unlisted, run, Widenings};
 use generate::save::{Record, Save};
 use generate::widening::{widening, Insertion, Widening};
 use model::Model;
@@ -295,6 +295,33 @@ fn each_impostor_is_found() {
         let label = found.expect("a difference").0;
         assert_eq!(label, format!("widening, library: {by}"), "{fault:?}");
     }
+}
+
+/// Counts one prototype too many.
+struct OneMore(Model);
+
+impl Implementation for OneMore {
+    fn answer(&mut self, call: Call<'_>, lent: Lent<'_>) -> Answer {
+        let mut answer = self.0.answer(call, lent);
+        if let Answer::Reading(reading) = &mut answer {
+            reading.prototypes += 1;
+        }
+        answer
+    }
+}
+
+#[test]
+fn a_run_says_what_it_found() {
+    let mut asked = Widenings::default();
+    let (report, differences) = run(&mut asked, 1, 0, 20);
+    assert_eq!(differences, 0);
+    assert!(report.starts_with("lists       20 ("), "{report}");
+    asked.library = Some(Box::new(OneMore(Model::default())));
+    let (report, differences) = run(&mut asked, 1, 0, 20);
+    assert_eq!(differences, 20);
+    let first = "difference: widening, library: reading\n  list 0: ";
+    assert!(report.starts_with(first), "{report}");
+    assert!(report.ends_with("differences 20\n"), "{report}");
 }
 
 #[test]

@@ -102,6 +102,7 @@ pub fn run(asked: &mut Widenings, seed: u64, first: u64, count: u64) -> (String,
             break;
         }
     }
+    watch::done();
     report += &counts.summary(&tally);
     (report, tally.differences)
 }
