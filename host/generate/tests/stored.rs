@@ -73,8 +73,8 @@ fn break_each_word_once() {
         let those = stored.iter().filter(|list| list.is_allowed == is_allowed);
         those.map(|list| &list.label).collect::<BTreeSet<_>>()
     };
-    assert_eq!((labels(true).len(), labels(false).len()), (200, 65));
-    assert_eq!(stored.len(), 265);
+    assert_eq!((labels(true).len(), labels(false).len()), (200, 66));
+    assert_eq!(stored.len(), 266);
 }
 
 #[test]

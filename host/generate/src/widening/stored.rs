@@ -1,7 +1,7 @@
 //! The lists that are stored for the definitions: such as 01 allows, and such as break one of its
 //! words.
 
-use super::broken::{broken, BREAKS};
+use super::broken::breaks;
 use super::written::{Stored, Written};
 use super::{Insertion, Sizes, Widening};
 use crate::Random;
@@ -59,16 +59,16 @@ pub fn allowed_lists(seed: u64, count: usize) -> Vec<Stored> {
     lists
 }
 
-/// Lists that break one word of 01: with their last insertion, one for each entry of the table of
-/// breaks, and one with their order.
+/// Lists that break one word of 01: with their last insertion, one for each of the breaks,
+/// and one with their order.
 pub fn broken_lists(seed: u64) -> Vec<Stored> {
     let mut lists = Vec::new();
-    for (number, (label, ..)) in BREAKS.iter().enumerate() {
+    for (number, (label, make)) in breaks().iter().enumerate() {
         let found = (0..).find_map(|index| {
             let mut random = Random::new(seed + number as u64, index);
             let mut made = Widening::new(&mut random, Sizes::SMALL);
             made.list.truncate(2);
-            let last = broken(number, &mut random, &made)?;
+            let last = make(&mut random, &made.new_save(), &made)?;
             let list = made.written().into_iter().chain([last]).collect();
             stored(&made, label.to_string(), list, false)
         });
