@@ -164,17 +164,24 @@ impl Asked<'_, '_> {
         self.same("reading", String::new, answer, expected)
     }
 
-    /// The text, which has exact room, so that nothing is left over.
+    /// The text, which is the same with room to spare and with exact room.
     fn text(&mut self, save: &Save) -> Result<Vec<u8>, Difference> {
-        let (file, words) = (save.bytes(), words(save));
-        let needed = self.side.text(&file, words, 0)?;
+        let needed = self.side.text(&save.bytes(), words(save), 0)?;
         let asked = || "needed length".to_string();
         self.same("text", asked, needed.number, 11)?;
         let room = needed.length as usize;
-        let answer = self.side.text(&file, words, room)?;
+        let spare = self.text_in(save, room, room + 9)?;
+        let exact = self.text_in(save, room, room)?;
+        let asked = || "with exact room".to_string();
+        self.same("text", asked, Shown(&exact), Shown(&spare))?;
+        Ok(exact)
+    }
+
+    fn text_in(&mut self, save: &Save, length: usize, room: usize) -> Result<Vec<u8>, Difference> {
+        let answer = self.side.text(&save.bytes(), words(save), room)?;
         let found = (answer.number, answer.length);
-        let asked = || "with room".to_string();
-        self.same("text", asked, found, (0, needed.length))?;
+        let asked = || format!("with {room} bytes");
+        self.same("text", asked, found, (0, length as u64))?;
         Ok(self.side.written(answer).to_vec())
     }
 
@@ -193,6 +200,21 @@ impl Asked<'_, '_> {
             let asked = || format!("old block {}, {call:?}", found.block);
             let expected = Some((found.type_id, &found.bytes[..]));
             self.same("a field after", asked, part, expected)?;
+        }
+        self.found_or_absent(new)
+    }
+
+    /// No field call is refused for the save.
+    fn found_or_absent(&mut self, save: &Save) -> Check {
+        let file = save.bytes();
+        for block in 0..=save.blocks().count() as u64 {
+            for name in names(save) {
+                let call = Call::FieldOf { block, name };
+                let number = self.side.ask(call, &file, words(save))?.number();
+                let asked = || format!("{call:?} gives {number}");
+                let is_so = matches!(number, 0 | 13);
+                self.same("found or absent", asked, is_so, true)?;
+            }
         }
         Ok(())
     }

@@ -21,6 +21,7 @@ enum Fault {
     DropsALine,
     InsertedFieldsLast,
     InsertedBlocksLast,
+    SevenForInsertedNames,
     SevenAtTheBlock,
     SevenAtTheLastValue,
     SevenWithoutABlock,
@@ -31,7 +32,7 @@ enum Fault {
 }
 
 /// Each with the check that finds it out first.
-const FAULTS: [(Fault, &str); 17] = [
+const FAULTS: [(Fault, &str); 18] = [
     (Fault::GuessesLength, "a field after"),
     (Fault::OldNumbers, "a field after"),
     (Fault::OldPositions, "a field after"),
@@ -42,6 +43,7 @@ const FAULTS: [(Fault, &str); 17] = [
     (Fault::DropsALine, "the old text"),
     (Fault::InsertedFieldsLast, "an inserted part"),
     (Fault::InsertedBlocksLast, "an inserted part"),
+    (Fault::SevenForInsertedNames, "found or absent"),
     (Fault::SevenAtTheBlock, "reading of an unlisted type"),
     (Fault::SevenAtTheLastValue, "reading of an unlisted type"),
     (Fault::SevenWithoutABlock, "reading"),
@@ -164,6 +166,7 @@ impl Impostor {
                 ..old_at(position)
             },
             Fault::OldPositions => old_at(old_position),
+            Fault::SevenForInsertedNames if of.fields[position].inserted => Field::refused(7, 8),
             Fault::OldTypes => Field {
                 type_id: of.fields[old_position].type_id,
                 ..answer
