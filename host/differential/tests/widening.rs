@@ -85,20 +85,24 @@ impl Implementation for Impostor {
     fn answer(&mut self, call: Call<'_>, lent: Lent<'_>) -> Answer {
         let Lent { file, table, out } = lent;
         let before = out.to_vec();
+        let is_new = self.new.bytes() == file && self.old.bytes() != file;
+        let asked = if is_new {
+            self.changed_call(call)
+        } else {
+            call
+        };
         let whole = Lent {
             file,
-            table: &mut *table,
+            table,
             out: &mut *out,
         };
-        let answer = self.model.answer(call, whole);
+        let answer = self.model.answer(asked, whole);
         let unlisted = self.newest.clone();
         if let Some((last, save)) = unlisted.filter(|(_, save)| save.bytes() == file) {
             return self.unlisted(answer, call, &last, &save);
         }
-        if self.new.bytes() != file || self.old.bytes() == file {
-            return answer;
-        }
         match (answer, call) {
+            (answer, _) if !is_new => answer,
             (Answer::Reading(answer), _) => Answer::Reading(self.reading(answer)),
             (Answer::Field(answer), Call::FieldOf { block, name }) => {
                 Answer::Field(self.field(answer, block, name))
@@ -136,15 +140,20 @@ impl Impostor {
         }
     }
 
-    fn field(&mut self, answer: Field, block: u64, name: &[u8]) -> Field {
-        let number = match self.fault {
-            Fault::OldNumbers => self.new.new_numbers().get(block as usize).copied(),
-            _ => Some(block),
-        };
-        let Some(number) = number else {
-            return Field::refused(13, 0);
-        };
-        let Some(there) = self.new.blocks().nth(number as usize) else {
+    /// What the model is asked in place of a call about the new save.
+    fn changed_call<'a>(&self, call: Call<'a>) -> Call<'a> {
+        match call {
+            Call::FieldOf { block, name } if self.fault == Fault::OldNumbers => {
+                let numbers = self.new.new_numbers();
+                let block = numbers.get(block as usize).map_or(u64::MAX, |new| *new);
+                Call::FieldOf { block, name }
+            }
+            call => call,
+        }
+    }
+
+    fn field(&self, answer: Field, block: u64, name: &[u8]) -> Field {
+        let Some(there) = self.new.blocks().nth(block as usize) else {
             return answer;
         };
         let of = self.new.of(there);
@@ -153,33 +162,25 @@ impl Impostor {
         };
         let in_front = &of.fields[..position];
         let old_position = in_front.iter().filter(|field| !field.inserted).count();
-        let at = |position: usize| self.start(number, position);
-        let old_at = |position: usize| Field {
-            part_offset: at(position),
-            part_len: there.values[position].bytes.len() as u64,
-            ..answer
-        };
         match self.fault {
-            Fault::OldNumbers => Field {
-                type_id: of.fields[position].type_id,
-                number: 0,
-                ..old_at(position)
+            Fault::OldPositions => Field {
+                part_offset: self.start(block, old_position),
+                part_len: there.values[old_position].bytes.len() as u64,
+                ..answer
             },
-            Fault::OldPositions => old_at(old_position),
-            Fault::SevenForInsertedNames if of.fields[position].inserted => Field::refused(7, 8),
             Fault::OldTypes => Field {
                 type_id: of.fields[old_position].type_id,
                 ..answer
             },
             Fault::GuessesLength => {
-                let values = there.values[..position].iter();
-                let inserted = values.filter(|value| value.inserted);
+                let inserted = there.values[..position].iter().filter(|v| v.inserted);
                 let wrong: i64 = inserted.map(|value| 4 - value.bytes.len() as i64).sum();
                 Field {
                     part_offset: answer.part_offset.wrapping_add_signed(wrong),
                     ..answer
                 }
             }
+            Fault::SevenForInsertedNames if of.fields[position].inserted => Field::refused(7, 8),
             _ => answer,
         }
     }
@@ -211,13 +212,7 @@ impl Impostor {
     }
 
     /// The save with the last definition.
-    fn unlisted(
-        &mut self,
-        answer: Answer,
-        call: Call<'_>,
-        last: &Insertion,
-        save: &Save,
-    ) -> Answer {
+    fn unlisted(&self, answer: Answer, call: Call<'_>, last: &Insertion, save: &Save) -> Answer {
         let Insertion::Field { id, position, .. } = last else {
             unreachable!("the last one is a definition");
         };

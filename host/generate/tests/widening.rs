@@ -1,6 +1,6 @@
 //! The lists keep to 01's words, and leave out nothing that these allow.
 
-use generate::save::{Record, Save};
+use generate::save::{Block, Record, Save};
 use generate::widening::{widening, Insertion};
 use generate::LISTED;
 use std::collections::BTreeSet;
@@ -61,78 +61,78 @@ fn define_no_id_twice() {
     }
 }
 
-/// What was met, by a word for it.
+/// The words of the conditions that hold.
+fn those(conditions: &[(bool, &str)]) -> Vec<String> {
+    let held = conditions.iter().filter(|(holds, _)| *holds);
+    held.map(|(_, word)| word.to_string()).collect()
+}
+
+/// What an insertion shows of what 01 allows.
+fn words(insertion: &Insertion, save: &Save) -> Vec<String> {
+    let end = save.records.len();
+    match insertion {
+        Insertion::Field {
+            id,
+            position,
+            definition,
+            values,
+        } => {
+            let fields = save.prototype(*id).unwrap().fields.len();
+            let is_unused = values.is_empty();
+            let kind = match (LISTED.contains(&definition.type_id), is_unused) {
+                (true, true) => format!("(i) of type {:#x}, unused", definition.type_id),
+                (true, false) => format!("(i) of type {:#x}, carried", definition.type_id),
+                (false, true) => "unlisted, unused".to_string(),
+                (false, false) => "unlisted, carried".to_string(),
+            };
+            let mut words = those(&[
+                (*position == 0, "(i) in front"),
+                (0 < *position && *position < fields, "(i) between"),
+                (*position == fields, "(i) behind"),
+                (*id == 0, "(i) into the prototype 0"),
+                (
+                    values.iter().any(|value| value.1.is_empty()),
+                    "without bytes",
+                ),
+            ]);
+            words.push(kind);
+            words
+        }
+        Insertion::Prototype { record, prototype } => those(&[
+            (*record == 0, "(ii) in front of the first record"),
+            (*record == end, "(ii) in front of the end record"),
+            (prototype.id == 0, "(ii) under 0"),
+        ]),
+        Insertion::Block { record, block } => block_words(*record, block, save),
+    }
+}
+
+fn block_words(record: usize, block: &Block, save: &Save) -> Vec<String> {
+    let of = save.of(block);
+    let behind = save.records.get(record);
+    let right_behind = save.defined_at(of.id) == Some(record - 1);
+    let mut words = those(&[
+        (of.inserted, "(iii) of an inserted prototype"),
+        (!of.inserted, "(iii) of an old prototype"),
+        (behind.is_none(), "(iii) in front of the end record"),
+        (right_behind, "(iii) right behind its prototype"),
+        (
+            matches!(behind, Some(Record::Block(_))),
+            "(iii) in front of a block",
+        ),
+    ]);
+    let types = of.fields.iter().map(|field| field.type_id);
+    words.extend(types.map(|type_id| format!("(iii) of type {type_id:#x}")));
+    words
+}
+
+/// All words that the lists show.
 fn met() -> BTreeSet<String> {
     let mut met = BTreeSet::new();
-    each(|insertion, save, is_last| {
-        let mut note = |word: &str| met.insert(word.to_string());
-        let end = save.records.len();
-        match insertion {
-            Insertion::Field {
-                id,
-                position,
-                definition,
-                values,
-            } if !is_last => {
-                let fields = save.prototype(*id).unwrap().fields.len();
-                let carried = if values.is_empty() {
-                    "unused"
-                } else {
-                    "carried"
-                };
-                note(&format!("(i) of type {:#x}, {carried}", definition.type_id));
-                note(match *position {
-                    0 => "(i) in front",
-                    p if p == fields => "(i) behind",
-                    _ => "(i) between",
-                });
-                if *id == 0 {
-                    note("(i) into the prototype 0");
-                }
-            }
-            Insertion::Field { values, .. } if values.is_empty() => {
-                note("unlisted, unused");
-            }
-            Insertion::Field { values, .. } => {
-                note("unlisted, carried");
-                if values.iter().any(|(_, bytes)| bytes.is_empty()) {
-                    note("unlisted, without bytes");
-                }
-            }
-            Insertion::Prototype { record, prototype } => {
-                if *record == 0 {
-                    note("(ii) in front of the first record");
-                }
-                if *record == end {
-                    note("(ii) in front of the end record");
-                }
-                if prototype.id == 0 {
-                    note("(ii) under 0");
-                }
-            }
-            Insertion::Block { record, block } => {
-                let of = save.prototype(block.prototype).unwrap();
-                for field in &of.fields {
-                    note(&format!("(iii) of type {:#x}", field.type_id));
-                }
-                note(if of.inserted {
-                    "(iii) of an inserted prototype"
-                } else {
-                    "(iii) of an old prototype"
-                });
-                if *record == end {
-                    note("(iii) in front of the end record");
-                }
-                if save.defined_at(block.prototype) == Some(record - 1) {
-                    note("(iii) right behind its prototype");
-                }
-                if matches!(save.records.get(*record), Some(Record::Block(_))) {
-                    note("(iii) in front of a block");
-                }
-            }
-        }
+    each(|insertion, save, _| {
+        met.extend(words(insertion, save));
         if insertion.is_nested(save) {
-            note("into an inserted part");
+            met.insert("into an inserted part".to_string());
         }
     });
     met
@@ -158,7 +158,7 @@ fn leave_nothing_out() {
         "(i) into the prototype 0",
         "unlisted, unused",
         "unlisted, carried",
-        "unlisted, without bytes",
+        "without bytes",
         "(ii) in front of the first record",
         "(ii) in front of the end record",
         "(ii) under 0",
