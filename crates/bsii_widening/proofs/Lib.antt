@@ -20,3 +20,4 @@ pub mod Example
 pub mod EveryType
 pub mod Premises
 pub mod Splices
+pub mod Conclusions
