@@ -1,10 +1,9 @@
 -- What follows from demand 3, from the statement alone: 01's sentences with every word open, so that a claim that says less is not enough for them.
-use mathlib.Core.Path.{_≡_, ap, _∙_}
+use mathlib.Core.Path.{_≡_, _∙_}
 use Prim.Native.Nat.{ℕ, _≤_}
 use mathlib.Core.Option.{Option, none, some}
 use mathlib.Core.List.{List, _++_}
 use lib.ListN.{length, take, drop}
-use lib.Dec.{leb, le→leb}
 use Rattle.bsii_format.specs.Replies.{Fault, gives, refuses, refusal}
 use Rattle.bsii_format.specs.Reader.{Consumed}
 use Rattle.bsii_format.specs.Types.{shapeOf}
@@ -13,15 +12,11 @@ use Rattle.bsii_format.specs.Blocks.{DataValue}
 use Rattle.bsii_format.specs.File.{BsiiFile, fileBytes, distinctIds, prototypesOf, lengthLimit}
 use Rattle.bsii_format.specs.Text.{valueText}
 use Rattle.bsii_format.specs.Calls.{blocksOf, readingOf, readingCall, FieldAnswer, fieldCall, textAnswer, textCall}
-use Rattle.bsii_format.proofs.Readers.{is-true}
+use Rattle.bsii_format.proofs.ReplyLaws.{text-fits}
 use Rattle.bsii_widening.specs.Marks.{all, olds, newRecords, markRecords}
 use Rattle.bsii_widening.specs.Insertions.{Insertion, aField, insert, DefinitionAllowed, AllAllowed}
 use Rattle.bsii_widening.specs.Parts.{concat, textParts, renumber}
 use Rattle.bsii_widening.specs.Claim.{OldSave, widened, newSave, newFile, Room, StillConverts, firstCarried, AfterLast, Demand3}
-
-fitting : (out t : List ℕ) → length t ≤ length out → textAnswer out (gives t) ≡ record { reply = gives (length t); needed = 0; output = t ++ drop (length t) out }
-unfolding textAnswer
-fitting out t h = rw (is-true (leb (length t) (length out)) (le→leb (length t) (length out) h))
 
 module _ (claim : Demand3) {words : ℕ} {s out : List ℕ} {f : BsiiFile} {at : ℕ} {r : List ℕ} {size : ℕ} (o : OldSave words s out f at r size) (l : List Insertion) (a : AllAllowed l (markRecords (f .records))) (words′ : ℕ) where
   module _ (m : Room lengthLimit words′ f r (widened f l)) where
@@ -38,7 +33,7 @@ module _ (claim : Demand3) {words : ℕ} {s out : List ℕ} {f : BsiiFile} {at :
     -- writes all parts, and leaves the bytes behind them
     pub writes : (out′ : List ℕ) → length allParts ≤ length out′
         → textCall words′ (newFile f r (widened f l)) out′ ≡ record { reply = gives (length allParts); needed = 0; output = allParts ++ drop (length allParts) out′ }
-    writes out′ k = still .text out′ ∙ fitting out′ allParts k
+    writes out′ k = still .text out′ ∙ text-fits out′ allParts k
 
     pub left : concat (olds (textParts valueText (widened f l))) ≡ take size (textCall words s out .output)
     left = still .leftOut
@@ -55,8 +50,8 @@ module _ (claim : Demand3) {words : ℕ} {s out : List ℕ} {f : BsiiFile} {at :
     unfolding readingOf
     reads = still .reading
 
-    pub absent-at-most : (k : ℕ) (name : List ℕ) (x : Fault) → fieldCall words′ (newFile f r (widened f l)) k name ≡ refuses x → x .number ≡ 13
-    absent-at-most k name x e = ap (λ (z : Fault). z .number) (still .field k name x e)
+    pub absent-at-most : (k : ℕ) (name : List ℕ) (x : Fault) → fieldCall words′ (newFile f r (widened f l)) k name ≡ refuses x → fieldCall words′ (newFile f r (widened f l)) k name ≡ refusal 13 0
+    absent-at-most = still .field
 
   -- ---- the last definition
 

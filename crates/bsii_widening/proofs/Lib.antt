@@ -1,4 +1,4 @@
--- The proof of demand 3.
+-- The proof of demand 3 (Demand3.antt, from the core and its instances), worked lists, and laws of its premises, its claim and of what an insertion is.
 pub mod Marks
 pub mod Says
 pub mod Environments

@@ -1,4 +1,5 @@
--- What the field call found in the old save it finds in the new one, at the block's new number, with the same type and bytes.
+-- What the field call found in the old save it finds in the new one, at the block's new number, with the same type and bytes: no inserted definition has
+-- the name that was found, so the first one so named is the old one, and its value stands at its position.
 use mathlib.Core.Path.{_≡_, refl, sym, ap, _∙_}
 use Prim.Native.Nat.{ℕ, zero, suc, _+_}
 use mathlib.Core.Bool.{Bool, true, false, cond, not, _||_}

@@ -1,4 +1,5 @@
--- "Defines no prototype id twice" holds along the whole list of insertions, and so a definition in force is the last one of its id.
+-- "Defines no prototype id twice" holds along the whole list of insertions, since (ii) takes a new id and (i) and (iii) define nothing; and so a
+-- definition in force is the last one of its id.
 use mathlib.Core.Path.{_≡_, refl, sym, ap, _∙_, subst}
 use Prim.Native.Nat.{ℕ, zero, suc}
 use mathlib.Core.Bool.{Bool, true, false, _||_, not, cond}
