@@ -24,6 +24,7 @@ use Rattle.bsii_widening.proofs.Marks.{new-markRecords, old-widened}
 use Rattle.bsii_widening.proofs.Says.{HasText}
 use Rattle.bsii_widening.proofs.Environments.{some-inj, new-last, new-known, widens-nil}
 use Rattle.bsii_widening.proofs.Invariant.{Sound, inv-good, good-field, sound-all}
+use Rattle.bsii_widening.proofs.Once.{once-all}
 use Rattle.bsii_widening.proofs.Start.{text-sound, silent, silent-has, read-sound}
 use Rattle.bsii_widening.proofs.Unlisted.{file-stops}
 
@@ -49,6 +50,10 @@ module _ {words : ℕ} {s : List ℕ} {f : BsiiFile} {at : ℕ} {r : List ℕ} (
   module _ (l : List Insertion) (allowed : AllAllowed l (markRecords (f .records))) where
     silent-sound : Sound silent (insertAll l (markRecords (f .records)))
     silent-sound = sound-all silent silent-has l (markRecords (f .records)) allowed once (read-sound (f .records) (taken .good .records) (o .once))
+
+    pub once-widened : NoIdTwice (newRecords (widened f l))
+    unfolding widened
+    once-widened = once-all l (markRecords (f .records)) allowed once
 
     -- for the text of a call that answered
     pub widened-sound : (text : ValuePrototype → Value → Option (List ℕ)) → HasText text → {t : List ℕ} → fileText text f ≡ gives t → Sound text (widened f l)

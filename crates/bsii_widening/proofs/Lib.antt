@@ -11,6 +11,7 @@ pub mod Lookups
 pub mod Unlisted
 pub mod Core
 pub mod Survives
+pub mod Counts
 pub mod Exactly
 pub mod Demand3
 pub mod Equal
