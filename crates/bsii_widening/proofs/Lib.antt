@@ -16,6 +16,7 @@ pub mod Exactly
 pub mod Demand3
 pub mod Equal
 pub mod Decided
+pub mod Written
 pub mod Computes
 pub mod Example
 pub mod EveryType
