@@ -96,11 +96,6 @@ unfolding atIndex
 index-suc x l none = refl
 index-suc x l (some i) = refl
 
-index-nil : {A : Type 0} (o : Option ℕ) → _≡_ {A = Option A} (atIndex [] o) none
-unfolding atIndex
-index-nil none = refl
-index-nil (some i) = refl
-
 find-cons : (name : List ℕ) (f : Consumed ValuePrototype) (fs : List (Consumed ValuePrototype)) (v : DataValue) (l : List DataValue)
     → atIndex (v ∷ l) (fieldIndex name (f ∷ fs)) ≡ cond (same name (f .value .name)) (some v) (atIndex l (fieldIndex name fs))
 unfolding fieldIndex
