@@ -1,6 +1,6 @@
 -- What every claim of demand 3 starts from: after an allowed list the new file is read as the marked records say, and after one more definition of an
 -- unlisted type that a block carries it is not. A save that is read is sound for the silent text, each insertion keeps that, and what is sound is read.
-use mathlib.Core.Path.{_≡_, refl, sym, ap, _∙_, subst}
+use mathlib.Core.Path.{_≡_, refl, sym, _∙_, subst}
 use Prim.Native.Nat.{ℕ, _/_, _≤_}
 use mathlib.Core.Option.{Option, none, some}
 use mathlib.Core.List.{List, []}
@@ -10,28 +10,23 @@ use Rattle.bsii_format.specs.Replies.{gives, unlistedType}
 use Rattle.bsii_format.specs.Types.{shapeOf}
 use Rattle.bsii_format.specs.Values.{Value}
 use Rattle.bsii_format.specs.Prototypes.{ValuePrototype, Prototype}
-use Rattle.bsii_format.specs.Blocks.{DataValue, getPrototype}
+use Rattle.bsii_format.specs.Blocks.{DataValue}
 use Rattle.bsii_format.specs.File.{BsiiFile, prototypesOf, fileBytes, lengthLimit, parse}
 use Rattle.bsii_format.specs.BlockText.{fileText}
 use Rattle.bsii_format.proofs.ReplyLaws.{of-fault}
 use Rattle.bsii_format.proofs.File.{FileTaken, file-good, parse-ok, parse-short, parse-fits}
-use Rattle.bsii_widening.specs.Marks.{Mark, unmark, all, MarkedPrototype, MarkedRecords, newRecords, oldRecords, markRecords}
+use Rattle.bsii_widening.specs.Marks.{MarkedRecords, newRecords, oldRecords, markRecords}
 use Rattle.bsii_widening.specs.Insertions.{Insertion, aField, insert, insertAll, DefinitionAllowed, AllAllowed, NoIdTwice}
-use Rattle.bsii_widening.specs.Parts.{markedPrototypes, getMarked}
+use Rattle.bsii_widening.specs.Parts.{markedPrototypes}
 use Rattle.bsii_widening.specs.Claim.{widened, newSave, newFile, Room, firstCarried}
 use Rattle.bsii_widening.specs.Observers.{Observer, Old, Stops}
 use Rattle.bsii_widening.proofs.Marks.{new-markRecords, old-widened}
 use Rattle.bsii_widening.proofs.Says.{HasText}
-use Rattle.bsii_widening.proofs.Environments.{some-inj, new-last, new-known, widens-nil}
-use Rattle.bsii_widening.proofs.Invariant.{Sound, inv-good, good-field, sound-all}
+use Rattle.bsii_widening.proofs.Environments.{widens-nil}
+use Rattle.bsii_widening.proofs.Invariant.{Sound, inv-good, good-field, its-definition, sound-all}
+use Rattle.bsii_widening.proofs.Once.{once-all}
 use Rattle.bsii_widening.proofs.Start.{text-sound, silent, silent-has, read-sound}
 use Rattle.bsii_widening.proofs.Unlisted.{file-stops}
-
--- the position is one of the last definition's, or its end
-position : (n p : ℕ) (d : Consumed ValuePrototype) (M : MarkedRecords) → DefinitionAllowed n p d M → (m : Mark MarkedPrototype) → getMarked n (markedPrototypes M []) ≡ some m
-    → p ≤ length (all (unmark m .fields))
-position n p d M a m e =
-    subst (λ (q : Prototype). p ≤ length (q .fields)) (some-inj (sym (a .defined) ∙ ap (getPrototype n) (new-last M) ∙ new-known n (markedPrototypes M []) e)) (a .position)
 
 -- the new file is read, its records are in order, and without the inserted parts they are the old ones
 pub record Widened (words : ℕ) (f : BsiiFile) (r : List ℕ) (M : MarkedRecords) : Type 0 where
@@ -49,6 +44,10 @@ module _ {words : ℕ} {s : List ℕ} {f : BsiiFile} {at : ℕ} {r : List ℕ} (
   module _ (l : List Insertion) (allowed : AllAllowed l (markRecords (f .records))) where
     silent-sound : Sound silent (insertAll l (markRecords (f .records)))
     silent-sound = sound-all silent silent-has l (markRecords (f .records)) allowed once (read-sound (f .records) (taken .good .records) (o .once))
+
+    pub once-widened : NoIdTwice (newRecords (widened f l))
+    unfolding widened
+    once-widened = once-all l (markRecords (f .records)) allowed once
 
     -- for the text of a call that answered
     pub widened-sound : (text : ValuePrototype → Value → Option (List ℕ)) → HasText text → {t : List ℕ} → fileText text f ≡ gives t → Sound text (widened f l)
@@ -72,7 +71,7 @@ module _ {words : ℕ} {s : List ℕ} {f : BsiiFile} {at : ℕ} {r : List ℕ} (
     stopped words′ n p d v a u m x e =
         let M = insertAll l (markRecords (f .records)) in
         parse-short words′ (newFile f r (insert (aField n p d v) M)) (m .file)
-        ∙ file-stops silent (words′ / 3) n p d v (markedPrototypes M []) (good-field d (a .wellFormed)) u (position n p d M a)
+        ∙ file-stops silent (words′ / 3) n p d v (markedPrototypes M []) (good-field d (a .wellFormed)) u (λ k e. subst (λ (q : Prototype). p ≤ length (q .fields)) (its-definition a e) (a .position))
         (newSave f (insert (aField n p d v) M)) r x {M = M} (taken .good .header) refl (widens-nil n p d) silent-sound (m .table) e
 
 -- every call that reads the whole file first, at once

@@ -1,20 +1,17 @@
 -- Demand 3: the claim of specs/Claim.antt, put together. A last definition that no block carries is allowed, so it makes the list longer by one; one that
 -- a block carries stops every call.
 use mathlib.Core.Path.{_≡_, refl, sym, ap, _∙_, subst}
-use Prim.Native.Nat.{ℕ, _≤_}
-use mathlib.Core.Bool.{Bool, true, false, cond}
+use Prim.Native.Nat.{ℕ}
 use mathlib.Core.Option.{Option, none, some}
 use mathlib.Core.List.{List, [], _∷_, _++_}
 use lib.ListN.{length, take, drop}
 use lib.Seq.{take-append-seam}
-use lib.Dec.{leb, le→leb}
-use Rattle.bsii_format.specs.Replies.{Fault, Reply, gives, refuses, refusal, outputShort, absent, unlistedType}
+use Rattle.bsii_format.specs.Replies.{Fault, Reply, gives, refuses, refusal, absent, unlistedType}
 use Rattle.bsii_format.specs.File.{BsiiFile, fileBytes, lengthLimit, parse}
 use Rattle.bsii_format.specs.Text.{valueText}
 use Rattle.bsii_format.specs.BlockText.{orRefuse, fileText}
 use Rattle.bsii_format.specs.Calls.{ofFile, orAbsent, readingOf, readingCall, fieldOf, fieldCall, textOf, TextAnswer, textAnswer, textCall}
-use Rattle.bsii_format.proofs.Readers.{is-true}
-use Rattle.bsii_format.proofs.ReplyLaws.{gives-inj, refuses-inj, refuses≢gives, of-read}
+use Rattle.bsii_format.proofs.ReplyLaws.{gives-inj, refuses≢gives, of-read, text-cases, text-fits}
 use Rattle.bsii_widening.specs.Marks.{MarkedRecords, newRecords, markRecords}
 use Rattle.bsii_widening.specs.Insertions.{Insertion, aField, insert, insertAll, Allowed, AllAllowed}
 use Rattle.bsii_widening.specs.Claim.{OldSave, widened, newSave, newFile, newText, Room, StillConverts, firstCarried, Refused, LastUnlisted, Demand3}
@@ -36,26 +33,20 @@ record Converted (out : List ℕ) (q : Reply (List ℕ)) (size : ℕ) : Type 0 w
 
 converted : (out : List ℕ) (q : Reply (List ℕ)) (size : ℕ) → textAnswer out q .reply ≡ gives size → Converted out q size
 unfolding textAnswer
-converted out (gives t) size e = record { text = t; is = refl; front = go (leb (length t) (length out)) e }
-  where
-    fitting : Bool → TextAnswer
-    fitting b = cond b (record { reply = gives (length t); needed = 0; output = t ++ drop (length t) out }) (record { reply = refusal outputShort 0; needed = length t; output = out })
-
-    go : (b : Bool) → fitting b .reply ≡ gives size → take size (fitting b .output) ≡ t
-    go true e = ap (λ n. take n (t ++ drop (length t) out)) (sym (gives-inj e)) ∙ take-append-seam t (drop (length t) out)
-    go false e = refuses≢gives e
+converted out (gives t) size e = record {
+  text = t;
+  is = refl;
+  front = text-cases (λ a. a .reply ≡ gives size → take size (a .output) ≡ t) out t
+      (λ e. ap (λ n. take n (t ++ drop (length t) out)) (sym (gives-inj e)) ∙ take-append-seam t (drop (length t) out)) (λ e. refuses≢gives e) e;
+}
 converted out (refuses f) size e = refuses≢gives e
-
-fits-output : (out t : List ℕ) → length t ≤ length out → textAnswer out (gives t) .reply ≡ gives (length t)
-unfolding textAnswer
-fits-output out t h = rw (is-true (leb (length t) (length out)) (le→leb (length t) (length out) h))
 
 -- ---- after a list
 
-absent-only : {A : Type 0} (o : Option A) {x : Fault} → orRefuse absent 0 o ≡ refuses x → x ≡ record { number = absent; offset = 0 }
+absent-only : {A : Type 0} (o : Option A) {x : Fault} (q : Reply A) → q ≡ orRefuse absent 0 o → q ≡ refuses x → q ≡ refusal absent 0
 unfolding orRefuse
-absent-only none e = sym (refuses-inj e)
-absent-only (some a) e = refuses≢gives (sym e)
+absent-only none q e z = e
+absent-only (some a) q e z = refuses≢gives (sym z ∙ e)
 
 module _ {words : ℕ} {s out : List ℕ} {f : BsiiFile} {at : ℕ} {r : List ℕ} {size : ℕ} (o : OldSave words s out f at r size) where
   old : Old words s f at r
@@ -74,7 +65,7 @@ module _ {words : ℕ} {s out : List ℕ} {f : BsiiFile} {at : ℕ} {r : List �
       let t = text-survives valueText value-says words s f at r old (had .text) (had .is) l a tt words′ m in
       let text : (out′ : List ℕ) → textCall words′ (newFile f r M) out′ ≡ textAnswer out′ (gives (newText valueText M)) = λ out′. ap (textAnswer out′) (t .1 ∙ ap gives (t .2 .0)) in
       record {
-        converts = λ out′ k. ap (λ (z : TextAnswer). z .reply) (text out′) ∙ fits-output out′ (newText valueText M) k;
+        converts = λ out′ k. ap (λ (z : TextAnswer). z .reply) (text out′ ∙ text-fits out′ (newText valueText M) k);
         text = text;
         found = λ k name a′ e.
             let b = field-survives k name words s f at r old a′ (sym (of-read (λ f at. orAbsent (fieldOf k name f)) (parse words s) (o .reads)) ∙ e) l a tt words′ m in
@@ -82,7 +73,7 @@ module _ {words : ℕ} {s out : List ℕ} {f : BsiiFile} {at : ℕ} {r : List �
         leftOut = sym (t .2 .1) ∙ sym (had .front) ∙ ap (λ z. take size (textAnswer out z .output)) (sym (of-read (λ f at. fileText valueText f) (parse words s) (o .reads)));
         anchored = widens old l a m .before;
         reading = of-read (λ f at. gives (readingOf f at)) (parse words′ (newFile f r M)) read;
-        field = λ k name x e. absent-only (fieldOf k name (newSave f M)) (sym (of-read (λ f at. orAbsent (fieldOf k name f)) (parse words′ (newFile f r M)) read) ∙ e);
+        field = λ k name x e. absent-only (fieldOf k name (newSave f M)) (fieldCall words′ (newFile f r M) k name) (of-read (λ f at. orAbsent (fieldOf k name f)) (parse words′ (newFile f r M)) read) e;
       }
 
 -- ---- after the last definition

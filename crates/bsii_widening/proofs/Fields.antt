@@ -1,4 +1,4 @@
--- Field definitions and values in step: what an insertion at one position of both keeps.
+-- Field definitions and values in step: what an insertion at one position of both keeps. By induction on the position, which goes down both lists at once.
 use mathlib.Core.Path.{_≡_, refl, ap, subst}
 use Prim.Native.Nat.{ℕ, zero, suc}
 use native.Mathlib.Omega.{arith}

@@ -21,7 +21,7 @@ use Rattle.bsii_widening.specs.Insertions.{insertAt, insertIf, intoProto
 use Rattle.bsii_widening.specs.Parts.{markedPrototypes, getMarked}
 use Rattle.bsii_widening.proofs.Marks.{all-insert, all-insertIf, all-asOld, new-markPrototype}
 use Rattle.bsii_widening.proofs.Says.{HasText}
-use Rattle.bsii_widening.proofs.Environments.{none≢some, map-none, other-id, this-id, newEnv, new-last, new-find, new-known, new-back, Agree, agree-refl, agree-cons, agree-new, agree-insert, block-insert, Widens, widens-nil, widens-cons, widens-defines, into-all, own-known}
+use Rattle.bsii_widening.proofs.Environments.{none≢some, some-inj, map-none, other-id, this-id, newEnv, new-last, new-find, new-known, new-back, Agree, agree-refl, agree-cons, agree-new, agree-insert, block-insert, Widens, widens-nil, widens-cons, widens-defines, into-all, own-known}
 use Rattle.bsii_widening.proofs.Fields.{fields-insert, values-insert, Says, says-insert, values-say, Aligned, aligned-insert, Distinct, distinct-insert}
 use Rattle.bsii_widening.proofs.Once.{last-is-in-force, once-insert}
 
@@ -38,6 +38,11 @@ good-block env b e = record-good env 0 (recordBytes (block b)) (more (block b)) 
 
 pub good-value : (d : Consumed ValuePrototype) (v : DataValue) → WellFormed (dataValueParser (d .value .typeId)) v (v .raw) → GoodValue d v
 good-value d v e = value-good d 0 (v .raw) v (length (v .raw)) [] e .0
+
+-- the definition that a new one goes into is the marked one of its id
+pub its-definition : {n p : ℕ} {d : Consumed ValuePrototype} {M : MarkedRecords} (a : DefinitionAllowed n p d M) {m : Mark MarkedPrototype} → getMarked n (markedPrototypes M []) ≡ some m
+    → a .of ≡ newPrototype (unmark m)
+its-definition {n} {M = M} a e = some-inj (sym (a .defined) ∙ ap (getPrototype n) (new-last M) ∙ new-known n (markedPrototypes M []) e)
 
 -- ---- the invariant
 
@@ -222,13 +227,7 @@ module _ (text : ValuePrototype → Value → Option (List ℕ)) where
   -- ---- every insertion
 
   new-name : (n p : ℕ) (d : Consumed ValuePrototype) (M : MarkedRecords) → DefinitionAllowed n p d M → NewName n d (markedPrototypes M [])
-  new-name n p d M a m e =
-      let q : getPrototype n (prototypesOf (newRecords M)) ≡ some (newPrototype (unmark m)) = ap (getPrototype n) (new-last M) ∙ new-known n (markedPrototypes M []) e in
-      subst (λ (z : Option Prototype). (r : Prototype) → z ≡ some r → T (not (hasName (d .value .name) (r .fields)))) (sym (a .defined) ∙ q)
-      (λ r z. subst (λ (y : Prototype). T (not (hasName (d .value .name) (y .fields)))) (some-is z) (a .newName)) (newPrototype (unmark m)) refl
-    where
-      some-is : {x y : Prototype} → _≡_ {A = Option Prototype} (some x) (some y) → x ≡ y
-      some-is z = cc
+  new-name n p d M a m e = subst (λ (y : Prototype). T (not (hasName (d .value .name) (y .fields)))) (its-definition a e) (a .newName)
 
   pub sound-insert : HasText text → (i : Insertion) (M : MarkedRecords) → Allowed i M → NoIdTwice (newRecords M) → Sound M → Sound (insert i M)
   unfolding insert markPrototype prototypesOf

@@ -1,4 +1,5 @@
--- What the field call found in the old save it finds in the new one, at the block's new number, with the same type and bytes.
+-- What the field call found in the old save it finds in the new one, at the block's new number, with the same type and bytes: no inserted definition has
+-- the name that was found, so the first one so named is the old one, and its value stands at its position.
 use mathlib.Core.Path.{_≡_, refl, sym, ap, _∙_}
 use Prim.Native.Nat.{ℕ, zero, suc, _+_}
 use mathlib.Core.Bool.{Bool, true, false, cond, not, _||_}
@@ -94,11 +95,6 @@ index-suc : {A : Type 0} (x : A) (l : List A) (o : Option ℕ) → atIndex (x �
 unfolding atIndex
 index-suc x l none = refl
 index-suc x l (some i) = refl
-
-index-nil : {A : Type 0} (o : Option ℕ) → _≡_ {A = Option A} (atIndex [] o) none
-unfolding atIndex
-index-nil none = refl
-index-nil (some i) = refl
 
 find-cons : (name : List ℕ) (f : Consumed ValuePrototype) (fs : List (Consumed ValuePrototype)) (v : DataValue) (l : List DataValue)
     → atIndex (v ∷ l) (fieldIndex name (f ∷ fs)) ≡ cond (same name (f .value .name)) (some v) (atIndex l (fieldIndex name fs))

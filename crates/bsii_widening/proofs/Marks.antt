@@ -1,4 +1,4 @@
--- Laws of marks and of `insertAt`: what an insertion adds to all parts, and that it leaves the old ones as they were.
+-- Laws of marks and of `insertAt`: what an insertion adds to all parts, and that it leaves the old ones as they were. By induction on the list.
 use mathlib.Core.Path.{_≡_, refl, ap, ap₂, _∙_}
 use Prim.Native.Nat.{ℕ, zero, suc}
 use mathlib.Core.Bool.{Bool, true, false}

@@ -1,4 +1,5 @@
--- "Defines no prototype id twice" holds along the whole list of insertions, and so a definition in force is the last one of its id.
+-- "Defines no prototype id twice" holds along the whole list of insertions, since (ii) takes a new id and (i) and (iii) define nothing; and so a
+-- definition in force is the last one of its id.
 use mathlib.Core.Path.{_≡_, refl, sym, ap, _∙_, subst}
 use Prim.Native.Nat.{ℕ, zero, suc}
 use mathlib.Core.Bool.{Bool, true, false, _||_, not, cond}
@@ -11,7 +12,7 @@ use Rattle.bsii_format.specs.Prototypes.{ValuePrototype, Prototype}
 use Rattle.bsii_format.specs.Blocks.{DataValue, DataBlock, findBy, getPrototype}
 use Rattle.bsii_format.specs.File.{Record, prototype, block, define, defineAll, prototypesOf}
 use Rattle.bsii_widening.specs.Marks.{old, inserted, unmark, mapMark, markedPrototype, markedBlock, MarkedRecords, newRecords}
-use Rattle.bsii_widening.specs.Insertions.{insertAt, insertField, Insertion, aField, aPrototype, aBlock, insert, Allowed, definesId, NoIdTwice}
+use Rattle.bsii_widening.specs.Insertions.{insertAt, insertField, Insertion, aField, aPrototype, aBlock, insert, insertAll, Allowed, AllAllowed, definesId, NoIdTwice}
 use Rattle.bsii_widening.proofs.Marks.{new-insertPrototype, new-insertBlock}
 use Rattle.bsii_widening.proofs.Environments.{none≢some, this-id}
 
@@ -155,3 +156,8 @@ unfolding insert prototypesOf
 once-insert (aField n p d v) M a o = once-field n p d v 0 M o
 once-insert (aPrototype k p) M a o = subst NoIdTwice (sym (new-insertPrototype k p M)) (once-prototype k p (newRecords M) o (unknown-absent (p .id) (newRecords M) [] (a .undefined)))
 once-insert (aBlock k b) M a o = subst NoIdTwice (sym (new-insertBlock k b M)) (once-block k b (newRecords M) o)
+
+pub once-all : (l : List Insertion) (M : MarkedRecords) → AllAllowed l M → NoIdTwice (newRecords M) → NoIdTwice (newRecords (insertAll l M))
+unfolding insertAll
+once-all [] M a o = o
+once-all (i ∷ l) M a o = once-all l (insert i M) (a .1) (once-insert i M (a .0) o)

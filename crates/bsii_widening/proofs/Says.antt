@@ -1,4 +1,4 @@
--- A value that was read has a text, unless it is an enum value outside its list.
+-- A value has a text, unless it is an enum value outside its list: by cases on its kind.
 use mathlib.Core.Path.{_≡_, refl, ap, ap₂}
 use Prim.Native.Nat.{ℕ, suc}
 use mathlib.Core.Option.{Option, none, some, Option·map}

@@ -7,7 +7,7 @@ use mathlib.Core.Option.{Option, none, some, Option·map}
 use mathlib.Core.List.{List, [], _∷_, map}
 use lib.ListN.{length}
 use lib.Dec.{eqb, eqb→eq}
-use Rattle.bsii_format.specs.Replies.{gives, fieldCount, enumValue}
+use Rattle.bsii_format.specs.Replies.{gives, enumValue}
 use Rattle.bsii_format.specs.Reader.{Consumed}
 use Rattle.bsii_format.specs.Values.{Value}
 use Rattle.bsii_format.specs.Prototypes.{ValuePrototype, Prototype}
@@ -92,7 +92,7 @@ module _ (text : ValuePrototype → Value → Option (List ℕ)) where
   unfolding blockText
   block-said at last b none q e = refuses≢gives e
   block-said at last b (some p) q e =
-      let c = cond-back (eqb (length (p .fields)) (length (b .values))) _ (record { number = fieldCount; offset = at }) e in
+      let c = cond-back (eqb (length (p .fields)) (length (b .values))) _ _ e in
       let x = joined-back (joined (gives (blockOpening (p .name) (b .id .value))) (fieldsText text (valuesOffset at b) (p .fields) (b .values))) (gives closing) (c .1) in
       let y = joined-back (gives (blockOpening (p .name) (b .id .value))) (fieldsText text (valuesOffset at b) (p .fields) (b .values)) (x .2) in
       record {

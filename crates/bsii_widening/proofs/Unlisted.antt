@@ -1,5 +1,5 @@
--- A last definition of an unlisted type: the first block of its id is refused at the value's start; where there is no such block nothing is asked
--- of the values.
+-- A last definition of an unlisted type: the records in front of the first block of its id are read as before, and that block is refused at the value's
+-- start, where its own reader fails; where there is no such block nothing is asked of the values.
 use mathlib.Core.Path.{_≡_, refl, sym, ap, ap₂, _∙_, subst}
 use Prim.Native.Nat.{ℕ, zero, suc, _+_, _≤_}
 use native.Mathlib.Nat.{add-assoc, add-zero, zero-add}
@@ -74,10 +74,10 @@ unfolding recordsFrom after
 records-stop rooms m env at s e = rw e
 
 -- one good record in front of a fault
-records-past : (rooms m : ℕ) (env : List Prototype) (i : Record) (l : List Record) (at : ℕ) (t : List ℕ) (x : Fault) → GoodRecord env i → distinctIds (defineAll (i ∷ l) env) ≤ rooms
+records-past : (rooms m : ℕ) (env : List Prototype) (i : Record) (l : List Record) (at : ℕ) (t : List ℕ) {x : Fault} → GoodRecord env i → distinctIds (defineAll (i ∷ l) env) ≤ rooms
     → recordsFrom rooms m (define i env) (at + length (recordBytes i)) (recordsBytes l ++ t) ≡ fault x → recordsFrom rooms (suc m) env at (recordsBytes (i ∷ l) ++ t) ≡ fault x
 unfolding recordsBytes defineAll
-records-past rooms m env i l at t x g o e =
+records-past rooms m env i l at t g o e =
     rw (append-assoc, records-step rooms m env i g (room-for rooms i env (omega (arith, ids-defineAll l (define i env)))) at (recordsBytes l ++ t))
     (map-fault (consRecord i) (recordsFrom rooms m (define i env)) (at + length (recordBytes i)) (recordsBytes l ++ t) e)
 
@@ -115,7 +115,7 @@ module _ (text : ValuePrototype → Value → Option (List ℕ)) (rooms n p : �
           at (recordsBytes L ++ t)
           ∙ ap (λ i. faultAt unlistedType i) (some-inj z))
       go false q z r =
-          records-past rooms m (newEnv env′) (block (newBlock b)) L at t (record { number = unlistedType; offset = x })
+          records-past rooms m (newEnv env′) (block (newBlock b)) L at t
           (record { head = h .head; id = h .id; by = newPrototype (unmark (h .by)); found = new-known (b .prototypeId) env′ (we .agree .agrees (b .prototypeId) (other-id n (b .prototypeId) q) ∙ h .found); values = h .values }) r
           (ih (at + length (recordBytes (block (newBlock b)))) t x z r)
 
@@ -127,11 +127,11 @@ module _ (text : ValuePrototype → Value → Option (List ℕ)) (rooms n p : �
   stops k zero we (block-old h o i) l at t x e r = absurd (omega arith)
   stops k zero we (block-new h i) l at t x e r = absurd (omega arith)
   stops k (suc m) {env} {env′} we (prototype-old {p = q} {l = z} h i) l at t x e r =
-      records-past rooms m (newEnv env′) (prototype (newPrototype (intoPrototype (eqb n (q .id)) p d q))) (newRecords (insertField n p d v k z)) at t (record { number = unlistedType; offset = x })
+      records-past rooms m (newEnv env′) (prototype (newPrototype (intoPrototype (eqb n (q .id)) p d q))) (newRecords (insertField n p d v k z)) at t
       (prototype-into text (eqb n (q .id)) p d q g h) r
       (stops k m (widens-cons n p d (old q) we) i (omega arith) (at + length (recordBytes (prototype (newPrototype (intoPrototype (eqb n (q .id)) p d q))))) t x e r)
   stops k (suc m) {env} {env′} we (prototype-new {p = q} {l = z} h i) l at t x e r =
-      records-past rooms m (newEnv env′) (prototype (newPrototype (intoPrototype (eqb n (q .id)) p d q))) (newRecords (insertField n p d v k z)) at t (record { number = unlistedType; offset = x })
+      records-past rooms m (newEnv env′) (prototype (newPrototype (intoPrototype (eqb n (q .id)) p d q))) (newRecords (insertField n p d v k z)) at t
       (prototype-into text (eqb n (q .id)) p d q g h) r
       (stops k m (widens-cons n p d (inserted q) we) i (omega arith) (at + length (recordBytes (prototype (newPrototype (intoPrototype (eqb n (q .id)) p d q))))) t x e r)
   stops k (suc m) {env} {env′} we (block-old {b = b} {l = z} h o i) l at t x e r = at-block k m env env′ b z we h (stops (suc k) m we i (omega arith)) at t x e r

@@ -73,7 +73,7 @@ pub record StillConverts (words : ℕ) (s out : List ℕ) (f : BsiiFile) (r : Li
   -- the reading call answers, with the new save's counts and the offset behind its end record
   pub reading : readingCall words′ (newFile f r M) ≡ gives (readingOf (newSave f M) (length (fileBytes (newSave f M))))
   -- a field call refuses what is not there, and nothing else, whatever block and name it is asked for
-  pub field : (k : ℕ) (name : List ℕ) (x : Fault) → fieldCall words′ (newFile f r M) k name ≡ refuses x → x ≡ record { number = absent; offset = 0 }
+  pub field : (k : ℕ) (name : List ℕ) (x : Fault) → fieldCall words′ (newFile f r M) k name ≡ refuses x → fieldCall words′ (newFile f r M) k name ≡ refusal absent 0
 
 -- ---- after one last definition of an unlisted type
 

@@ -1,7 +1,7 @@
 -- Demand 3 for any call that reads the whole file first. Such a call is `ofFile answer (parse words s)`: what it makes of the file and of the offset
 -- behind its end record, or the file's first fault. So a claim about it is one about `answer`, and all claims share what the insertions do to the file.
 use mathlib.Core.Path.{_≡_}
-use Prim.Native.Nat.{ℕ}
+use Prim.Native.Nat.{ℕ, _+_}
 use mathlib.Core.Option.{Option, none, some}
 use mathlib.Core.List.{List}
 use lib.ListN.{length}
@@ -13,10 +13,10 @@ use Rattle.bsii_format.specs.Prototypes.{ValuePrototype}
 use Rattle.bsii_format.specs.Blocks.{DataValue}
 use Rattle.bsii_format.specs.File.{BsiiFile, lengthLimit, parse}
 use Rattle.bsii_format.specs.BlockText.{fileText}
-use Rattle.bsii_format.specs.Calls.{ofFile, orAbsent, fieldOf}
+use Rattle.bsii_format.specs.Calls.{ofFile, readingOf, orAbsent, fieldOf}
 use Rattle.bsii_widening.specs.Marks.{MarkedRecords, newRecords, markRecords}
 use Rattle.bsii_widening.specs.Insertions.{Insertion, aField, insert, DefinitionAllowed, AllAllowed, NoIdTwice}
-use Rattle.bsii_widening.specs.Parts.{renumber}
+use Rattle.bsii_widening.specs.Parts.{renumber, insertedPrototypes, insertedBlocks}
 use Rattle.bsii_widening.specs.Claim.{widened, newFile, newText, leftText, Room, firstCarried}
 
 abbrev pub Observer : Type 0 → Type 0
@@ -58,3 +58,9 @@ abbrev pub FieldSurvives : Type 0
 FieldSurvives =
     (k : ℕ) (name : List ℕ)
     → Survives (λ f at. orAbsent (fieldOf k name f)) (λ M f at. orAbsent (fieldOf (renumber M k) name f)) Always (λ M a b. (b .typeId ≡ a .typeId) × (b .bytes ≡ a .bytes))
+
+-- the reading call: an inserted prototype or block counts one more, and the offset behind the end record is the new file's
+abbrev pub ReadingSurvives : Type 0
+ReadingSurvives =
+    Survives (λ f at. gives (readingOf f at)) (λ M f at. gives (readingOf f at)) Always
+    (λ M a b. (b .prototypes ≡ a .prototypes + insertedPrototypes M) × (b .blocks ≡ a .blocks + insertedBlocks M))
