@@ -1,4 +1,5 @@
--- The definitions of a marked file, the last one first, against those of the new file and of the old one; and how an insertion changes them.
+-- The definitions of a marked file, the last one first, against those of the new file and of the old one; and how an insertion changes them: a look-up
+-- finds what it found, but for the one id that was inserted or widened. By induction along the records.
 use mathlib.Core.Path.{_≡_, refl, sym, ap, _∙_, subst}
 use Prim.Native.Nat.{ℕ, zero, suc}
 use native.Mathlib.Omega.{arith}

@@ -1,27 +1,27 @@
 -- What holds of a marked file along the list of insertions: every record is well-formed under the definitions in force, every block has a text
 -- under the last ones, and an old block's marks are in step with its definition's. Each insertion keeps it.
 use mathlib.Core.Path.{_≡_, refl, sym, ap, _∙_, subst, subst₂}
-use Prim.Native.Nat.{ℕ, zero, suc, _+_}
+use Prim.Native.Nat.{ℕ, zero, suc}
 use mathlib.Core.Bool.{Bool, true, false, not}
-use mathlib.Core.Option.{Option, none, some, Option·map}
-use mathlib.Core.List.{List, [], _∷_, map}
+use mathlib.Core.Option.{Option, none, some}
+use mathlib.Core.List.{List, [], _∷_}
 use lib.ListN.{length, take}
 use lib.Dec.{T, eqb}
-use Rattle.bsii_format.specs.Reader.{Consumed, WellFormed, consumed}
+use Rattle.bsii_format.specs.Reader.{Consumed, WellFormed}
 use Rattle.bsii_format.specs.Strings.{Id, idParser}
 use Rattle.bsii_format.specs.Values.{Value}
 use Rattle.bsii_format.specs.Prototypes.{ValuePrototype, Prototype, valuePrototypeParser}
-use Rattle.bsii_format.specs.Blocks.{DataValue, DataBlock, findBy, getPrototype, dataValueParser}
-use Rattle.bsii_format.specs.File.{Record, prototype, block, Head, carrying, headParser, Step, more, recordParser, recordBytes, define, defineAll, prototypesOf}
+use Rattle.bsii_format.specs.Blocks.{DataValue, DataBlock, getPrototype, dataValueParser}
+use Rattle.bsii_format.specs.File.{prototype, block, Head, carrying, headParser, more, recordParser, recordBytes, define, defineAll, prototypesOf}
 use Rattle.bsii_format.proofs.Readers.{Fits, well-formed-fits}
 use Rattle.bsii_format.proofs.Parsers.{valuePrototype-exact}
-use Rattle.bsii_format.proofs.Records.{GoodField, GoodFields, GoodValue, GoodValues, values-length, value-good, GoodPrototype, GoodBlock, GoodRecord, GoodRecords, nil, cons, record-good}
-use Rattle.bsii_widening.specs.Marks.{Mark, old, inserted, unmark, mapMark, all, olds, MarkedPrototype, MarkedBlock, MarkedRecord, markedPrototype, markedBlock, MarkedRecords, newPrototype, newBlock, newRecords, asOld, markPrototype, markBlock}
-use Rattle.bsii_widening.specs.Insertions.{insertAt, insertIf, intoPrototype, intoBlock, insertField, Insertion, aField, aPrototype, aBlock, insert, insertAll, EnumListed, EnumsListed, hasName, DefinitionAllowed, ValueAllowed, ValuesAllowed, Allowed, AllAllowed, NoIdTwice}
+use Rattle.bsii_format.proofs.Records.{GoodField, GoodFields, GoodValue, GoodValues, values-length, value-good, GoodPrototype, GoodBlock, GoodRecords, nil, cons, record-good}
+use Rattle.bsii_widening.specs.Marks.{Mark, old, inserted, unmark, mapMark, all, MarkedPrototype, MarkedBlock, markedPrototype, markedBlock, MarkedRecords, newPrototype, newBlock, newRecords, markPrototype, markBlock}
+use Rattle.bsii_widening.specs.Insertions.{insertAt, insertIf, intoPrototype, intoBlock, insertField, Insertion, aField, aPrototype, aBlock, insert, insertAll, hasName, DefinitionAllowed, ValueAllowed, ValuesAllowed, Allowed, AllAllowed, NoIdTwice}
 use Rattle.bsii_widening.specs.Parts.{markedPrototypes, getMarked}
 use Rattle.bsii_widening.proofs.Marks.{all-insert, all-insertIf, all-asOld, new-markPrototype}
 use Rattle.bsii_widening.proofs.Says.{HasText}
-use Rattle.bsii_widening.proofs.Environments.{none≢some, map-none, other-id, this-id, newEnv, new-last, new-find, new-known, new-back, Agree, agree-refl, agree-cons, agree-new, agree-insert, block-insert, Widens, widens-nil, widens-cons, widens-defines, into-all, own-known}
+use Rattle.bsii_widening.proofs.Environments.{none≢some, some-inj, map-none, other-id, this-id, newEnv, new-last, new-find, new-known, new-back, Agree, agree-refl, agree-cons, agree-new, agree-insert, block-insert, Widens, widens-nil, widens-cons, widens-defines, into-all, own-known}
 use Rattle.bsii_widening.proofs.Fields.{fields-insert, values-insert, Says, says-insert, values-say, Aligned, aligned-insert, Distinct, distinct-insert}
 use Rattle.bsii_widening.proofs.Once.{last-is-in-force, once-insert}
 
@@ -38,6 +38,11 @@ good-block env b e = record-good env 0 (recordBytes (block b)) (more (block b)) 
 
 pub good-value : (d : Consumed ValuePrototype) (v : DataValue) → WellFormed (dataValueParser (d .value .typeId)) v (v .raw) → GoodValue d v
 good-value d v e = value-good d 0 (v .raw) v (length (v .raw)) [] e .0
+
+-- the definition that a new one goes into is the marked one of its id
+pub its-definition : {n p : ℕ} {d : Consumed ValuePrototype} {M : MarkedRecords} (a : DefinitionAllowed n p d M) {m : Mark MarkedPrototype} → getMarked n (markedPrototypes M []) ≡ some m
+    → a .of ≡ newPrototype (unmark m)
+its-definition {n} {M = M} a e = some-inj (sym (a .defined) ∙ ap (getPrototype n) (new-last M) ∙ new-known n (markedPrototypes M []) e)
 
 -- ---- the invariant
 
@@ -222,13 +227,7 @@ module _ (text : ValuePrototype → Value → Option (List ℕ)) where
   -- ---- every insertion
 
   new-name : (n p : ℕ) (d : Consumed ValuePrototype) (M : MarkedRecords) → DefinitionAllowed n p d M → NewName n d (markedPrototypes M [])
-  new-name n p d M a m e =
-      let q : getPrototype n (prototypesOf (newRecords M)) ≡ some (newPrototype (unmark m)) = ap (getPrototype n) (new-last M) ∙ new-known n (markedPrototypes M []) e in
-      subst (λ (z : Option Prototype). (r : Prototype) → z ≡ some r → T (not (hasName (d .value .name) (r .fields)))) (sym (a .defined) ∙ q)
-      (λ r z. subst (λ (y : Prototype). T (not (hasName (d .value .name) (y .fields)))) (some-is z) (a .newName)) (newPrototype (unmark m)) refl
-    where
-      some-is : {x y : Prototype} → _≡_ {A = Option Prototype} (some x) (some y) → x ≡ y
-      some-is z = cc
+  new-name n p d M a m e = subst (λ (y : Prototype). T (not (hasName (d .value .name) (y .fields)))) (its-definition a e) (a .newName)
 
   pub sound-insert : HasText text → (i : Insertion) (M : MarkedRecords) → Allowed i M → NoIdTwice (newRecords M) → Sound M → Sound (insert i M)
   unfolding insert markPrototype prototypesOf

@@ -1,4 +1,4 @@
--- The proof of demand 3.
+-- The proof of demand 3 (Demand3.antt, from the core and its instances), worked lists, and laws of its premises, its claim and of what an insertion is.
 pub mod Marks
 pub mod Says
 pub mod Environments
@@ -6,7 +6,20 @@ pub mod Once
 pub mod Fields
 pub mod Invariant
 pub mod Text
+pub mod Start
 pub mod Lookups
 pub mod Unlisted
+pub mod Core
+pub mod Survives
+pub mod Counts
+pub mod Exactly
 pub mod Demand3
+pub mod Equal
+pub mod Decided
+pub mod Written
+pub mod Computes
 pub mod Example
+pub mod EveryType
+pub mod Premises
+pub mod Splices
+pub mod Conclusions

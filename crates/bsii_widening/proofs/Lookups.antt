@@ -1,5 +1,6 @@
--- What the field call found in the old save it finds in the new one, at the block's new number, with the same type and bytes.
-use mathlib.Core.Path.{_≡_, refl, sym, ap, _∙_, subst}
+-- What the field call found in the old save it finds in the new one, at the block's new number, with the same type and bytes: no inserted definition has
+-- the name that was found, so the first one so named is the old one, and its value stands at its position.
+use mathlib.Core.Path.{_≡_, refl, sym, ap, _∙_}
 use Prim.Native.Nat.{ℕ, zero, suc, _+_}
 use mathlib.Core.Bool.{Bool, true, false, cond, not, _||_}
 use mathlib.Core.Option.{Option, none, some, Option·map}
@@ -13,11 +14,11 @@ use Rattle.bsii_format.specs.Blocks.{DataValue, DataBlock, getPrototype}
 use Rattle.bsii_format.specs.File.{BsiiFile, Record, prototype, block, recordBytes, prototypesOf}
 use Rattle.bsii_format.specs.BlockText.{valuesOffset}
 use Rattle.bsii_format.specs.Calls.{Placed, placed, placedRecords, consBlock, blocksIn, blocksOf, fieldIndex, atIndex, fieldUnder, fieldIn, FieldAnswer, fieldAnswer, fieldOf}
-use Rattle.bsii_widening.specs.Marks.{Mark, old, inserted, unmark, all, olds, MarkedPrototype, MarkedBlock, markedPrototype, markedBlock, MarkedRecords, newPrototype, oldPrototype, newBlock, oldBlock, newRecords, oldRecords}
+use Rattle.bsii_widening.specs.Marks.{Mark, unmark, all, olds, MarkedPrototype, MarkedBlock, MarkedRecords, newPrototype, oldPrototype, newBlock, oldBlock, newRecords, oldRecords}
 use Rattle.bsii_widening.specs.Insertions.{hasName}
-use Rattle.bsii_widening.specs.Parts.{markedPrototypes, getMarked, renumber}
+use Rattle.bsii_widening.specs.Parts.{markedPrototypes, renumber}
 use Rattle.bsii_widening.proofs.Environments.{none≢some, some-inj, map-some, new-last, old-last, new-known, old-known}
-use Rattle.bsii_widening.proofs.Fields.{Aligned, level, both-old, both-new, Clear, Distinct}
+use Rattle.bsii_widening.proofs.Fields.{Aligned, level, both-old, both-new, Clear}
 use Rattle.bsii_widening.proofs.Invariant.{OldBlock, Inv, done, prototype-old, prototype-new, block-old, block-new, Sound}
 
 -- ---- the look-ups without offsets
@@ -25,7 +26,7 @@ use Rattle.bsii_widening.proofs.Invariant.{OldBlock, Inv, done, prototy
 bare : {A : Type 0} → Option (Placed A) → Option A
 bare = Option·map (λ p. p .it)
 
-blocks : List Record → List DataBlock
+unfoldable pub blocks : List Record → List DataBlock
 blocks [] = []
 blocks (prototype p ∷ l) = blocks l
 blocks (block b ∷ l) = b ∷ blocks l
@@ -94,11 +95,6 @@ index-suc : {A : Type 0} (x : A) (l : List A) (o : Option ℕ) → atIndex (x �
 unfolding atIndex
 index-suc x l none = refl
 index-suc x l (some i) = refl
-
-index-nil : {A : Type 0} (o : Option ℕ) → _≡_ {A = Option A} (atIndex [] o) none
-unfolding atIndex
-index-nil none = refl
-index-nil (some i) = refl
 
 find-cons : (name : List ℕ) (f : Consumed ValuePrototype) (fs : List (Consumed ValuePrototype)) (v : DataValue) (l : List DataValue)
     → atIndex (v ∷ l) (fieldIndex name (f ∷ fs)) ≡ cond (same name (f .value .name)) (some v) (atIndex l (fieldIndex name fs))

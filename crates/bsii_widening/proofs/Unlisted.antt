@@ -1,7 +1,7 @@
--- A last definition of an unlisted type: the first block of its id is refused at the value's start; where there is no such block nothing is asked
--- of the values.
+-- A last definition of an unlisted type: the records in front of the first block of its id are read as before, and that block is refused at the value's
+-- start, where its own reader fails; where there is no such block nothing is asked of the values.
 use mathlib.Core.Path.{_≡_, refl, sym, ap, ap₂, _∙_, subst}
-use Prim.Native.Nat.{ℕ, zero, suc, _+_, _≤_, _<_}
+use Prim.Native.Nat.{ℕ, zero, suc, _+_, _≤_}
 use native.Mathlib.Nat.{add-assoc, add-zero, zero-add}
 use native.Mathlib.Omega.{arith}
 use mathlib.Core.Bool.{Bool, true, false, cond}
@@ -10,16 +10,16 @@ use mathlib.Core.List.{List, [], _∷_, _++_, append-assoc}
 use lib.ListN.{length, take, length-append}
 use lib.Dec.{T, eqb}
 use Rattle.bsii_format.specs.Replies.{Fault, unlistedType}
-use Rattle.bsii_format.specs.Reader.{Result, ok, fault, faultAt, Reader, after, _>>=_, _<$>_, fail, Consumed, with, consumed, WellFormed}
+use Rattle.bsii_format.specs.Reader.{fault, faultAt, after, _>>=_, _<$>_, fail, Consumed, consumed, WellFormed}
 use Rattle.bsii_format.specs.Strings.{Id, idParser}
 use Rattle.bsii_format.specs.Types.{shapeOf}
 use Rattle.bsii_format.specs.Values.{Value, valueParser, shapeParser}
 use Rattle.bsii_format.specs.Prototypes.{ValuePrototype, Prototype}
-use Rattle.bsii_format.specs.Blocks.{DataValue, DataBlock, getPrototype, dataValue, dataValueParser, dataValuesParser}
-use Rattle.bsii_format.specs.File.{Record, prototype, block, Head, carrying, headParser, Step, blockStep, dataBlockParser, stepParser, recordParser, define, distinctIds, consRecord, recordsThen, recordsFrom, recordsParser, headerParser, BsiiFile, bsiiFile, bsiiParser, valuesBytes, recordBytes, recordsBytes, fileBytes, defineAll}
+use Rattle.bsii_format.specs.Blocks.{DataValue, DataBlock, getPrototype, dataValueParser, dataValuesParser}
+use Rattle.bsii_format.specs.File.{Record, prototype, block, Head, carrying, headParser, blockStep, dataBlockParser, stepParser, recordParser, define, distinctIds, consRecord, recordsFrom, recordsParser, headerParser, BsiiFile, bsiiFile, bsiiParser, valuesBytes, recordBytes, recordsBytes, fileBytes, defineAll}
 use Rattle.bsii_format.specs.BlockText.{valuesOffset}
 use Rattle.bsii_format.proofs.Readers.{Fits, fault≢ok, map-fault, consumed-fits}
-use Rattle.bsii_format.proofs.Records.{GoodField, GoodValues, nil, cons, value-fits, GoodPrototype, GoodBlock, GoodRecord, records-step, room-for, ids-defineAll, head-takes}
+use Rattle.bsii_format.proofs.Records.{GoodField, GoodValues, nil, cons, value-fits, GoodRecord, records-step, room-for, ids-defineAll, head-takes}
 use Rattle.bsii_widening.specs.Marks.{Mark, old, inserted, unmark, mapMark, all, MarkedPrototype, MarkedBlock, markedPrototype, markedBlock, MarkedRecords, newPrototype, newBlock, newRecords}
 use Rattle.bsii_widening.specs.Insertions.{insertAt, insertIf, intoPrototype, intoBlock, insertField, ValuesAllowed}
 use Rattle.bsii_widening.specs.Parts.{getMarked}
@@ -74,10 +74,10 @@ unfolding recordsFrom after
 records-stop rooms m env at s e = rw e
 
 -- one good record in front of a fault
-records-past : (rooms m : ℕ) (env : List Prototype) (i : Record) (l : List Record) (at : ℕ) (t : List ℕ) (x : Fault) → GoodRecord env i → distinctIds (defineAll (i ∷ l) env) ≤ rooms
+records-past : (rooms m : ℕ) (env : List Prototype) (i : Record) (l : List Record) (at : ℕ) (t : List ℕ) {x : Fault} → GoodRecord env i → distinctIds (defineAll (i ∷ l) env) ≤ rooms
     → recordsFrom rooms m (define i env) (at + length (recordBytes i)) (recordsBytes l ++ t) ≡ fault x → recordsFrom rooms (suc m) env at (recordsBytes (i ∷ l) ++ t) ≡ fault x
 unfolding recordsBytes defineAll
-records-past rooms m env i l at t x g o e =
+records-past rooms m env i l at t g o e =
     rw (append-assoc, records-step rooms m env i g (room-for rooms i env (omega (arith, ids-defineAll l (define i env)))) at (recordsBytes l ++ t))
     (map-fault (consRecord i) (recordsFrom rooms m (define i env)) (at + length (recordBytes i)) (recordsBytes l ++ t) e)
 
@@ -115,7 +115,7 @@ module _ (text : ValuePrototype → Value → Option (List ℕ)) (rooms n p : �
           at (recordsBytes L ++ t)
           ∙ ap (λ i. faultAt unlistedType i) (some-inj z))
       go false q z r =
-          records-past rooms m (newEnv env′) (block (newBlock b)) L at t (record { number = unlistedType; offset = x })
+          records-past rooms m (newEnv env′) (block (newBlock b)) L at t
           (record { head = h .head; id = h .id; by = newPrototype (unmark (h .by)); found = new-known (b .prototypeId) env′ (we .agree .agrees (b .prototypeId) (other-id n (b .prototypeId) q) ∙ h .found); values = h .values }) r
           (ih (at + length (recordBytes (block (newBlock b)))) t x z r)
 
@@ -127,11 +127,11 @@ module _ (text : ValuePrototype → Value → Option (List ℕ)) (rooms n p : �
   stops k zero we (block-old h o i) l at t x e r = absurd (omega arith)
   stops k zero we (block-new h i) l at t x e r = absurd (omega arith)
   stops k (suc m) {env} {env′} we (prototype-old {p = q} {l = z} h i) l at t x e r =
-      records-past rooms m (newEnv env′) (prototype (newPrototype (intoPrototype (eqb n (q .id)) p d q))) (newRecords (insertField n p d v k z)) at t (record { number = unlistedType; offset = x })
+      records-past rooms m (newEnv env′) (prototype (newPrototype (intoPrototype (eqb n (q .id)) p d q))) (newRecords (insertField n p d v k z)) at t
       (prototype-into text (eqb n (q .id)) p d q g h) r
       (stops k m (widens-cons n p d (old q) we) i (omega arith) (at + length (recordBytes (prototype (newPrototype (intoPrototype (eqb n (q .id)) p d q))))) t x e r)
   stops k (suc m) {env} {env′} we (prototype-new {p = q} {l = z} h i) l at t x e r =
-      records-past rooms m (newEnv env′) (prototype (newPrototype (intoPrototype (eqb n (q .id)) p d q))) (newRecords (insertField n p d v k z)) at t (record { number = unlistedType; offset = x })
+      records-past rooms m (newEnv env′) (prototype (newPrototype (intoPrototype (eqb n (q .id)) p d q))) (newRecords (insertField n p d v k z)) at t
       (prototype-into text (eqb n (q .id)) p d q g h) r
       (stops k m (widens-cons n p d (inserted q) we) i (omega arith) (at + length (recordBytes (prototype (newPrototype (intoPrototype (eqb n (q .id)) p d q))))) t x e r)
   stops k (suc m) {env} {env′} we (block-old {b = b} {l = z} h o i) l at t x e r = at-block k m env env′ b z we h (stops (suc k) m we i (omega arith)) at t x e r

@@ -65,3 +65,16 @@ renumber (inserted (markedPrototype p) ∷ l) k = renumber l k
 renumber (inserted (markedBlock b) ∷ l) k = suc (renumber l k)
 renumber (old (markedBlock b) ∷ l) zero = zero
 renumber (old (markedBlock b) ∷ l) (suc k) = suc (renumber l k)
+
+-- how many prototypes and blocks were inserted
+unfoldable pub insertedPrototypes : MarkedRecords → ℕ
+insertedPrototypes [] = 0
+insertedPrototypes (old r ∷ l) = insertedPrototypes l
+insertedPrototypes (inserted (markedPrototype p) ∷ l) = suc (insertedPrototypes l)
+insertedPrototypes (inserted (markedBlock b) ∷ l) = insertedPrototypes l
+
+unfoldable pub insertedBlocks : MarkedRecords → ℕ
+insertedBlocks [] = 0
+insertedBlocks (old r ∷ l) = insertedBlocks l
+insertedBlocks (inserted (markedPrototype p) ∷ l) = insertedBlocks l
+insertedBlocks (inserted (markedBlock b) ∷ l) = suc (insertedBlocks l)

@@ -1,0 +1,82 @@
+-- What follows from demand 3, from the statement alone: 01's sentences with every word open, so that a claim that says less is not enough for them.
+use mathlib.Core.Path.{_≡_, _∙_}
+use Prim.Native.Nat.{ℕ, _≤_}
+use mathlib.Core.Option.{Option, none, some}
+use mathlib.Core.List.{List, _++_}
+use lib.ListN.{length, take, drop}
+use Rattle.bsii_format.specs.Replies.{Fault, gives, refuses, refusal}
+use Rattle.bsii_format.specs.Reader.{Consumed}
+use Rattle.bsii_format.specs.Types.{shapeOf}
+use Rattle.bsii_format.specs.Prototypes.{ValuePrototype}
+use Rattle.bsii_format.specs.Blocks.{DataValue}
+use Rattle.bsii_format.specs.File.{BsiiFile, fileBytes, distinctIds, prototypesOf, lengthLimit}
+use Rattle.bsii_format.specs.Text.{valueText}
+use Rattle.bsii_format.specs.Calls.{blocksOf, readingOf, readingCall, FieldAnswer, fieldCall, textAnswer, textCall}
+use Rattle.bsii_format.proofs.ReplyLaws.{text-fits}
+use Rattle.bsii_widening.specs.Marks.{all, olds, newRecords, markRecords}
+use Rattle.bsii_widening.specs.Insertions.{Insertion, aField, insert, DefinitionAllowed, AllAllowed}
+use Rattle.bsii_widening.specs.Parts.{concat, textParts, renumber}
+use Rattle.bsii_widening.specs.Claim.{OldSave, widened, newSave, newFile, Room, StillConverts, firstCarried, AfterLast, Demand3}
+
+module _ (claim : Demand3) {words : ℕ} {s out : List ℕ} {f : BsiiFile} {at : ℕ} {r : List ℕ} {size : ℕ} (o : OldSave words s out f at r size) (l : List Insertion) (a : AllAllowed l (markRecords (f .records))) (words′ : ℕ) where
+  module _ (m : Room lengthLimit words′ f r (widened f l)) where
+    still : StillConverts words s out f r size words′ (widened f l)
+    still = claim words s out f at r size o l a words′ .1 m
+
+    abbrev allParts : List ℕ
+    allParts = concat (all (textParts valueText (widened f l)))
+
+    -- the text call answers with a length,
+    pub answers : (out′ : List ℕ) → length allParts ≤ length out′ → textCall words′ (newFile f r (widened f l)) out′ .reply ≡ gives (length allParts)
+    answers = still .converts
+
+    -- writes all parts, and leaves the bytes behind them
+    pub writes : (out′ : List ℕ) → length allParts ≤ length out′
+        → textCall words′ (newFile f r (widened f l)) out′ ≡ record { reply = gives (length allParts); needed = 0; output = allParts ++ drop (length allParts) out′ }
+    writes out′ k = still .text out′ ∙ text-fits out′ allParts k
+
+    pub left : concat (olds (textParts valueText (widened f l))) ≡ take size (textCall words s out .output)
+    left = still .leftOut
+
+    pub finds : (k : ℕ) (name : List ℕ) (v : FieldAnswer) → fieldCall words s k name ≡ gives v
+        → (b : FieldAnswer) × (fieldCall words′ (newFile f r (widened f l)) (renumber (widened f l) k) name ≡ gives b) × (b .typeId ≡ v .typeId) × (b .bytes ≡ v .bytes)
+    finds = still .found
+
+    pub reads : readingCall words′ (newFile f r (widened f l)) ≡ gives (record {
+      prototypes = distinctIds (prototypesOf (newRecords (widened f l)));
+      blocks = length (blocksOf (newSave f (widened f l)));
+      next = length (fileBytes (newSave f (widened f l)));
+    })
+    unfolding readingOf
+    reads = still .reading
+
+    pub absent-at-most : (k : ℕ) (name : List ℕ) (x : Fault) → fieldCall words′ (newFile f r (widened f l)) k name ≡ refuses x → fieldCall words′ (newFile f r (widened f l)) k name ≡ refusal 13 0
+    absent-at-most = still .field
+
+  -- ---- the last definition
+
+  module _ (n p : ℕ) (d : Consumed ValuePrototype) (v : ℕ → DataValue) (b : DefinitionAllowed n p d (widened f l)) (u : shapeOf (d .value .typeId) ≡ none)
+      (m : Room lengthLimit words′ f r (insert (aField n p d v) (widened f l))) where
+    abbrev first : Option ℕ
+    first = firstCarried n p (length (f .header .raw)) (newRecords (insert (aField n p d v) (widened f l)))
+
+    last : AfterLast words s out f r size words′ (insert (aField n p d v) (widened f l)) first
+    last = claim words s out f at r size o l a words′ .2 n p d v b u m
+
+    pub reading-stops : (x : ℕ) → first ≡ some x → readingCall words′ (newFile f r (insert (aField n p d v) (widened f l))) ≡ refusal 7 x
+    reading-stops x e = last .carried x e .reading
+
+    pub field-stops : (x : ℕ) → first ≡ some x → (k : ℕ) (name : List ℕ) → fieldCall words′ (newFile f r (insert (aField n p d v) (widened f l))) k name ≡ refusal 7 x
+    field-stops x e = last .carried x e .field
+
+    pub text-stops : (x : ℕ) → first ≡ some x → (out′ : List ℕ)
+        → textCall words′ (newFile f r (insert (aField n p d v) (widened f l))) out′ ≡ record { reply = refusal 7 x; needed = 0; output = out′ }
+    unfolding textAnswer
+    text-stops x e = last .carried x e .text
+
+    -- if no block carries it, all of the above holds; and 7 means that a block does
+    pub unused-converts : first ≡ none → StillConverts words s out f r size words′ (insert (aField n p d v) (widened f l))
+    unused-converts = last .unused
+
+    pub seven-means : (x : ℕ) → readingCall words′ (newFile f r (insert (aField n p d v) (widened f l))) ≡ refusal 7 x → first ≡ some x
+    seven-means x e = last .exactly .reading x .0 e
