@@ -109,3 +109,57 @@ fn absent(content: &[u8], question: &Question) -> Option<String> {
         }
     }
 }
+
+#[cfg(test)]
+mod tests {
+    use super::*;
+    use sii_decode::DataField;
+
+    fn garage() -> Vec<u8> {
+        let root = std::path::Path::new(env!("CARGO_MANIFEST_DIR")).join("../..");
+        std::fs::read(root.join("samples/garage.bsii")).unwrap()
+    }
+
+    /// How the place goes with the refusal's number.
+    fn check(bytes: &[u8], refusal: &Refusal) {
+        let Refusal { number, offset, .. } = *refusal;
+        let message = message("x", bytes, None, refusal);
+        let start = format!("sii-decode: x: refused {number} at {offset} (0x{offset:08x}): ");
+        assert!(message.starts_with(start.as_bytes()) && message.ends_with(b"\n"));
+        assert!(message.iter().filter(|byte| **byte == b'\n').count() <= 6);
+        let place = walk::place_of(bytes, offset);
+        let field = place.as_ref().and_then(|place| place.field);
+        let kind = field.map(|(_, type_id)| DataField { type_id, part: b"" }.kind_name());
+        match number {
+            6 => assert!(place.unwrap().prototype.is_none()),
+            7 => assert_eq!(kind, Some("unlisted")),
+            8 => assert!(place.unwrap().prototype.is_some() && field.is_none()),
+            9 => assert_eq!(kind, Some("enum")),
+            _ => assert_ne!(kind, Some("unlisted")),
+        }
+    }
+
+    /// Every byte of the sample replaced, and the sample cut at every byte.
+    #[test]
+    fn damaged_saves() {
+        let whole = garage();
+        let mut seen = [0; 14];
+        let mut try_one = |bytes: &[u8]| {
+            if let Err(refusal) = sii_decode::to_siin(bytes) {
+                seen[refusal.number as usize] += 1;
+                check(bytes, &refusal);
+            }
+        };
+        for at in 0..whole.len() {
+            try_one(&whole[..at]);
+            for byte in [0, 1, 2, 8, 0x26, 0x37, 0x7f, 0xff] {
+                let mut bytes = whole.clone();
+                bytes[at] = byte;
+                try_one(&bytes);
+            }
+        }
+        for number in [1, 2, 3, 4, 5, 6, 7, 9] {
+            assert!(seen[number] > 0, "{number}: {seen:?}");
+        }
+    }
+}
