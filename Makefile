@@ -58,8 +58,8 @@ install:
 	$(INSTALL) -m 755 $(shared) $(DESTDIR)$(LIBDIR)/libsii_decode_c.so.$(version)
 	ln -sf libsii_decode_c.so.$(version) $(DESTDIR)$(LIBDIR)/$(soname)
 	ln -sf $(soname) $(DESTDIR)$(LIBDIR)/libsii_decode_c.so
-	printf '%s\n' 'Name: sii_decode' 'Description: BSII saves to SiiNunit text, proved' 'Version: $(version)' \
-		'Cflags: -I$(INCLUDEDIR)' 'Libs: -L$(LIBDIR) -lsii_decode_c' > $(DESTDIR)$(LIBDIR)/pkgconfig/sii_decode.pc
+	printf '%s\n' 'prefix=$(PREFIX)' 'libdir=$(LIBDIR)' 'includedir=$(INCLUDEDIR)' '' 'Name: sii_decode' 'Description: BSII saves to SiiNunit text, proved' \
+		'Version: $(version)' 'Cflags: -I$${includedir}' 'Libs: -L$${libdir} -lsii_decode_c' > $(DESTDIR)$(LIBDIR)/pkgconfig/sii_decode.pc
 	$(INSTALL) -m 644 man/sii-decode.1 $(DESTDIR)$(MANDIR)/man1/sii-decode.1
 	$(INSTALL) -m 644 completions/sii-decode.bash $(DESTDIR)$(DATADIR)/bash-completion/completions/sii-decode
 	$(INSTALL) -m 644 completions/_sii-decode $(DESTDIR)$(DATADIR)/zsh/site-functions/_sii-decode

@@ -104,55 +104,68 @@ fn option_of(word: &[u8]) -> Option<(Wants, Option<&[u8]>)> {
     }
 }
 
+/// The words of a command line by what they are.
+#[derive(Default)]
+struct Words {
+    output: Option<OsString>,
+    into: Option<OsString>,
+    plain: Vec<OsString>,
+    /// How many plain words stood in front of `--`, if there is one.
+    before: Option<usize>,
+}
+
+impl Words {
+    /// An option with a value, which is in the same word or the next one.
+    fn option(
+        &mut self,
+        word: &OsStr,
+        next: impl FnOnce() -> Option<OsString>,
+    ) -> Result<(), Failure> {
+        let Some((option, value)) = option_of(word.as_bytes()) else {
+            return usage(format!("what is {}?", show::path(word)));
+        };
+        let value = match value {
+            Some(value) => Some(OsStr::from_bytes(value).to_owned()),
+            None => next(),
+        };
+        let place = match option {
+            Wants::Output => &mut self.output,
+            Wants::Into => &mut self.into,
+        };
+        let (name, wanted) = (option.name(), option.value());
+        match value {
+            None => usage(format!("{} wants a {wanted}", show::path(word))),
+            Some(value) if value.is_empty() => usage(format!("the {wanted} of {name} is empty")),
+            Some(value) => match place.replace(value) {
+                Some(_) => usage(format!("{name} is given twice")),
+                None => Ok(()),
+            },
+        }
+    }
+}
+
 pub fn parse(words: Vec<OsString>) -> Result<Arguments, Failure> {
-    let mut words = words.into_iter();
-    let (mut output, mut into): (Option<OsString>, Option<OsString>) = (None, None);
-    let mut plain: Vec<OsString> = Vec::new();
-    // How many words stood in front of `--`.
-    let mut before = None;
-    while let Some(word) = words.next() {
+    let mut rest = words.into_iter();
+    let mut words = Words::default();
+    while let Some(word) = rest.next() {
         let bytes = word.as_bytes();
-        if before.is_some() || bytes == b"-" || !bytes.starts_with(b"-") {
-            plain.push(word);
+        if words.before.is_some() || bytes == b"-" || !bytes.starts_with(b"-") {
+            words.plain.push(word);
             continue;
         }
         match bytes {
             b"-h" | b"--help" => return Ok(Arguments::Help),
             b"-V" | b"--version" => return Ok(Arguments::Version),
-            b"--" => {
-                before = Some(plain.len());
-                continue;
-            }
-            _ => {}
-        }
-        let Some((option, value)) = option_of(bytes) else {
-            return usage(format!("what is {}?", show::path(&word)));
-        };
-        let value = match value {
-            Some(value) => OsStr::from_bytes(value).to_owned(),
-            None => match words.next() {
-                Some(value) => value,
-                None => return usage(format!("{} wants a {}", show::path(&word), option.value())),
-            },
-        };
-        if value.is_empty() {
-            let (name, value) = (option.name(), option.value());
-            return usage(format!("the {value} of {name} is empty"));
-        }
-        let place = match option {
-            Wants::Output => &mut output,
-            Wants::Into => &mut into,
-        };
-        if place.replace(value).is_some() {
-            return usage(format!("{} is given twice", option.name()));
+            b"--" => words.before = Some(words.plain.len()),
+            _ => words.option(&word, || rest.next())?,
         }
     }
-    match (into, output) {
+    match (words.into, words.output) {
         (Some(_), Some(_)) => usage("-o and --into exclude each other".into()),
-        (Some(folder), None) => saves(folder.into(), plain),
+        (Some(folder), None) => saves(folder.into(), words.plain),
         (None, output) => {
-            let commands = before.is_none_or(|before| before > 0);
-            let (question, save) = question(plain, commands)?;
+            let commands = words.before.is_none_or(|before| before > 0);
+            let (question, save) = question(words.plain, commands)?;
             Ok(Arguments::Ask(Asked {
                 question,
                 save,

@@ -172,7 +172,9 @@ mod tests {
         file
     }
 
-    fn field_at(offset: u64) -> Option<(u64, Option<(Vec<u8>, u32)>)> {
+    type Field = (Vec<u8>, u32);
+
+    fn field_at(offset: u64) -> Option<(u64, Option<Field>)> {
         let file = save();
         let place = place_of(&file, offset)?;
         assert_eq!(
