@@ -135,7 +135,9 @@ impl Words {
         let (name, wanted) = (option.name(), option.value());
         match value {
             None => usage(format!("{} wants a {wanted}", show::path(word))),
-            Some(value) if value.is_empty() => usage(format!("the {wanted} of {name} is empty")),
+            Some(value) if value.is_empty() => {
+                usage(format!("{name} wants a {wanted}, and its name is empty"))
+            }
             Some(value) => match place.replace(value) {
                 Some(_) => usage(format!("{name} is given twice")),
                 None => Ok(()),
