@@ -5,7 +5,9 @@ use std::error::Error;
 use std::fmt;
 
 /// A value is of another kind than the one that was asked for.
-#[derive(Clone, Copy, Debug, PartialEq, Eq)]
+///
+/// `Debug` shows the sentence, as that of a [`Refusal`](crate::Refusal) does.
+#[derive(Clone, Copy, PartialEq, Eq)]
 pub struct OtherKind {
     /// The Rust type that was asked for.
     pub wanted: &'static str,
@@ -17,9 +19,15 @@ impl fmt::Display for OtherKind {
     fn fmt(&self, f: &mut fmt::Formatter<'_>) -> fmt::Result {
         write!(
             f,
-            "the value is of kind {}, and {} cannot hold every one of that kind",
+            "the value is of kind {}, which {} does not hold",
             self.found, self.wanted
         )
+    }
+}
+
+impl fmt::Debug for OtherKind {
+    fn fmt(&self, f: &mut fmt::Formatter<'_>) -> fmt::Result {
+        fmt::Display::fmt(self, f)
     }
 }
 

@@ -302,8 +302,9 @@ fn plain_numbers_and_strings() {
     let text: Result<&str, _> = word.try_into();
     assert_eq!(text.err(), other("&str", "word"));
     let id = String::try_from(DataValue::Id(Id::Nameless(0)));
-    let shown = "the value is of kind id, and String cannot hold every one of that kind";
-    assert_eq!(id.unwrap_err().to_string(), shown);
+    let shown = "the value is of kind id, which String does not hold";
+    assert_eq!(id.as_ref().unwrap_err().to_string(), shown);
+    assert_eq!(format!("{:?}", id.unwrap_err()), shown);
 }
 
 /// Every type of the raw calls has a name in this crate.
