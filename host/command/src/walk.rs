@@ -1,6 +1,7 @@
 //! Where in a save an offset lies: which block, of which prototype, in which field. Only for
 //! messages about a save that the library has refused; nothing is decided by it.
 
+use sii_decode::DataField;
 use std::collections::HashMap;
 
 struct Prototype<'a> {
@@ -77,22 +78,7 @@ impl<'a> Reader<'a> {
 
     /// A value; none if it runs out, or if the type is unlisted.
     fn value(&mut self, type_id: u32) -> Option<()> {
-        let array = matches!(
-            type_id,
-            0x02 | 0x04
-                | 0x06
-                | 0x12
-                | 0x18
-                | 0x1a
-                | 0x26
-                | 0x28
-                | 0x2c
-                | 0x32
-                | 0x34
-                | 0x36
-                | 0x3a
-                | 0x3c
-        );
+        let array = DataField { type_id, part: &[] }.is_array();
         let count = if array { self.number()? as usize } else { 1 };
         let size = match type_id {
             0x01 | 0x02 => return (0..count).try_for_each(|_| self.string().map(|_| ())),
