@@ -80,7 +80,7 @@ plainField = definition 0x27 (ascii "e")
 abbrev pub fiveField : List ℕ
 fiveField = definition 0x37 (ascii "e") ++ u32 1 ++ u32 5 ++ string (ascii "five")
 
--- FORMAT.md, "Why no prototype id may be defined twice": 85 bytes, with `more` behind the second definition and `value` behind each block's value
+-- the save of FORMAT.md on why no prototype id may be defined twice: 85 bytes, and `more` behind the definition of `b`, `value` behind each value
 abbrev pub twiceFile : List ℕ → List ℕ → List ℕ
 twiceFile more value =
     fileWith (
