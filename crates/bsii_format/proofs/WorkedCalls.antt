@@ -1,9 +1,9 @@
 -- The calls on the worked files, by computation.
 use mathlib.Core.Path.{refl}
 use Rattle.bsii_format.specs.Worked.{Hold}
-use Rattle.bsii_format.specs.WorkedCalls.{redefinedFile, regroupedFile, twinFile, enumFile, unlistedEnumFile, readings, prototypes, blocks, namedBlocks, workedPart, fields, parts, elements, texts}
+use Rattle.bsii_format.specs.WorkedCalls.{redefinedFile, recountedFile, twinFile, enumFile, unlistedEnumFile, readings, prototypes, blocks, namedBlocks, workedPart, fields, parts, elements, texts}
 use Rattle.bsii_format.proofs.Worked.{computes}
 
 pub calls-hold : Hold readings × Hold prototypes × Hold blocks × Hold namedBlocks × Hold fields × Hold parts × Hold elements × Hold texts
-unfolding computes redefinedFile regroupedFile twinFile enumFile unlistedEnumFile readings prototypes blocks namedBlocks workedPart fields parts elements texts
+unfolding computes redefinedFile recountedFile twinFile enumFile unlistedEnumFile readings prototypes blocks namedBlocks workedPart fields parts elements texts
 calls-hold = (refl, refl, refl, refl, refl, refl, refl, refl)

@@ -36,8 +36,8 @@ redefinedFile =
 
 -- 104 bytes: the block at 44 has a u32 at 49 and a bool at 53; the last definition of its id, at 54, has an i64 for the u32, so that `g` would stand
 -- elsewhere, and one field more
-unfoldable pub regroupedFile : List ℕ
-regroupedFile =
+unfoldable pub recountedFile : List ℕ
+recountedFile =
     fileWith (
     prototypeRecord 1 (ascii "p") (definition 0x27 (ascii "f") ++ definition 0x35 (ascii "g")) ++ u32 1 ++ le 1 0 ++ u32 9 ++ le 1 1
     ++ prototypeRecord 1 (ascii "p") (definition 0x31 (ascii "f") ++ definition 0x35 (ascii "g") ++ definition 0x01 (ascii "h"))
@@ -69,6 +69,25 @@ shortenedFile = take 77 workedFile ++ prototypeRecord 7 (ascii "trip") [] ++ dro
 unfoldable pub unlistedEnumFile : List ℕ
 unlistedEnumFile = take 35 (workedWith 25 0x37) ++ u32 0 ++ drop 35 workedFile
 
+-- prototype 1 with the definitions `first`; a block of it with the u32 5; prototype 1 again, with the definitions `last`
+abbrev pub againFile : List ℕ → List ℕ → List ℕ
+againFile first last = fileWith (prototypeRecord 1 (ascii "p") first ++ u32 1 ++ le 1 0 ++ u32 5 ++ prototypeRecord 1 (ascii "p") last)
+
+-- a field `e`, as a u32 and as an enum with the list 5 `five`; behind the latter the block of `againFile` is at 51 and its value at 56
+abbrev pub plainField : List ℕ
+plainField = definition 0x27 (ascii "e")
+
+abbrev pub fiveField : List ℕ
+fiveField = definition 0x37 (ascii "e") ++ u32 1 ++ u32 5 ++ string (ascii "five")
+
+-- the save of FORMAT.md on why no prototype id may be defined twice: 85 bytes, and `more` behind the definition of `b`, `value` behind each value
+abbrev pub twiceFile : List ℕ → List ℕ → List ℕ
+twiceFile more value =
+    fileWith (
+    prototypeRecord 1 (ascii "p") (definition 0x27 (ascii "a")) ++ u32 1 ++ le 1 0 ++ u32 1 ++ value
+    ++ prototypeRecord 1 (ascii "p") (definition 0x27 (ascii "b") ++ more) ++ u32 1 ++ le 1 0 ++ u32 2 ++ value
+    )
+
 -- ---- look-ups; the first argument of a call is the number of table words
 
 abbrev pub place : ℕ → ℕ → Place
@@ -84,7 +103,11 @@ readings =
     readingCall 9 twinFile says reads 3 2 127 ∷
     readingCall 8 twinFile says refusal tableFull 83 ∷
     readingCall 0 (fileWith []) says reads 0 0 13 ∷
-    readingCall 3 (workedWith 12 2) says refusal malformed 12 ∷ []
+    readingCall 3 (workedWith 12 2) says refusal malformed 12 ∷
+    readingCall 2 (workedWith 43 0xff) says refusal notUtf8 43 ∷
+    readingCall 2 (workedWith 48 8) says refusal tableFull 8 ∷
+    readingCall 3 (twiceFile [] []) says reads 1 2 85 ∷
+    readingCall 3 (twiceFile (definition 0x27 (ascii "c")) (u32 3)) says refusal undefinedPrototype 44 ∷ []
 
 abbrev pub defines : Place → ℕ → Reply PrototypeAnswer
 defines name fields = gives (record { name = name; fields = fields })
@@ -131,9 +154,10 @@ fields =
     fieldCall 3 workedFile 1 (ascii "km") says refusal absent 0 ∷
     fieldCall 3 redefinedFile 0 (ascii "g") says carries 0x27 40 (u32 9) ∷
     fieldCall 3 redefinedFile 0 (ascii "f") says refusal absent 0 ∷
-    fieldCall 3 regroupedFile 0 (ascii "f") says carries 0x27 49 (u32 9) ∷
-    fieldCall 3 regroupedFile 0 (ascii "g") says carries 0x35 53 (le 1 1) ∷
-    fieldCall 3 regroupedFile 0 (ascii "h") says refusal absent 0 ∷
+    fieldCall 3 recountedFile 0 (ascii "f") says carries 0x27 49 (u32 9) ∷
+    fieldCall 3 recountedFile 0 (ascii "g") says carries 0x35 53 (le 1 1) ∷
+    fieldCall 3 recountedFile 0 (ascii "h") says refusal absent 0 ∷
+    fieldCall 3 (againFile plainField (plainField ++ definition 0x35 (ascii "x") ++ definition 0x27 (ascii "x"))) 0 (ascii "x") says refusal absent 0 ∷
     fieldCall 9 twinFile 0 (ascii "x") says carries 0x01 75 (string (ascii "hi")) ∷
     fieldCall 9 twinFile 1 (ascii "x") says refusal absent 0 ∷
     fieldCall 3 enumFile 0 (ascii "e") says carries 0x37 67 (u32 5) ∷
@@ -209,5 +233,9 @@ texts =
     textCall 0 (fileWith []) (replicate 13 1) says written (ascii "SiiNunit\n{\n}\n") [] ∷
     textCall 3 redefinedFile (replicate 33 1) says written (ascii "SiiNunit\n{\nq : null {\n  g: 9\n}\n}\n") [] ∷
     textCall 3 enumFile (replicate 36 1) says written (ascii "SiiNunit\n{\np : null {\n  e: high\n}\n}\n") [] ∷
-    textCall 3 regroupedFile [] says unwritten fieldCount 44 0 [] ∷
-    textCall 3 unlistedEnumFile [] says unwritten enumValue 65 0 [] ∷ []
+    textCall 3 recountedFile [] says unwritten fieldCount 44 0 [] ∷
+    textCall 3 unlistedEnumFile [] says unwritten enumValue 65 0 [] ∷
+    textCall 3 (againFile fiveField (definition 0x37 (ascii "e") ++ u32 0 ++ plainField)) [] says unwritten fieldCount 51 0 [] ∷
+    textCall 3 (againFile fiveField plainField) [] says unwritten enumValue 56 0 [] ∷
+    textCall 3 (againFile plainField fiveField) (replicate 33 1) says written (ascii "SiiNunit\n{\np : null {\n  e: 5\n}\n}\n") [] ∷
+    textCall 3 (twiceFile [] []) (replicate 53 1) says written (ascii "SiiNunit\n{\np : null {\n  b: 1\n}\np : null {\n  b: 2\n}\n}\n") [] ∷ []

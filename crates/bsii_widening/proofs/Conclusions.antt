@@ -1,4 +1,4 @@
--- What follows from demand 3, from the statement alone: 01's sentences with every word open, so that a claim that says less is not enough for them.
+-- What follows from demand 3, from the statement alone: each part of the claim by itself, so that a claim that says less is not enough for it.
 use mathlib.Core.Path.{_≡_, _∙_}
 use Prim.Native.Nat.{ℕ, _≤_}
 use mathlib.Core.Option.{Option, none, some}
@@ -13,12 +13,16 @@ use Rattle.bsii_format.specs.File.{BsiiFile, fileBytes, distinctIds, prototypes
 use Rattle.bsii_format.specs.Text.{valueText}
 use Rattle.bsii_format.specs.Calls.{blocksOf, readingOf, readingCall, FieldAnswer, fieldCall, textAnswer, textCall}
 use Rattle.bsii_format.proofs.ReplyLaws.{text-fits}
-use Rattle.bsii_widening.specs.Marks.{all, olds, newRecords, markRecords}
+use Rattle.bsii_widening.specs.Marks.{all, olds, newRecords, oldRecords, markRecords}
 use Rattle.bsii_widening.specs.Insertions.{Insertion, aField, insert, DefinitionAllowed, AllAllowed}
 use Rattle.bsii_widening.specs.Parts.{concat, textParts, renumber}
 use Rattle.bsii_widening.specs.Claim.{OldSave, widened, newSave, newFile, Room, StillConverts, firstCarried, AfterLast, Demand3}
 
 module _ (claim : Demand3) {words : ℕ} {s out : List ℕ} {f : BsiiFile} {at : ℕ} {r : List ℕ} {size : ℕ} (o : OldSave words s out f at r size) (l : List Insertion) (a : AllAllowed l (markRecords (f .records))) (words′ : ℕ) where
+  -- the old save is the file in which nothing was inserted
+  pub nothing-inserted : s ≡ newFile f r (markRecords (f .records))
+  nothing-inserted = claim words s out f at r size o l a words′ .0
+
   module _ (m : Room lengthLimit words′ f r (widened f l)) where
     still : StillConverts words s out f r size words′ (widened f l)
     still = claim words s out f at r size o l a words′ .1 m
@@ -37,6 +41,9 @@ module _ (claim : Demand3) {words : ℕ} {s out : List ℕ} {f : BsiiFile} {at :
 
     pub left : concat (olds (textParts valueText (widened f l))) ≡ take size (textCall words s out .output)
     left = still .leftOut
+
+    pub unmarked : oldRecords (widened f l) ≡ f .records
+    unmarked = still .anchored
 
     pub finds : (k : ℕ) (name : List ℕ) (v : FieldAnswer) → fieldCall words s k name ≡ gives v
         → (b : FieldAnswer) × (fieldCall words′ (newFile f r (widened f l)) (renumber (widened f l) k) name ≡ gives b) × (b .typeId ≡ v .typeId) × (b .bytes ≡ v .bytes)
@@ -78,5 +85,11 @@ module _ (claim : Demand3) {words : ℕ} {s out : List ℕ} {f : BsiiFile} {at :
     pub unused-converts : first ≡ none → StillConverts words s out f r size words′ (insert (aField n p d v) (widened f l))
     unused-converts = last .unused
 
-    pub seven-means : (x : ℕ) → readingCall words′ (newFile f r (insert (aField n p d v) (widened f l))) ≡ refusal 7 x → first ≡ some x
-    seven-means x e = last .exactly .reading x .0 e
+    pub reading-means : (x : ℕ) → readingCall words′ (newFile f r (insert (aField n p d v) (widened f l))) ≡ refusal 7 x → first ≡ some x
+    reading-means x e = last .exactly .reading x .0 e
+
+    pub field-means : (k : ℕ) (name : List ℕ) (x : ℕ) → fieldCall words′ (newFile f r (insert (aField n p d v) (widened f l))) k name ≡ refusal 7 x → first ≡ some x
+    field-means k name x e = last .exactly .field k name x .0 e
+
+    pub text-means : (out′ : List ℕ) (x : ℕ) → textCall words′ (newFile f r (insert (aField n p d v) (widened f l))) out′ .reply ≡ refusal 7 x → first ≡ some x
+    text-means out′ x e = last .exactly .text out′ x .0 e

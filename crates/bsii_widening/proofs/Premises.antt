@@ -20,7 +20,7 @@ use Rattle.bsii_format.specs.Text.{firstSome, enumString}
 use Rattle.bsii_format.specs.Calls.{textCall}
 use Rattle.bsii_format.proofs.Readers.{same→eq}
 use Rattle.bsii_widening.specs.Marks.{old, inserted, unmark, MarkedBlock, markedPrototype, markedBlock, MarkedRecords, newBlock, newRecords}
-use Rattle.bsii_widening.specs.Insertions.{Insertion, insert, insertAll, numericListed, elementListed, ElementsListed, EnumListed, EnumsListed, hasName, ValueAllowed, ValuesAllowed, FieldAllowed, PrototypeAllowed, BlockAllowed, Allowed, AllAllowed, definesId, NoIdTwice}
+use Rattle.bsii_widening.specs.Insertions.{Insertion, aField, aPrototype, aBlock, insert, insertAll, numericListed, elementListed, ElementsListed, EnumListed, EnumsListed, hasName, ValueAllowed, ValuesAllowed, Allowed, AllAllowed, definesId, NoIdTwice}
 use Rattle.bsii_widening.specs.Claim.{OldSave, newFile, Room}
 use Rattle.bsii_widening.specs.Observers.{Old}
 use Rattle.bsii_widening.proofs.Environments.{none≢some, some-inj}
@@ -144,7 +144,7 @@ any-values n d v k (inserted (markedBlock b) ∷ l) h =
 
 pub any-field : (n p : ℕ) (d : Consumed ValuePrototype) (v : ℕ → DataValue) (M : MarkedRecords) (q : Prototype) → getPrototype n (prototypesOf (newRecords M)) ≡ some q → p ≤ length (q .fields)
     → WellFormed valuePrototypeParser (some (d .value)) (d .raw) → ((i : ℕ) (f : Consumed ValuePrototype) → At (q .fields) i f → d .value .name ≡ f .value .name → ⊥)
-    → ((i : ℕ) (b : DataBlock) → At (blocks (newRecords M)) i b → b .prototypeId ≡ n → GoodFor d (v i)) → FieldAllowed n p d v M
+    → ((i : ℕ) (b : DataBlock) → At (blocks (newRecords M)) i b → b .prototypeId ≡ n → GoodFor d (v i)) → Allowed (aField n p d v) M
 any-field n p d v M q e m w name values = record {
   definition = record { of = q; defined = e; position = m; wellFormed = w; newName = any-name (d .value .name) (q .fields) name };
   values = any-values n d v 0 M (λ i j b z. subst (λ x. At (blocks (newRecords M)) x b → b .prototypeId ≡ n → GoodFor d (v j)) (omega arith) (values j b));
@@ -166,15 +166,15 @@ unknown n (prototype p ∷ l) env e h = unknown n l (p ∷ env) (go (eqb n (p .i
     go true f = absurd (f tt)
     go false f = e
 
-pub any-prototype : (p : Prototype) (M : MarkedRecords) → WellFormed (recordParser []) (more (prototype p)) (recordBytes (prototype p)) → Nowhere (p .id) (newRecords M) → PrototypeAllowed p M
+pub any-prototype : (k : ℕ) (p : Prototype) (M : MarkedRecords) → WellFormed (recordParser []) (more (prototype p)) (recordBytes (prototype p)) → Nowhere (p .id) (newRecords M) → Allowed (aPrototype k p) M
 unfolding prototypesOf findBy
-any-prototype p M w h = record { wellFormed = w; undefined = unknown (p .id) (newRecords M) [] refl h }
+any-prototype k p M w h = record { wellFormed = w; undefined = unknown (p .id) (newRecords M) [] refl h }
 
 -- ---- (iii) "a whole block after its prototype"
 
 pub any-block : (k : ℕ) (b : DataBlock) (M : MarkedRecords) → WellFormed (recordParser (prototypesOf (take k (newRecords M)))) (more (block b)) (recordBytes (block b))
     → ((q : Prototype) (i : ℕ) (f : Consumed ValuePrototype) (v : DataValue) → getPrototype (b .prototypeId) (prototypesOf (newRecords M)) ≡ some q → At (q .fields) i f → At (b .values) i v → AllStand (f .value) (v .value))
-    → BlockAllowed k b M
+    → Allowed (aBlock k b) M
 any-block k b M w h = record { wellFormed = w; enums = λ q e. any-row (q .fields) (b .values) (λ i f v. h q i f v e) }
 
 -- ---- the list, "the empty one included", and the save

@@ -59,7 +59,7 @@ FieldSurvives =
     (k : ℕ) (name : List ℕ)
     → Survives (λ f at. orAbsent (fieldOf k name f)) (λ M f at. orAbsent (fieldOf (renumber M k) name f)) Always (λ M a b. (b .typeId ≡ a .typeId) × (b .bytes ≡ a .bytes))
 
--- the reading call: an inserted prototype or block counts one more, and the offset behind the end record is the new file's
+-- the reading call: an inserted prototype or block counts one more
 abbrev pub ReadingSurvives : Type 0
 ReadingSurvives =
     Survives (λ f at. gives (readingOf f at)) (λ M f at. gives (readingOf f at)) Always
