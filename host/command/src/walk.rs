@@ -192,7 +192,7 @@ mod tests {
     }
 
     #[test]
-    fn an_unlisted_type_and_a_stranger() {
+    fn an_unlisted_type_and_an_undefined_prototype() {
         let mut file = save();
         file[34] = 0x08;
         let place = place_of(&file, 66).unwrap();
