@@ -18,16 +18,17 @@ use Rattle.bsii_format.specs.BlockText.{orRefuse}
 use Rattle.bsii_format.specs.Calls.{dString, dId, numericDatum, datumOf, datum, Placed, placed, elementsOf, ofValue}
 use Rattle.bsii_format.proofs.Readers.{after-ok, map-ok, cond-ok, ok-val, ok-at, map-fault, fault≢ok, fault-is}
 use Rattle.bsii_format.proofs.Parsers.{element-exact, id-exact}
-use Rattle.bsii_format.proofs.Positions.{ended, moved, moved-on, map-value, ended-consumed}
+use Rattle.bsii_format.proofs.Positions.{ended, ended-ok, moved, moved-on, map-value, ended-consumed}
 use Rattle.bsii_value.specs.Answers.{endOf}
+use Rattle.bsii_value.specs.declared.answers.Parsed.{Parsed}
 use Rattle.bsii_value.specs.declared.answers.Parsed.the-variants.{Next, Fault}
-use Rattle.bsii_value.proofs.Ends.{answer}
 use Rattle.bsii_value.proofs.Elements.{one-end}
+use Rattle.bsii_past.specs.Unchecked.{uncheckedElement}
+use Rattle.bsii_past.proofs.Values.{elements-same}
 use Rattle.bsii_float.specs.NumbersAt.{numberAt, numbersAt}
 use Rattle.bsii_float.proofs.NumbersAt.{number-moves, number-is, numbers-are, row-length}
 use Rattle.bsii_element.specs.Decoded.{decoded}
-use Rattle.bsii_element.specs.Unchecked.{startsAt}
-use Rattle.bsii_element.proofs.Ended.{next-ok, fault-not}
+use Rattle.bsii_element.proofs.Ended.{next-is, next≢fault, next-ok, fault-not}
 use Rattle.bsii_element.proofs.Standing.{standing, step, absent-past, extent, at-offset}
 
 -- the faults of an element and of a value are the call's
@@ -185,18 +186,25 @@ module _ (k : Kind) (s : List ℕ) {n : ℕ} (e : Next n ≡ endOf (shapeParser 
       let l : length (a .elements) ≡ numberAt 4 s 0 = row-length (numberAt 4 s 0) (consumed (elementParser k)) 4 (drop 4 s) (a .row) in
       value-absent (array (a .elements)) n (a .rest) i (absent-past extent 4 (a .elements) i (omega arith)) ∙ ap (ofValue i) (sym (a .value))
 
-  -- the element stands where i elements end, and there they end
-  pub array-there : i < numberAt 4 s 0 → (p : ℕ) × (Next p ≡ endOf (repeat i (elementParser k) 4 (drop 4 s))) × (decoded p (elementParser k p (drop p s)) ≡ ofValue i (shapeParser (some (many k)) 0 s))
-  unfolding elementsOf endOf
+  -- the element stands where i elements end, for the walk that checks nothing too
+  pub array-there : i < numberAt 4 s 0 → (p : ℕ) × (endOf (repeat i (uncheckedElement k) 4 (drop 4 s)) ≡ Next p) × (decoded p (elementParser k p (drop p s)) ≡ ofValue i (shapeParser (some (many k)) 0 s))
+  unfolding elementsOf
   array-there h =
       let a = array-read k s e in
       let x = standing (element-exact k) s (numberAt 4 s 0) 4 (a .row) i h in (
         x .start,
-        answer (repeat i (elementParser k) 4 (drop 4 s)) (ok tt (x .start) (drop (x .start) s)) (x .passed),
+        elements-same k i 4 (drop 4 s) (ended-ok (repeat i (elementParser k) 4 (drop 4 s)) (x .passed) .1),
         decoded-there k s (x .start) (x .it) (x .reads) (x .long)
             ∙ value-there (array (a .elements)) n (a .rest) i (x .found)
             ∙ ap (ofValue i) (sym (a .value)),
       )
 
-  pub array-element : (r : ℕ) → startsAt k s i r → i < numberAt 4 s 0 → decoded r (elementParser k r (drop r s)) ≡ ofValue i (shapeParser (some (many k)) 0 s)
-  array-element r starts h = let x = array-there h in ap (λ (p : ℕ). decoded p (elementParser k p (drop p s))) (starts (x .0) (x .1)) ∙ x .2
+  module _ (h : i < numberAt 4 s 0) {q : Parsed} (u : q ≡ endOf (repeat i (uncheckedElement k) 4 (drop 4 s))) where
+    pub array-element : {r : ℕ} → q ≡ Next r → decoded r (elementParser k r (drop r s)) ≡ ofValue i (shapeParser (some (many k)) 0 s)
+    array-element {r} g =
+        let x = array-there h in
+        let p : r ≡ x .0 = next-is (sym g ∙ u ∙ x .1) in
+        ap (λ (p : ℕ). decoded p (elementParser k p (drop p s))) p ∙ x .2
+
+    pub array-ends : {P : Type 0} {n o : ℕ} → q ≡ Fault n o → P
+    array-ends g = next≢fault (sym (array-there h .1) ∙ sym u ∙ g)

@@ -8,8 +8,11 @@ use Rattle.bsii_value.specs.Answers.{endOf}
 use Rattle.bsii_value.specs.declared.answers.Parsed.{Parsed}
 use Rattle.bsii_value.specs.declared.answers.Parsed.the-variants.{Next, Fault}
 
-next≢fault : {P : Type 0} {n k at : ℕ} → _≡_ {A = Parsed} (Next n) (Fault k at) → P
+pub next≢fault : {P : Type 0} {n k at : ℕ} → _≡_ {A = Parsed} (Next n) (Fault k at) → P
 next≢fault e = let z : _≡_ {A = ℕ} 0 1 = cc in absurd (omega arith)
+
+pub next-is : {m n : ℕ} → _≡_ {A = Parsed} (Next m) (Next n) → m ≡ n
+next-is e = cc
 
 -- a result that ends there was accepted
 pub next-ok : {A : Type 0} (q : Result A) {n : ℕ} → Next n ≡ endOf q → (a : A) × (r : List ℕ) × (q ≡ ok a n r)

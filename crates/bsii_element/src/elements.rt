@@ -1,8 +1,8 @@
 // One element of a value.
 use crate::answers::Element;
 use crate::numeric::numeric;
-use crate::skips::start_of;
 use bsii_float::numbers::u32_at;
+use bsii_past::elements_past;
 use bsii_value::answers::Parsed;
 use bsii_value::answers::Word;
 use bsii_value::numbers::size;
@@ -21,8 +21,7 @@ ghost use Rattle.bsii_format.specs.Values.{elementParser, shapeParser};
 ghost use Rattle.bsii_format.specs.Calls.{ofValue, elementCall};
 ghost use Rattle.bsii_value.specs.Kinds.{kindIs};
 ghost use Rattle.bsii_element.specs.Cases.{elementIs};
-ghost use Rattle.bsii_element.specs.Decoded.{decoded};
-ghost use Rattle.bsii_element.specs.Unchecked.{answersAt};
+ghost use Rattle.bsii_element.specs.Decoded.{decoded, answersAt};
 
 fn text(s: &[u8], at: usize) -> Element
     ensures { λ r. ⌜ elementIs r ≡ decoded at (elementParser string at (drop at (now (s .entry)))) ⌝ }
@@ -90,7 +89,7 @@ fn single(part: &[u8], kind: Kind, index: usize) -> Element
     }
 }
 
-// An element of an array that was accepted.
+// An element of an array that was accepted, so nothing is checked on the way to it, and no refusal is met there.
 fn in_array(part: &[u8], kind: Kind, index: usize) -> Element
     ensures { λ r. ⌜ answersAt (kindIs kind) (now (part .entry)) index (elementIs r) ⌝ }
 {
@@ -101,7 +100,11 @@ fn in_array(part: &[u8], kind: Kind, index: usize) -> Element
             offset: 0,
         };
     }
-    decode(part, start_of(part, kind, index as u32), kind)
+    let start = elements_past(part, 4, index as u32, kind);
+    match start {
+        Parsed::Next(at) => decode(part, at, kind),
+        Parsed::Fault { number, offset } => Element::Refused { number, offset },
+    }
 }
 
 // The element at the index of the value that the slice starts with. The value is read whole before the index is looked at.

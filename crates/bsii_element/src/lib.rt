@@ -2,4 +2,3 @@
 pub mod answers;
 pub mod elements;
 mod numeric;
-mod skips;

@@ -12,14 +12,11 @@ use bsii_float::numbers::u16_at;
 use bsii_float::numbers::u32_at;
 use bsii_float::numbers::u64_at;
 use bsii_value::answers::Parsed;
-use bsii_value::numbers::size;
 use bsii_value::types::Kind;
 use bsii_value::types::Numeric;
-use bsii_value::types::arity as arity_of;
-use bsii_value::types::width as width_of;
 use bsii_value::values::element_parser;
 ghost use mathlib.Core.Path.{_≡_};
-ghost use Prim.Native.Nat.{_+_, _*_, _≤_};
+ghost use Prim.Native.Nat.{_≤_};
 ghost use lib.Ieee.{binary32, ofBits};
 ghost use lib.ListN.{length, drop};
 ghost use Rattle.bsii_format.specs.Replies.{gives};
@@ -95,13 +92,6 @@ fn int3_at(s: &[u8], at: usize) -> Int3
         b: u32_at(s, at + 4),
         c: u32_at(s, at + 8),
     }
-}
-
-// How many bytes an element has.
-pub fn numeric_size(n: Numeric) -> usize
-    ensures { λ r. ⌜ r ≡ arity (numericIs n) * width (numericIs n) ⌝ }
-{
-    size(arity_of(n)) * size(width_of(n))
 }
 
 // An element whose bytes are there. The bound keeps the offsets of its numbers from wrapping.
