@@ -9,6 +9,7 @@ use Rattle.bsii_format.specs.Reader.{ok}
 use Rattle.bsii_format.specs.Prototypes.{Prototype}
 use Rattle.bsii_format.specs.Calls.{Placed, prototypeAnswer, prototypesIn, placedRecords, prototypeOf, prototypeCall, orAbsent}
 use Rattle.bsii_format.specs.BlockText.{orRefuse}
+use Rattle.bsii_format.proofs.Follows.{again}
 use Rattle.bsii_value.specs.Answers.{endOf, uncheckedStr}
 use Rattle.bsii_value.specs.declared.answers.Parsed.{Parsed}
 use Rattle.bsii_value.specs.declared.answers.Parsed.the-variants.{Next, Fault}
@@ -16,7 +17,7 @@ use Rattle.bsii_prototype.specs.Entries.{fieldsWith, uncheckedHead}
 use Rattle.bsii_prototype.specs.Answers.{countOf}
 use Rattle.bsii_prototype.specs.declared.answers.Counted.{Counted}
 use Rattle.bsii_prototype.specs.declared.answers.Counted.the-variants as counted
-use Rattle.bsii_prototype.proofs.Agrees.{fields-agree}
+use Rattle.bsii_prototype.proofs.Unchecked.{fields-follow}
 use Rattle.bsii_prototype.proofs.Beginnings.{head-past}
 use Rattle.bsii_table.specs.Rows.{lookup}
 use Rattle.bsii_table.specs.Table.{foundRow}
@@ -47,7 +48,7 @@ module _ (s : List ℕ) (o : ℕ) {h : Parsed} (e : h ≡ endOf (uncheckedHead o
     unfolding countOf
     counts p x =
         let i : first ≡ x .fields = at-is (sym z ∙ standing s o e p x) in
-        (i, d ∙ ap (λ (n : ℕ). countOf (fieldsWith uncheckedStr n (drop n s))) i ∙ ap countOf (fields-agree .reads (x .fields) (drop (x .fields) s) (x .list)))
+        (i, d ∙ ap (λ (n : ℕ). countOf (fieldsWith uncheckedStr n (drop n s))) i ∙ ap countOf (again fields-follow (x .fields) (drop (x .fields) s) (x .list)))
       where
         at-is : {a b : ℕ} → _≡_ {A = Parsed} (Next a) (Next b) → a ≡ b
         at-is y = cc

@@ -5,6 +5,7 @@ pub mod Keys
 pub mod Sequences
 pub mod Ends
 pub mod Texts
+pub mod Unchecked
 pub mod Base38
 pub mod Words
 pub mod TypeTable

@@ -7,7 +7,7 @@ use borrow.Author.Needs.{needs}
 use Rattle.bsii_value.specs.Answers.{endOf}
 use Rattle.bsii_prototype.proofs.Names.{checked}
 use Rattle.bsii_prototype.proofs.Entries.{name-bad, name-fits, list-bad, field-whole}
-use Rattle.bsii_prototype.proofs.Agrees.{checked-enum-values}
+use Rattle.bsii_prototype.proofs.Unchecked.{checked-enum-values}
 use Rattle.bsii_prototype.proofs.fields.definition_parser.Statement.{statement}
 use Rattle.bsii_prototype.proofs.fields.definition_parser.Tie as tie
 
