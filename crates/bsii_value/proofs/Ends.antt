@@ -27,7 +27,7 @@ answer q x e = sym (end-ended q ∙ ap endOf e)
 pub mapped : {A B : Type 0} (f : A → B) (R : Reader A) (at : ℕ) (s : List ℕ) → endOf ((f <$> R) at s) ≡ endOf (R at s)
 mapped f R at s = alike ((f <$> R) at s) (R at s) (ended-map f R at s)
 
-next≢fault : {P : Type 0} {n : ℕ} {f : Refusal} → _≡_ {A = Parsed} (Next n) (Fault f) → P
+pub next≢fault : {P : Type 0} {n : ℕ} {f : Refusal} → _≡_ {A = Parsed} (Next n) (Fault f) → P
 next≢fault e = let z : _≡_ {A = ℕ} 0 1 = cc in let f : ⊥ = omega arith in absurd f
 
 pub next-ended : {A : Type 0} {R : Reader A} → Exact A R → (s : List ℕ) (at : ℕ) {n : ℕ} → Next n ≡ endOf (R at (drop at s)) → ended (R at (drop at s)) ≡ ok tt n (drop n s)
