@@ -17,6 +17,7 @@ use Rattle.bsii_format.proofs.Parsers.{number-exact, str-exact, valuePrototype-
 use Rattle.bsii_format.proofs.Positions.{moved, moved-on}
 use Rattle.bsii_format.proofs.Follows.{again}
 use Rattle.bsii_value.specs.Answers.{uncheckedStr}
+use Rattle.bsii_value.specs.declared.answers.Refusal.{Refusal}
 use Rattle.bsii_prototype.specs.Entries.{enumValuesWith, definitionWith, entryWith, fieldsWith}
 use Rattle.bsii_prototype.specs.Answers.{entryOf, countOf}
 use Rattle.bsii_prototype.specs.declared.answers.Entry.the-variants.{Field, Last, Bad}
@@ -169,7 +170,7 @@ module _ (s : List ℕ) (at : ℕ) {l : Fields} {n : ℕ} {r : List ℕ} (read :
       go (step d i m f g h) = field≢last (sym (e ∙ unchecked-entry f))
 
   -- what was accepted is not refused
-  pub turn-bad : {P : Type 0} {k p : ℕ} → Bad k p ≡ entryOf (at + 8) (entryWith uncheckedStr at (drop at s)) → P
+  pub turn-bad : {P : Type 0} {f : Refusal} → Bad f ≡ entryOf (at + 8) (entryWith uncheckedStr at (drop at s)) → P
   unfolding entryOf
   turn-bad {P} e = go (turn s at read)
     where
