@@ -2,3 +2,4 @@
 pub mod answers;
 pub mod elements;
 mod numeric;
+pub mod signed;

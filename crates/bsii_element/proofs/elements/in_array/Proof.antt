@@ -1,6 +1,9 @@
-use mathlib.Core.Path.{_∙_}
+use mathlib.Core.Path.{ap, _∙_}
 use native.Mathlib.Omega.{arith}
 use denote.Ref.{now}
+use Rattle.bsii_format.specs.Replies.{refuses}
+use Rattle.bsii_value.specs.Answers.{faultIs}
+use Rattle.bsii_value.specs.declared.answers.Refusal.{Refusal}
 use Rattle.bsii_value.specs.Kinds.{kindIs}
 use Rattle.bsii_element.proofs.Call.{array-absent, array-element, array-ends}
 use borrow.Author.Needs.{needs}
@@ -13,8 +16,13 @@ u32-at-requires c κs = search needs
 size-requires : tie.Need-size-requires
 size-requires c κs = search needs
 
+refused-requires : tie.Need-refused-requires
+refused-requires c κs = search needs
+
 returns : tie.Need-returns
-returns c = λ n e. let a = c .before .before .before .before .args in array-absent (kindIs (a .kind)) (now (a .part)) e (a .index) (omega arith)
+returns c = λ n e.
+    let a = c .before .before .before .before .before .args in
+    ap (λ (f : Refusal). refuses (faultIs f)) (c .refused .ensures) ∙ array-absent (kindIs (a .kind)) (now (a .part)) e (a .index) (omega arith)
 
 cast-elements-past : tie.Need-cast-elements-past
 cast-elements-past c = search needs
@@ -52,6 +60,7 @@ in-array-spec =
     (tie.spec
     u32-at-requires
     size-requires
+    refused-requires
     returns
     cast-elements-past
     elements-past-requires
