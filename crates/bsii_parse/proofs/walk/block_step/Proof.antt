@@ -11,8 +11,11 @@ find-requires c κs = search needs
 enum-told : tie.Need-enum-told
 enum-told c = search needs
 
+refused-requires : tie.Need-refused-requires
+refused-requires c κs = search needs
+
 returns : tie.Need-returns
-returns c = let a = c .before .before .before .before .before .args in carrying-undefined (now (a .s)) (a .p) (now (a .table)) (a .id) (a .id-at) (c .before .before .find .ensures) (c .enum-told .given .1)
+returns c = let a = c .before .before .before .before .before .before .args in rw (c .refused .ensures) (carrying-undefined (now (a .s)) (a .p) (now (a .table)) (a .id) (a .id-at) (c .before .before .before .find .ensures) (c .before .enum-told .given .1))
 
 enum-known-found : tie.Need-enum-known-found
 enum-known-found c = search needs
@@ -46,6 +49,7 @@ block-step-spec =
     (tie.spec
     find-requires
     enum-told
+    refused-requires
     returns
     enum-known-found
     size-requires

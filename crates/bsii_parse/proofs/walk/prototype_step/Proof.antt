@@ -26,12 +26,16 @@ define-requires c κs = search needs
 enum-told : tie.Need-enum-told
 enum-told c = search needs
 
+refused-requires : tie.Need-refused-requires
+refused-requires c κs = search needs
+
 same-length : tie.Need-same-length
 same-length c = search needs
 
 returns-2 : tie.Need-returns-2
-returns-2 c = let a = c .before .before .before .before .before .before .before .before .before .before .before .before .before .args in
-    defining-full (now (a .s)) (a .p) (now (a .table)) (a .id) (a .fields) (sym (c .before .before .before .before .before .before .before .before .list2 .given .1) ∙ c .before .before .before .before .before .before .before .before .before .before .fields-parser .ensures) (c .before .before .before .before .before .word .ensures) (c .before .before .before .before .define .ensures) (c .enum-told .given .1)
+returns-2 c =
+    let a = c .before .before .before .before .before .before .before .before .before .before .before .before .before .before .args in
+    rw (c .refused .ensures) (defining-full (now (a .s)) (a .p) (now (a .table)) (a .id) (a .fields) (sym (c .before .before .before .before .before .before .before .before .before .list2 .given .1) ∙ c .before .before .before .before .before .before .before .before .before .before .before .fields-parser .ensures) (c .before .before .before .before .before .before .word .ensures) (c .before .before .before .before .before .define .ensures) (c .before .enum-told .given .1))
 
 enum-known-defined : tie.Need-enum-known-defined
 enum-known-defined c = search needs
@@ -54,6 +58,7 @@ prototype-step-spec =
     word-requires
     define-requires
     enum-told
+    refused-requires
     same-length
     returns-2
     enum-known-defined
