@@ -1,14 +1,13 @@
 -- A block's values under its definitions, one after the other: what a turn of the loop over them keeps.
-use mathlib.Core.Path.{_≡_, refl, sym, ap, _∙_, subst}
-use Prim.Native.Nat.{ℕ, _+_, _-_, _≤_, _<_}
-use native.Mathlib.Omega.{arith}
+use mathlib.Core.Path.{_≡_, refl, sym, ap, _∙_}
+use Prim.Native.Nat.{ℕ, _+_, _-_, _<_}
 use mathlib.Core.List.{List, [], _∷_}
-use lib.ListN.{length, take, drop}
-use Rattle.bsii_format.specs.Reader.{Result, ok, fault, after, _>>=_, success, _<$>_, Consumed, with, consumed}
+use lib.ListN.{take, drop}
+use Rattle.bsii_format.specs.Reader.{ok, fault, after, _>>=_, success, _<$>_, Consumed, with, consumed}
 use Rattle.bsii_format.specs.Strings.{idParser}
-use Rattle.bsii_format.specs.Values.{Value, valueParser}
+use Rattle.bsii_format.specs.Values.{valueParser}
 use Rattle.bsii_format.specs.Prototypes.{ValuePrototype, Prototype, Fields, consField, fieldsParser}
-use Rattle.bsii_format.specs.Blocks.{DataValue, dataValue, dataValueParser, dataValuesParser}
+use Rattle.bsii_format.specs.Blocks.{dataValue, dataValueParser, dataValuesParser}
 use Rattle.bsii_format.proofs.Parsers.{value-exact, id-exact}
 use Rattle.bsii_format.proofs.Positions.{ended, ended-after, ended-bind, ended-map, ended-consumed}
 use Rattle.bsii_value.specs.Answers.{faultIs, endOf, uncheckedStr}
@@ -18,9 +17,8 @@ use Rattle.bsii_value.specs.declared.answers.Parsed.the-variants.{Next, Fault}
 use Rattle.bsii_value.proofs.Ends.{end-ended, alike, next≢fault, next-ended, fault-ended}
 use Rattle.bsii_prototype.specs.Entries.{entryWith, uncheckedHead}
 use Rattle.bsii_prototype.specs.Answers.{entryOf}
-use Rattle.bsii_prototype.specs.declared.answers.Entry.{Entry}
 use Rattle.bsii_prototype.specs.declared.answers.Entry.the-variants.{Field, Last, Bad}
-use Rattle.bsii_prototype.proofs.Turns.{FieldTurn, turn-field, turn-last, turn-bad}
+use Rattle.bsii_prototype.proofs.Turns.{turn-field, turn-last, turn-bad}
 use Rattle.bsii_prototype.proofs.Beginnings.{head-next}
 use Rattle.bsii_parse.specs.Walks.{Stands, ValuesEnd, BlockEnd, StandingEnd}
 
@@ -60,10 +58,10 @@ pub record InStep (s : List ℕ) (fields start field at : ℕ) : Type 0 where
   pub rest : (l : Fields) (n : ℕ) (t : List ℕ) → fieldsParser fields (drop fields s) ≡ ok l n t
       → (k : Fields) × (fieldsParser field (drop field s) ≡ ok k n t) × (endOf (dataValuesParser (k .fields) at (drop at s)) ≡ endOf (dataValuesParser (l .fields) start (drop start s)))
 
-pub step-start : (s : List ℕ) (fields start : ℕ) → InStep s fields start fields start
-step-start s fields start = record { rest = λ l n t e. (l, e, refl) }
+pub step-start : {s : List ℕ} {fields start : ℕ} → InStep s fields start fields start
+step-start = record { rest = λ l n t e. (l, e, refl) }
 
-module _ (s : List ℕ) (fields start field at : ℕ) (i : InStep s fields start field at) where
+module _ {s : List ℕ} {fields start field at : ℕ} (i : InStep s fields start field at) where
   pub step-last : {n : ℕ} → Last n ≡ entryOf (field + 8) (entryWith uncheckedStr field (drop field s)) → ValuesEnd s fields start (Next at)
   step-last e = record {
     ends = λ l n t h.
@@ -100,7 +98,7 @@ module _ (s : List ℕ) (fields start field at : ℕ) (i : InStep s fields start
 
 -- ---- a block: its id in front of its values
 
-module _ (s : List ℕ) (fields at : ℕ) where
+module _ {s : List ℕ} {fields at : ℕ} where
   pub block-id-fault : {f : Refusal} → Fault f ≡ endOf (idParser at (drop at s)) → BlockEnd s fields at (Fault f)
   unfolding _>>=_ after endOf ended
   block-id-fault {f} e = record {
@@ -123,7 +121,7 @@ module _ (s : List ℕ) (fields at : ℕ) where
 standing-next : (s : List ℕ) (o : ℕ) (p : Prototype) (h : Stands s o p) {r : Parsed} → r ≡ endOf (uncheckedHead o (drop o s)) → r ≡ Next (h .fields)
 standing-next s o p h e = e ∙ head-next o (drop o s) (h .head)
 
-module _ (s : List ℕ) (o at : ℕ) {r : Parsed} (e : r ≡ endOf (uncheckedHead o (drop o s))) where
+module _ {s : List ℕ} {o at : ℕ} {r : Parsed} (e : r ≡ endOf (uncheckedHead o (drop o s))) where
   pub standing-fault : {f : Refusal} → r ≡ Fault f → (v : Parsed) → StandingEnd s o at v
   standing-fault z v = record { ends = λ p h. next≢fault (sym (standing-next s o p h e) ∙ z) }
 

@@ -2,23 +2,21 @@
 use mathlib.Core.Path.{_≡_, refl, sym, ap, ap₂, _∙_, subst}
 use Prim.Native.Nat.{ℕ, suc, _+_, _-_, _/_, _≤_, _<_}
 use native.Mathlib.Omega.{arith}
-use mathlib.Core.Bool.{true, false}
-use mathlib.Core.List.{List, [], _∷_, _++_}
+use mathlib.Core.List.{List, [], _∷_}
 use lib.ListN.{length, take, drop}
 use lib.Seq.{length-take-le}
 use lib.Dec.{T, leb, leb→le}
 use Rattle.bsii_format.specs.Replies.{gives, invalidHeader, inputLong}
-use Rattle.bsii_format.specs.Reader.{Result, ok, fault, faultAt, after, _>>=_, success, _<$>_, Consumed, with, consumed, same, tag}
-use Rattle.bsii_format.specs.Prototypes.{Prototype}
-use Rattle.bsii_format.specs.File.{Record, prototype, block, recordBytes, Records, recordsFrom, recordsParser, headerParser, BsiiFile, bsiiFile, bsiiParser, lengthLimit, parse, defineAll, prototypesOf, distinctIds}
-use Rattle.bsii_format.specs.Calls.{Placed, placed, placedRecords, consBlock, blocksIn, blocksOf, prototypesIn, ofFile, Reading as ReadingOf, readingOf, readingCall}
+use Rattle.bsii_format.specs.Reader.{ok, fault, faultAt, after, _>>=_, success, _<$>_, Consumed, with, consumed, same, tag}
+use Rattle.bsii_format.specs.File.{Record, prototype, block, recordBytes, recordsParser, headerParser, bsiiFile, bsiiParser, lengthLimit, parse, defineAll, prototypesOf, distinctIds}
+use Rattle.bsii_format.specs.Calls.{placed, placedRecords, consBlock, blocksIn, blocksOf, prototypesIn, ofFile, Reading as ReadingOf, readingOf, readingCall}
 use Rattle.bsii_format.proofs.Readers.{is-false}
 use Rattle.bsii_format.proofs.Parsers.{header-exact}
 use Rattle.bsii_format.proofs.Positions.{moved-on}
 use Rattle.bsii_format.proofs.File.{parse-short}
 use Rattle.bsii_value.specs.Answers.{faultIs, refusedAt}
 use Rattle.bsii_value.specs.declared.answers.Refusal.{Refusal}
-use Rattle.bsii_parse.specs.Walks.{blockCount, recordsAt, bare, Kept, Walks, done, stopped, ReadFile, read, unread}
+use Rattle.bsii_parse.specs.Walks.{blockCount, recordsAt, Kept, Walks, done, stopped, ReadFile, read, unread}
 use Rattle.bsii_parse.specs.Answers.{readingIs}
 use Rattle.bsii_parse.specs.declared.walk.Walked.{Walked}
 use Rattle.bsii_parse.specs.declared.walk.Walked.the-variants.{Done, Fault as Stopped}
@@ -81,9 +79,9 @@ unfoldable pub reported : Walked → Reading
 reported (Done t) = Read (t .rows) (t .blocks) (t .next)
 reported (Stopped f) = Refused f
 
-pub read-answer : (s t : List ℕ) {r : Walked} {t′ : List ℕ} → ReadFile s t r t′ → readingIs (reported r) ≡ readingCall (length t) s
+pub read-answer : {s t : List ℕ} {r : Walked} {t′ : List ℕ} → ReadFile s t r t′ → readingIs (reported r) ≡ readingCall (length t) s
 unfolding readingCall ofFile readingOf blocksOf placedRecords prototypesOf reported
-read-answer s t (read f {rows = rows} {n = n} e k l) =
+read-answer (read f {rows = rows} {n = n} e k l) =
     let rowsAre : rows ≡ distinctIds (defineAll (f .records) []) =
     k .holds .count ∙ ap distinctIds (bare-all (λ r. length (recordBytes r)) (length (f .header .raw)) (f .records) []) in
     let blocksAre = blocks-counted (λ r. length (recordBytes r)) (length (f .header .raw)) (f .records) in
@@ -91,9 +89,9 @@ read-answer s t (read f {rows = rows} {n = n} e k l) =
   where
     made : ℕ → ℕ → ReadingOf
     made a b = record { prototypes = a; blocks = b; next = n }
-read-answer s t (unread e l) = rw e
+read-answer (unread e l) = rw e
 
 -- the table keeps its length, so that it is cleared whole
-pub read-size : (s t : List ℕ) {r : Walked} {t′ : List ℕ} → ReadFile s t r t′ → length t′ ≡ length t
-read-size s t (read f e k l) = l
-read-size s t (unread e l) = l
+pub read-size : {s t : List ℕ} {r : Walked} {t′ : List ℕ} → ReadFile s t r t′ → length t′ ≡ length t
+read-size (read f e k l) = l
+read-size (unread e l) = l

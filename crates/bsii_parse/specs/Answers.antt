@@ -1,5 +1,4 @@
 -- What the reading call's answer means.
-use Prim.Native.Nat.{ℕ}
 use Rattle.bsii_format.specs.Replies.{Reply, gives, refuses}
 use Rattle.bsii_format.specs.Calls.{Reading as ReadingOf}
 use Rattle.bsii_value.specs.Answers.{faultIs}

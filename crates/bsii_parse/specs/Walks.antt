@@ -1,7 +1,7 @@
 -- What the walks over a file's records know of it.
 use mathlib.Core.Path.{_≡_}
 use Prim.Native.Nat.{ℕ, suc, _+_, _/_, _≤_, _<_}
-use mathlib.Core.Option.{Option, Option·map}
+use mathlib.Core.Option.{Option·map}
 use mathlib.Core.List.{List, [], _∷_, _++_, map}
 use lib.ListN.{length, drop}
 use Rattle.bsii_format.specs.Reader.{Result, ok, fault, _>>=_}

@@ -1,6 +1,5 @@
 -- `walk::walk`: Invariant: the records from `start` on are those passed so far and those from here on, and the table keeps their definitions.
 -- Measure: what is left of the file, since a record has a byte at least.
-use mathlib.Core.Path.{_≡_, refl, sym, ap, _∙_}
 use denote.Ref.{now}
 use borrow.Author.Needs.{needs}
 use native.Mathlib.Omega.{arith}
