@@ -13,7 +13,9 @@ use Rattle.bsii_format.proofs.Parsers.{id-exact}
 use Rattle.bsii_format.proofs.Positions.{moved}
 use Rattle.bsii_value.specs.Answers.{endOf, uncheckedStr}
 use Rattle.bsii_value.specs.declared.answers.Parsed.{Parsed}
+use Rattle.bsii_value.specs.declared.answers.Refusal.{Refusal}
 use Rattle.bsii_value.specs.declared.answers.Parsed.the-variants.{Next, Fault}
+use Rattle.bsii_value.proofs.Ends.{next≢fault}
 use Rattle.bsii_prototype.specs.Entries.{entryWith, uncheckedHead}
 use Rattle.bsii_prototype.specs.Answers.{entryOf}
 use Rattle.bsii_prototype.specs.declared.answers.Entry.the-variants.{Field, Last, Bad}
@@ -24,9 +26,6 @@ use Rattle.bsii_past.proofs.Values.{id-same}
 use Rattle.bsii_past.proofs.Blocks.{Turn, turn, done}
 use Rattle.bsii_parse.specs.Walks.{Stands}
 use Rattle.bsii_again.specs.Again.{ValuesPast, BlockPast}
-
-next≢fault : {P : Type 0} {n k o : ℕ} → _≡_ {A = Parsed} (Next n) (Fault k o) → P
-next≢fault e = let z : _≡_ {A = ℕ} 0 1 = cc in let f : ⊥ = omega arith in absurd f
 
 next-is : {a b : ℕ} → _≡_ {A = Parsed} (Next a) (Next b) → a ≡ b
 next-is e = cc
@@ -50,7 +49,7 @@ module _ (s : List ℕ) (fields start field at : ℕ) (i : InPast s fields start
         ap Next (sym (done none .1));
   }
 
-  pub past-bad : {k o : ℕ} → Bad k o ≡ entryOf (field + 8) (entryWith uncheckedStr field (drop field s)) → (r : Parsed) → ValuesPast s fields start r
+  pub past-bad : {x : Refusal} → Bad x ≡ entryOf (field + 8) (entryWith uncheckedStr field (drop field s)) → (r : Parsed) → ValuesPast s fields start r
   past-bad e r = record { ends = λ l n t h v m u f. turn-bad s field (i .rest l n t h v m u f .1) e }
 
   module _ {type a b next : ℕ} (e : Field type a b next ≡ entryOf (field + 8) (entryWith uncheckedStr field (drop field s))) where
@@ -73,7 +72,7 @@ module _ (s : List ℕ) (fields start field at : ℕ) (i : InPast s fields start
         let w = turn (with (y .field) (take (next - field) (drop field s))) (y .rest .fields) s at z in
         record { rest = y .rest; more = y .more; end = w .end; past = ap (λ k. endOf (uncheckedValue k at (drop at s))) (y .typed) ∙ w .past; values = w .values; others = w .others }
 
-    pub past-fault : {k o : ℕ} → Fault k o ≡ endOf (uncheckedValue type at (drop at s)) → (r : Parsed) → ValuesPast s fields start r
+    pub past-fault : {x : Refusal} → Fault x ≡ endOf (uncheckedValue type at (drop at s)) → (r : Parsed) → ValuesPast s fields start r
     past-fault v r = record { ends = λ l n t h w m u f. next≢fault (sym (both l n t h w m u f .past) ∙ sym v) }
 
     pub past-next : {end : ℕ} → Next end ≡ endOf (uncheckedValue type at (drop at s)) → InPast s fields start next end
@@ -90,7 +89,7 @@ module _ (s : List ℕ) (o at : ℕ) {r : Parsed} (e : r ≡ endOf (uncheckedHea
   head-is : (p : Prototype) (h : Stands s o p) → r ≡ Next (h .fields)
   head-is p h = e ∙ head-next o (drop o s) (h .head)
 
-  pub block-head-fault : {k q : ℕ} → r ≡ Fault k q → (v : Parsed) → BlockPast s o at v
+  pub block-head-fault : {x : Refusal} → r ≡ Fault x → (v : Parsed) → BlockPast s o at v
   block-head-fault z v = record { ends = λ p h w m u f. next≢fault (sym (head-is p h) ∙ z) }
 
   module _ {first : ℕ} (z : r ≡ Next first) {i : Parsed} (d : i ≡ endOf (uncheckedId at (drop at s))) where
@@ -102,7 +101,7 @@ module _ (s : List ℕ) (o at : ℕ) {r : Parsed} (e : r ≡ endOf (uncheckedHea
         let x = after-ok (idParser at (drop at s)) (λ i. dataValuesParser (p .fields)) f in
         (x .1, d ∙ id-same at (drop at s) (x .3), ap (dataValuesParser (p .fields) (x .1)) (sym (moved id-exact s at (x .3) .rest)) ∙ x .4)
 
-    pub block-id-fault : {k q : ℕ} → i ≡ Fault k q → (v : Parsed) → BlockPast s o at v
+    pub block-id-fault : {x : Refusal} → i ≡ Fault x → (v : Parsed) → BlockPast s o at v
     block-id-fault y v = record { ends = λ p h w m u f. next≢fault (sym (split p w m u f .1) ∙ y) }
 
     pub block-values : {next : ℕ} {v : Parsed} → i ≡ Next next → ValuesPast s first next v → BlockPast s o at v
