@@ -10,4 +10,5 @@ pub mod Base38
 pub mod Words
 pub mod TypeTable
 pub mod NumberRows
+pub mod NumbersAt
 pub mod Elements

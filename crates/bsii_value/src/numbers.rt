@@ -44,15 +44,6 @@ pub fn le_u8(s: &[u8], at: usize) -> Num
     Num::Got(wide(s[at]), at + 1)
 }
 
-pub fn le_u16(s: &[u8], at: usize) -> Num
-    ensures { λ r. ⌜ numOf (now (s .entry)) r ≡ number 2 at (drop at (now (s .entry))) ⌝ }
-{
-    if left(s, at) < 2 {
-        return Num::Short(refused(MALFORMED, at));
-    }
-    Num::Got(wide(s[at]) + wide(s[at + 1]) * 0x100, at + 2)
-}
-
 // Four bytes that are there.
 fn quad(s: &[u8], at: usize) -> u32
     requires { ⌜ at + 4 ≤ length (now s) ⌝ }
