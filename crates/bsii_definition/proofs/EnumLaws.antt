@@ -7,13 +7,13 @@ use mathlib.Core.Option.{Option, none, some}
 use mathlib.Core.List.{List, [], _∷_}
 use lib.Dec.{eqb}
 use lib.ListN.{length, take, drop}
-use Rattle.bsii_format.specs.Replies.{Fault as Refused}
+use Rattle.bsii_format.specs.Replies.{Fault as Reason}
 use Rattle.bsii_format.specs.Reader.{Result, ok, fault, Reader, _>>=_, success, repeat}
 use Rattle.bsii_format.specs.Numbers.{number}
 use Rattle.bsii_format.specs.Strings.{strParser}
 use Rattle.bsii_format.specs.Prototypes.{EnumValue, enumValueParser, enumValuesParser}
 use Rattle.bsii_format.specs.Text.{firstSome, enumString}
-use Rattle.bsii_format.proofs.Readers.{fault≢ok, after-ok, ok-val, ok-at, ok-rest}
+use Rattle.bsii_format.proofs.Readers.{after-ok, fault≢ok, ok-val, ok-at, ok-rest}
 use Rattle.bsii_format.proofs.Parsers.{enumValue-exact}
 use Rattle.bsii_format.proofs.Positions.{moved, bind-fault, bind-ok}
 use Rattle.bsii_value.specs.Answers.{endOf, uncheckedStr}
@@ -37,7 +37,7 @@ next-same e = cc
 -- ---- one pair
 
 module _ (s : List ℕ) (at : ℕ) where
-  pub no-number : {x : Refused} → number 4 at (drop at s) ≡ fault x → PairAt s at NoPair
+  pub no-number : {x : Reason} → number 4 at (drop at s) ≡ fault x → PairAt s at NoPair
   unfolding enumValueParser
   no-number e = record { is = λ p n t f. fault≢ok (sym (bind-fault (number 4) _ e) ∙ f); inside = tt }
 
@@ -181,7 +181,7 @@ module _ (s : List ℕ) (at typeId wanted : ℕ) where
   }
 
   module _ (h : typeId ≡ 0x37) where
-    pub no-count : {x : Refused} → number 4 at (drop at s) ≡ fault x → StringOf s at typeId wanted Absent
+    pub no-count : {x : Reason} → number 4 at (drop at s) ≡ fault x → StringOf s at typeId wanted Absent
     no-count e = record { is = λ l n t f. fault≢ok (sym (list-short strParser at (drop at s) typeId h e) ∙ list-with f); inside = tt }
 
     pub a-list : {count i : ℕ} {r : EnumString} → number 4 at (drop at s) ≡ ok count i (drop i s) → LastPair s i count wanted r → StringOf s at typeId wanted r
