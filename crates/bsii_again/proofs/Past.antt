@@ -1,12 +1,11 @@
 -- Values and blocks that were accepted, gone past without a check.
-use mathlib.Core.Path.{_≡_, refl, sym, ap, _∙_, subst}
+use mathlib.Core.Path.{_≡_, sym, ap, _∙_}
 use Prim.Native.Nat.{ℕ, _+_, _-_}
-use native.Mathlib.Omega.{arith}
 use mathlib.Core.List.{List, [], _∷_}
-use lib.ListN.{length, take, drop}
-use Rattle.bsii_format.specs.Reader.{Result, ok, fault, after, _>>=_, Consumed, with}
+use lib.ListN.{take, drop}
+use Rattle.bsii_format.specs.Reader.{ok, _>>=_, with}
 use Rattle.bsii_format.specs.Strings.{idParser}
-use Rattle.bsii_format.specs.Prototypes.{ValuePrototype, Prototype, Fields, consField, fieldsParser}
+use Rattle.bsii_format.specs.Prototypes.{Prototype, Fields, consField, fieldsParser}
 use Rattle.bsii_format.specs.Blocks.{DataValue, dataValuesParser}
 use Rattle.bsii_format.proofs.Readers.{after-ok}
 use Rattle.bsii_format.proofs.Parsers.{id-exact}
@@ -19,11 +18,11 @@ use Rattle.bsii_value.proofs.Ends.{next≢fault}
 use Rattle.bsii_prototype.specs.Entries.{entryWith, uncheckedHead}
 use Rattle.bsii_prototype.specs.Answers.{entryOf}
 use Rattle.bsii_prototype.specs.declared.answers.Entry.the-variants.{Field, Last, Bad}
-use Rattle.bsii_prototype.proofs.Turns.{FieldTurn, turn-field, turn-last, turn-bad}
+use Rattle.bsii_prototype.proofs.Turns.{turn-field, turn-last, turn-bad}
 use Rattle.bsii_prototype.proofs.Beginnings.{head-next}
 use Rattle.bsii_past.specs.Unchecked.{uncheckedId, uncheckedValue}
 use Rattle.bsii_past.proofs.Values.{id-same}
-use Rattle.bsii_past.proofs.Blocks.{Turn, turn, done}
+use Rattle.bsii_past.proofs.Blocks.{turn, done}
 use Rattle.bsii_parse.specs.Walks.{Stands}
 use Rattle.bsii_again.specs.Again.{ValuesPast, BlockPast}
 
@@ -37,10 +36,10 @@ pub record InPast (s : List ℕ) (fields start field at : ℕ) : Type 0 where
       → (v : List DataValue) (m : ℕ) (u : List ℕ) → dataValuesParser (l .fields) start (drop start s) ≡ ok v m u
       → (k : Fields) × (fieldsParser field (drop field s) ≡ ok k n t) × (w : List DataValue) × (dataValuesParser (k .fields) at (drop at s) ≡ ok w m u)
 
-pub past-start : (s : List ℕ) (fields start : ℕ) → InPast s fields start fields start
-past-start s fields start = record { rest = λ l n t e v m u f. (l, e, v, f) }
+pub past-start : {s : List ℕ} {fields start : ℕ} → InPast s fields start fields start
+past-start = record { rest = λ l n t e v m u f. (l, e, v, f) }
 
-module _ (s : List ℕ) (fields start field at : ℕ) (i : InPast s fields start field at) where
+module _ {s : List ℕ} {fields start field at : ℕ} (i : InPast s fields start field at) where
   pub past-last : {n : ℕ} → Last n ≡ entryOf (field + 8) (entryWith uncheckedStr field (drop field s)) → ValuesPast s fields start (Next at)
   past-last e = record {
     ends = λ l n t h v m u f.
