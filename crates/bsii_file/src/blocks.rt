@@ -1,6 +1,4 @@
 // A block by its number, and by its number among those under a prototype name.
-use bsii_again::records::Kind;
-use bsii_again::records::kind_at;
 use bsii_again::seek::Block;
 use bsii_again::seek::BlockAt;
 use bsii_again::seek::seek;
@@ -12,6 +10,7 @@ use bsii_value::answers::ABSENT;
 use bsii_value::answers::Parsed;
 use bsii_value::answers::Refusal;
 use bsii_value::answers::refused;
+use bsii_value::at::u32_at;
 ghost use mathlib.Core.Path.{_≡_};
 ghost use lib.ListN.{length};
 ghost use Rattle.bsii_format.specs.Calls.{blockCall, namedBlockCall, tableAfter};
@@ -33,26 +32,19 @@ pub enum NumberReply {
     Refused(Refusal),
 }
 
-// A block that was found. Its head and its id were read on the way to it, so it alone is met here: `Block` doesn't hand on the prototype id and
-// where the id ends, which no other look-up needs, and they are read once more. The other arms stand for no input.
+// A block that was found. Its id was passed on the way to it, so no input is refused here.
 fn block_found(s: &[u8], b: Block) -> BlockReply
     ensures { λ r. ⌜ BlockAnswered (now (s .entry)) b r ⌝ }
 {
-    let kind = kind_at(s, b.at);
-    match kind {
-        Kind::Ends => BlockReply::Refused(refused(ABSENT, 0)),
-        Kind::Defines(_) => BlockReply::Refused(refused(ABSENT, 0)),
-        Kind::Carries { id, next } => {
-            let end = id_past(s, next);
-            match end {
-                Parsed::Fault(f) => BlockReply::Refused(f),
-                Parsed::Next(behind) => BlockReply::Block {
-                    prototype_id: id,
-                    id: next,
-                    id_size: behind - next,
-                },
-            }
-        }
+    let start = b.id;
+    let end = id_past(s, start);
+    match end {
+        Parsed::Fault(f) => BlockReply::Refused(f),
+        Parsed::Next(behind) => BlockReply::Block {
+            prototype_id: u32_at(s, b.at),
+            id: start,
+            id_size: behind - start,
+        },
     }
 }
 
