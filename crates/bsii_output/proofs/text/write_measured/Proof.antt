@@ -27,7 +27,10 @@ same-length-2 : tie.Need-same-length-2
 same-length-2 c = search needs
 
 returns-3 : tie.Need-returns-3
-returns-3 c = let a = c .before .before .before .before .before .before .before .before .before .before .before .before .args in measured-fits (now (a .file)) (now (a .table)) (a .rows) (now (a .output)) (a .end) (omega arith) (omega arith) (c .before .before .before .before .write-bsii .ensures)
+returns-3 c =
+    let wrote = c .before .before .before .before in
+    let a = wrote .before .before .before .before .before .before .before .before .args in
+    measured-fits (now (a .file)) (now (a .table)) (a .rows) (now (a .output)) (a .end) (omega arith) (omega arith) (wrote .write-bsii .ensures)
 
 pub write-measured-spec : {M : Type 1} → statement M
 write-measured-spec =
