@@ -14,7 +14,7 @@ use Rattle.bsii_value.specs.Answers.{endOf, uncheckedStr}
 use Rattle.bsii_value.specs.declared.answers.Parsed.{Parsed}
 use Rattle.bsii_value.specs.declared.answers.Refusal.{Refusal}
 use Rattle.bsii_value.specs.declared.answers.Parsed.the-variants.{Next, Fault}
-use Rattle.bsii_value.proofs.Ends.{next≢fault}
+use Rattle.bsii_value.proofs.Ends.{next≢fault, next-same}
 use Rattle.bsii_prototype.specs.Entries.{uncheckedHead, fieldsWith}
 use Rattle.bsii_prototype.specs.Answers.{countOf}
 use Rattle.bsii_prototype.specs.declared.answers.Counted.{Counted}
@@ -35,9 +35,6 @@ use Rattle.bsii_again.specs.declared.records.Met.{Met}
 use Rattle.bsii_again.specs.declared.records.Met.the-variants.{Prototype as MetPrototype, Block as MetBlock, Nothing}
 use Rattle.bsii_again.proofs.Parts.{stands, BlockParts, block-parts, block-body, end-head}
 
-next-is : {a b : ℕ} → _≡_ {A = Parsed} (Next a) (Next b) → a ≡ b
-next-is e = cc
-
 none≢some : {A P : Type 0} {a : A} → _≡_ {A = Option A} none (some a) → P
 none≢some e = let z : _≡_ {A = ℕ} 0 1 = cc in let f : ⊥ = omega arith in absurd f
 
@@ -48,7 +45,7 @@ some-is e = cc
 
 module _ (s : List ℕ) (at : ℕ) (t : List ℕ) (rows id : ℕ) {r : Parsed} (e : r ≡ endOf (uncheckedHead at (drop at s))) where
   fields-are : (p : Prototype) (h : Stands s at p) {first : ℕ} → r ≡ Next first → first ≡ h .fields
-  fields-are p h z = next-is (sym z ∙ e ∙ head-next at (drop at s) (h .head))
+  fields-are p h z = next-same (sym z ∙ e ∙ head-next at (drop at s) (h .head))
 
   pub again-head-fault : {x : Refusal} → r ≡ Fault x → PrototypeAgain s at t rows id Nothing t
   again-head-fault z = record { meets = λ env last n p h i. next≢fault (sym (e ∙ head-next at (drop at s) (h .head)) ∙ z); size = refl }
@@ -98,7 +95,7 @@ module _ (s : List ℕ) (idAt : ℕ) (t : List ℕ) (rows id : ℕ) {f : Found} 
     again-block {n} g = record {
       meets = λ env last k p q d h v m u c.
           let o = under env last k p q d h in
-          record { inForce = x; last = y; met = ap (MetBlock idAt x y) (next-is (sym g ∙ w .ends p (o .0) v m u c)); under = o .0; named = o .1 };
+          record { inForce = x; last = y; met = ap (MetBlock idAt x y) (next-same (sym g ∙ w .ends p (o .0) v m u c)); under = o .0; named = o .1 };
     }
 
 -- ---- any record

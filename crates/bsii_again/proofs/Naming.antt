@@ -14,7 +14,7 @@ use Rattle.bsii_value.specs.Answers.{endOf, uncheckedStr}
 use Rattle.bsii_value.specs.declared.answers.Parsed.{Parsed}
 use Rattle.bsii_value.specs.declared.answers.Refusal.{Refusal}
 use Rattle.bsii_value.specs.declared.answers.Parsed.the-variants.{Next, Fault}
-use Rattle.bsii_value.proofs.Ends.{next≢fault}
+use Rattle.bsii_value.proofs.Ends.{next≢fault, next-same}
 use Rattle.bsii_prototype.specs.Entries.{uncheckedHead}
 use Rattle.bsii_prototype.proofs.Beginnings.{head-past}
 use Rattle.bsii_prototype.proofs.Entries.{next-is}
@@ -75,10 +75,7 @@ module _ (s : List ℕ) (o : ℕ) {h : Parsed} (e : h ≡ endOf (uncheckedHead o
 
     module _ {n : ℕ} (z : h ≡ Next n) where
       here : (p : Prototype) → Stands s o p → HeadName s o (p .name) n
-      here p x = subst (HeadName s o (p .name)) (at-is (sym (standing p x) ∙ z)) (head-ends s o (head-past o (drop o s) (x .head)))
-        where
-          at-is : {a b : ℕ} → _≡_ {A = Parsed} (Next a) (Next b) → a ≡ b
-          at-is y = cc
+      here p x = subst (HeadName s o (p .name)) (next-same (sym (standing p x) ∙ z)) (head-ends s o (head-past o (drop o s) (x .head)))
 
       pub name-other : (n - (o + 13) ≡ length name → ⊥) → NameIs s o name false
       name-other d = record { is = λ p x. let w = here p x in sym (differ name (p .name) (λ i. d (omega (arith, w .end, i)))) }

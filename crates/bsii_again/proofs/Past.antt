@@ -14,7 +14,7 @@ use Rattle.bsii_value.specs.Answers.{endOf, uncheckedStr}
 use Rattle.bsii_value.specs.declared.answers.Parsed.{Parsed}
 use Rattle.bsii_value.specs.declared.answers.Refusal.{Refusal}
 use Rattle.bsii_value.specs.declared.answers.Parsed.the-variants.{Next, Fault}
-use Rattle.bsii_value.proofs.Ends.{next≢fault}
+use Rattle.bsii_value.proofs.Ends.{next≢fault, next-same}
 use Rattle.bsii_prototype.specs.Entries.{entryWith, uncheckedHead}
 use Rattle.bsii_prototype.specs.Answers.{entryOf}
 use Rattle.bsii_prototype.specs.declared.answers.Entry.the-variants.{Field, Last, Bad}
@@ -25,9 +25,6 @@ use Rattle.bsii_past.proofs.Values.{id-same}
 use Rattle.bsii_past.proofs.Blocks.{turn, done}
 use Rattle.bsii_parse.specs.Walks.{Stands}
 use Rattle.bsii_again.specs.Again.{ValuesPast, BlockPast}
-
-next-is : {a b : ℕ} → _≡_ {A = Parsed} (Next a) (Next b) → a ≡ b
-next-is e = cc
 
 -- ---- the loop over definitions and values in step
 
@@ -78,7 +75,7 @@ module _ {s : List ℕ} {fields start field at : ℕ} (i : InPast s fields start
     past-next {end} v = record {
       rest = λ l n t h w m u f.
           let x = both l n t h w m u f in
-          let k : x .end ≡ end = next-is (sym (x .past) ∙ sym v) in
+          let k : x .end ≡ end = next-same (sym (x .past) ∙ sym v) in
           (x .rest, x .more, x .values, ap (λ y. dataValuesParser (x .rest .fields) y (drop y s)) (sym k) ∙ x .others);
     }
 
@@ -107,7 +104,7 @@ module _ (s : List ℕ) (o at : ℕ) {r : Parsed} (e : r ≡ endOf (uncheckedHea
     block-values {next} y x = record {
       ends = λ p h w m u f.
           let q = split p w m u f in
-          let a : first ≡ h .fields = next-is (sym z ∙ head-is p h) in
-          let b : next ≡ q .0 = next-is (sym y ∙ q .1) in
+          let a : first ≡ h .fields = next-same (sym z ∙ head-is p h) in
+          let b : next ≡ q .0 = next-same (sym y ∙ q .1) in
           x .ends _ _ _ (ap (λ n. fieldsParser n (drop n s)) a ∙ h .list) w m u (ap (λ n. dataValuesParser (p .fields) n (drop n s)) b ∙ q .2);
     }

@@ -20,7 +20,7 @@ use Rattle.bsii_value.specs.Answers.{endOf, uncheckedStr}
 use Rattle.bsii_value.specs.declared.answers.Refusal.{Refusal}
 use Rattle.bsii_value.specs.declared.answers.Parsed.{Parsed}
 use Rattle.bsii_value.specs.declared.answers.Parsed.the-variants.{Next, Fault}
-use Rattle.bsii_value.proofs.Ends.{next≢fault}
+use Rattle.bsii_value.proofs.Ends.{next≢fault, next-same}
 use Rattle.bsii_value.proofs.Texts.{str-past-next}
 use Rattle.bsii_prototype.specs.Entries.{enumValuesWith}
 use Rattle.bsii_prototype.proofs.Unchecked.{checked-enum-value, checked-enum-values}
@@ -30,9 +30,6 @@ use Rattle.bsii_definition.specs.Enums.{stringIs, StringInside, PairAt, 
 use Rattle.bsii_definition.specs.declared.enums.EnumString.{EnumString}
 use Rattle.bsii_definition.specs.declared.enums.EnumString.the-variants.{Text, Absent}
 use Rattle.bsii_definition.specs.declared.enums.EnumPair.the-variants.{Pair, NoPair}
-
-next-same : {a b : ℕ} → _≡_ {A = Parsed} (Next a) (Next b) → a ≡ b
-next-same e = cc
 
 -- ---- one pair
 

@@ -7,7 +7,7 @@ use mathlib.Core.List.{List, []}
 use lib.ListN.{length, take, drop, getElem?, length-drop}
 use lib.Seq.{take-all, length-take-le}
 use lib.Dec.{leb, leb→le}
-use Rattle.bsii_format.specs.Replies.{Fault as Reason, gives, refuses, refusal, malformed, absent, notUtf8}
+use Rattle.bsii_format.specs.Replies.{gives, refuses, refusal, malformed, absent, notUtf8}
 use Rattle.bsii_format.specs.Reader.{Result, ok, fault, faultAt, bytes, after, success, verify, Consumed, consumed, repeat, _>>=_, _<$>_}
 use Rattle.bsii_format.specs.Numbers.{number}
 use Rattle.bsii_format.specs.Utf8.{utf8}
@@ -16,22 +16,22 @@ use Rattle.bsii_format.specs.Types.{Kind, Numeric, float, floatVec2, floatVec3,
 use Rattle.bsii_format.specs.Values.{Element, nums, str, ident, Value, single, array, elementParser, shapeParser}
 use Rattle.bsii_format.specs.BlockText.{orRefuse}
 use Rattle.bsii_format.specs.Calls.{dString, dId, numericDatum, datumOf, datum, Placed, placed, elementsOf, ofValue}
-use Rattle.bsii_format.proofs.Readers.{after-ok, map-ok, cond-ok, ok-val, ok-at, map-fault, fault≢ok, fault-is}
+use Rattle.bsii_format.proofs.Readers.{after-ok, map-ok, cond-ok, ok-val, ok-at, map-fault}
 use Rattle.bsii_format.proofs.Parsers.{element-exact, id-exact}
-use Rattle.bsii_format.proofs.Positions.{ended, ended-ok, moved, moved-on, map-value, ended-consumed}
+use Rattle.bsii_format.proofs.Positions.{ended, ended-ok, ended-fault, moved, step, moved-on, map-value, ended-consumed}
 use Rattle.bsii_value.specs.Answers.{faultIs, endOf}
 use Rattle.bsii_value.specs.declared.answers.Refusal.{Refusal}
 use Rattle.bsii_value.specs.declared.answers.Parsed.{Parsed}
 use Rattle.bsii_value.specs.declared.answers.Parsed.the-variants.{Next, Fault}
-use Rattle.bsii_value.proofs.Ends.{next≢fault, fault-at}
+use Rattle.bsii_value.proofs.Ends.{next≢fault, next-same, fault-at}
 use Rattle.bsii_value.proofs.Elements.{one-end}
 use Rattle.bsii_past.specs.Unchecked.{uncheckedElement}
 use Rattle.bsii_past.proofs.Values.{elements-same}
 use Rattle.bsii_value.specs.NumbersAt.{numberAt, numbersAt}
 use Rattle.bsii_value.proofs.NumbersAt.{number-moves, number-is, numbers-from, row-length}
 use Rattle.bsii_element.specs.Decoded.{decoded}
-use Rattle.bsii_element.proofs.Ended.{next-is, next-ok}
-use Rattle.bsii_element.proofs.Standing.{standing, step, absent-past, extent, at-offset}
+use Rattle.bsii_element.proofs.Ended.{next-ok}
+use Rattle.bsii_element.proofs.Standing.{standing, absent-past, extent, at-offset}
 
 -- the faults of an element and of a value are the call's
 pub decoded-fault : (p : ℕ) (q : Result Element) {f : Refusal} → Fault f ≡ endOf q → refuses (faultIs f) ≡ decoded p q
@@ -129,11 +129,6 @@ decoded-there k s p x e l = ap (decoded p) e ∙ ap (λ (m : ℕ). gives (datumO
 
 -- ---- a single value
 
-ended-fault : {A : Type 0} (q : Result A) {f : Reason} → ended q ≡ fault f → q ≡ fault f
-unfolding ended
-ended-fault (ok a i r) e = fault≢ok (sym e)
-ended-fault (fault g) e = ap fault (fault-is e)
-
 module _ (k : Kind) (s : List ℕ) where
   pub single-first : decoded 0 (elementParser k 0 s) ≡ ofValue 0 (shapeParser (some (one k)) 0 s)
   unfolding shapeParser elementsOf placed decoded ofValue ended
@@ -206,7 +201,7 @@ module _ (k : Kind) (s : List ℕ) {n : ℕ} (e : Next n ≡ endOf (shapeParser 
     pub array-element : {r : ℕ} → q ≡ Next r → decoded r (elementParser k r (drop r s)) ≡ ofValue i (shapeParser (some (many k)) 0 s)
     array-element {r} g =
         let x = array-there h in
-        let p : r ≡ x .0 = next-is (sym g ∙ u ∙ x .1) in
+        let p : r ≡ x .0 = next-same (sym g ∙ u ∙ x .1) in
         ap (λ (p : ℕ). decoded p (elementParser k p (drop p s))) p ∙ x .2
 
     pub array-ends : {P : Type 0} {f : Refusal} → q ≡ Fault f → P

@@ -8,9 +8,6 @@ use Rattle.bsii_value.specs.declared.answers.Parsed.{Parsed}
 use Rattle.bsii_value.specs.declared.answers.Parsed.the-variants.{Next}
 use Rattle.bsii_value.proofs.Ends.{next≢fault}
 
-pub next-is : {m n : ℕ} → _≡_ {A = Parsed} (Next m) (Next n) → m ≡ n
-next-is e = cc
-
 -- a result that ends there was accepted
 pub next-ok : {A : Type 0} (q : Result A) {n : ℕ} → Next n ≡ endOf q → (a : A) × (r : List ℕ) × (q ≡ ok a n r)
 unfolding endOf

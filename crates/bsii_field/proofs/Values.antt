@@ -17,7 +17,7 @@ use Rattle.bsii_value.specs.declared.answers.Parsed.the-variants.{Next, Fault}
 use Rattle.bsii_prototype.specs.Entries.{entryWith}
 use Rattle.bsii_prototype.specs.Answers.{entryOf}
 use Rattle.bsii_value.specs.declared.answers.Refusal.{Refusal}
-use Rattle.bsii_value.proofs.Ends.{next≢fault}
+use Rattle.bsii_value.proofs.Ends.{next≢fault, next-same}
 use Rattle.bsii_prototype.specs.declared.answers.Entry.the-variants.{Field, Last, Bad}
 use Rattle.bsii_prototype.proofs.Turns.{FieldTurn, turn-field, turn-last, turn-bad}
 use Rattle.bsii_past.specs.Unchecked.{uncheckedValue}
@@ -40,9 +40,6 @@ pub record Step (s : List ℕ) (at type next end : ℕ) (vs : List DataValue) (n
   pub read : fieldsParser next (drop next s) ≡ ok fields n t
   pub carried : dataValuesParser (fields .fields) end (drop end s) ≡ ok values m u
   pub list : vs ≡ value ∷ values
-
-next-is : {a b : ℕ} → _≡_ {A = Parsed} (Next a) (Next b) → a ≡ b
-next-is e = cc
 
 module _ (s : List ℕ) (field at : ℕ) {l : Fields} {n : ℕ} {t : List ℕ} (read : fieldsParser field (drop field s) ≡ ok l n t)
     {vs : List DataValue} {m : ℕ} {u : List ℕ} (carried : dataValuesParser (l .fields) at (drop at s) ≡ ok vs m u)
@@ -74,7 +71,7 @@ module _ (s : List ℕ) (field at : ℕ) {l : Fields} {n : ℕ} {t : List ℕ} (
       (w .end, ap (λ z. endOf (uncheckedValue z at (drop at s))) (y .typed) ∙ w .past, step-of y w)
 
   pub step : {end : ℕ} → Next end ≡ endOf (uncheckedValue type at (drop at s)) → Step s at type next end vs n t m u
-  step h = let q = step-end in subst (λ (k : ℕ). Step s at type next k vs n t m u) (sym (next-is (h ∙ q .1))) (q .2)
+  step h = let q = step-end in subst (λ (k : ℕ). Step s at type next k vs n t m u) (sym (next-same (h ∙ q .1))) (q .2)
 
   -- what was accepted is not refused
   pub step-fault : {P : Type 0} {f : Refusal} → Fault f ≡ endOf (uncheckedValue type at (drop at s)) → P

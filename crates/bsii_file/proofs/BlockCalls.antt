@@ -23,7 +23,7 @@ use Rattle.bsii_value.specs.NumbersAt.{numberAt}
 use Rattle.bsii_value.specs.declared.answers.Parsed.{Parsed}
 use Rattle.bsii_value.specs.declared.answers.Refusal.{Refusal}
 use Rattle.bsii_value.specs.declared.answers.Parsed.the-variants.{Next, Fault}
-use Rattle.bsii_value.proofs.Ends.{next≢fault}
+use Rattle.bsii_value.proofs.Ends.{next≢fault, next-same}
 use Rattle.bsii_value.proofs.NumbersAt.{number-is}
 use Rattle.bsii_prototype.proofs.Entries.{next-is}
 use Rattle.bsii_past.specs.Unchecked.{uncheckedId}
@@ -128,14 +128,11 @@ module _ {s : List ℕ} {b : Block} {q : Parsed} (e : q ≡ endOf (uncheckedId (
   unfolding blockAnswer
   answered {m} {k} y z = record {
     answers = λ last x i.
-        let j : m ≡ b .id + length (x .it .id .raw) = at-is (sym y ∙ id-ends last x i) in
+        let j : m ≡ b .id + length (x .it .id .raw) = next-same (sym y ∙ id-ends last x i) in
         let l : m - b .id ≡ length (x .it .id .raw) = omega (arith, j) in
         ap gives (made (z ∙ head-number s (b .at) (i .head)) (i .idPlace) l);
   }
     where
-      at-is : {a c : ℕ} → _≡_ {A = Parsed} (Next a) (Next c) → a ≡ c
-      at-is e = cc
-
       made : {a a′ c c′ d d′ : ℕ} → a ≡ a′ → c ≡ c′ → d ≡ d′
           → _≡_ {A = BlockAnswer} (record { prototypeId = a; id = record { offset = c; size = d } }) (record { prototypeId = a′; id = record { offset = c′; size = d′ } })
       made e f g = cc

@@ -14,7 +14,7 @@ use Rattle.bsii_value.specs.Answers.{refusedAt, endOf, uncheckedStr}
 use Rattle.bsii_value.specs.declared.answers.Parsed.{Parsed}
 use Rattle.bsii_value.specs.declared.answers.Refusal.{Refusal}
 use Rattle.bsii_value.specs.declared.answers.Parsed.the-variants.{Next, Fault}
-use Rattle.bsii_value.proofs.Ends.{next≢fault}
+use Rattle.bsii_value.proofs.Ends.{next≢fault, next-same}
 use Rattle.bsii_prototype.specs.Entries.{fieldsWith, uncheckedHead}
 use Rattle.bsii_prototype.specs.Answers.{countOf}
 use Rattle.bsii_prototype.specs.declared.answers.Counted.{Counted}
@@ -47,11 +47,8 @@ module _ {s : List ℕ} {o : ℕ} {h : Parsed} (e : h ≡ endOf (uncheckedHead o
     counts : (p : Prototype) (x : Stands s o p) → (first ≡ x .fields) × (l ≡ counted.Fields (length (p .fields)) (x .next))
     unfolding countOf
     counts p x =
-        let i : first ≡ x .fields = at-is (sym z ∙ standing s o e p x) in
+        let i : first ≡ x .fields = next-same (sym z ∙ standing s o e p x) in
         (i, d ∙ ap (λ (n : ℕ). countOf (fieldsWith uncheckedStr n (drop n s))) i ∙ ap countOf (again fields-follow (x .fields) (drop (x .fields) s) (x .list)))
-      where
-        at-is : {a b : ℕ} → _≡_ {A = Parsed} (Next a) (Next b) → a ≡ b
-        at-is y = cc
 
     pub list-fault : {f : Refusal} → l ≡ counted.Fault f → (v : PrototypeReply) → PrototypeAt s o v
     list-fault y v = record { answers = λ p x. fields≢fault (sym (counts p x .1) ∙ y) }

@@ -16,7 +16,7 @@ use Rattle.bsii_value.specs.Answers.{refusedAt, endOf}
 use Rattle.bsii_value.specs.declared.answers.Parsed.{Parsed}
 use Rattle.bsii_value.specs.declared.answers.Refusal.{Refusal}
 use Rattle.bsii_value.specs.declared.answers.Parsed.the-variants.{Next, Fault}
-use Rattle.bsii_value.proofs.Ends.{next≢fault}
+use Rattle.bsii_value.proofs.Ends.{next≢fault, next-same}
 use Rattle.bsii_prototype.specs.Entries.{uncheckedHead}
 use Rattle.bsii_past.specs.Unchecked.{uncheckedId}
 use Rattle.bsii_past.proofs.Values.{id-same}
@@ -44,10 +44,7 @@ use Rattle.bsii_file.proofs.BlockCalls.{seek-any, block-found, block-mi
 -- ---- ends of what was accepted
 
 pub next-there : {e : Parsed} {n : ℕ} → e ≡ Next n → NextOf e n
-next-there z = record { is = λ m y. at-is (sym z ∙ y) }
-  where
-    at-is : {a b : ℕ} → _≡_ {A = Parsed} (Next a) (Next b) → a ≡ b
-    at-is e = cc
+next-there z = record { is = λ m y. next-same (sym z ∙ y) }
 
 pub next-nowhere : {e : Parsed} {f : Refusal} → e ≡ Fault f → (n : ℕ) → NextOf e n
 next-nowhere z n = record { is = λ m y. next≢fault (sym y ∙ z) }

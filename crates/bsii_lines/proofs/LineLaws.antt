@@ -18,7 +18,7 @@ use Rattle.bsii_value.specs.Answers.{endOf}
 use Rattle.bsii_value.specs.declared.answers.Refusal.{Refusal}
 use Rattle.bsii_value.specs.declared.answers.Parsed.{Parsed}
 use Rattle.bsii_value.specs.declared.answers.Parsed.the-variants.{Next as Past, Fault}
-use Rattle.bsii_value.proofs.Ends.{next≢fault}
+use Rattle.bsii_value.proofs.Ends.{next≢fault, next-same}
 use Rattle.bsii_past.specs.Unchecked.{uncheckedElement}
 use Rattle.bsii_past.proofs.Values.{element-same}
 use Rattle.bsii_definition.specs.declared.pairs.Definition.{Definition}
@@ -43,9 +43,6 @@ own-bytes {A} {R} x s at {v} {n} e =
     let size : length (q .0) ≡ n - at = omega (arith, q .1 .place) in
     let bytes : q .0 ≡ take (n - at) (drop at s) = sym (ap (take (n - at)) (q .1 .front) ∙ take-at (q .0) (drop n s) (n - at) size) in
     subst (WellFormed R v) bytes (fits-well-formed (q .1 .fits))
-
-next-same : {a b : ℕ} → _≡_ {A = Parsed} (Past a) (Past b) → a ≡ b
-next-same e = cc
 
 -- ---- the end of a line
 

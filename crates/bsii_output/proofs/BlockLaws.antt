@@ -25,7 +25,7 @@ use Rattle.bsii_value.specs.Answers.{faultIs, refusedAt, endOf}
 use Rattle.bsii_value.specs.declared.answers.Refusal.{Refusal}
 use Rattle.bsii_value.specs.declared.answers.Parsed.{Parsed}
 use Rattle.bsii_value.specs.declared.answers.Parsed.the-variants.{Next as Past, Fault as Stopped}
-use Rattle.bsii_value.proofs.Ends.{next≢fault}
+use Rattle.bsii_value.proofs.Ends.{next≢fault, next-same}
 use Rattle.bsii_prototype.specs.Entries.{uncheckedHead}
 use Rattle.bsii_prototype.proofs.Beginnings.{head-past}
 use Rattle.bsii_past.specs.Unchecked.{uncheckedElement}
@@ -122,9 +122,6 @@ even-text : (offset : ℕ) (q : Prototype) (b : DataBlock) → eqb (length (q .f
 unfolding blockText
 even-text offset q b e = rw e refl
 
-past-same : {a b : ℕ} → _≡_ {A = Parsed} (Past a) (Past b) → a ≡ b
-past-same e = cc
-
 id-past : (s : List ℕ) (at : ℕ) {v : Id} {n : ℕ} → idParser at (drop at s) ≡ ok v n (drop n s) → endOf (uncheckedElement id at (drop at s)) ≡ Past n
 unfolding elementParser
 id-past s at {v} {n} e = element-same id at (drop at s) {v = ident v} (map-value ident idParser e)
@@ -143,10 +140,10 @@ module _ (s : List ℕ) (offset at inForce last : ℕ) (old : List ℕ) (to : �
   module _ {x : Parsed} (e : x ≡ endOf (uncheckedHead inForce (drop inForce s))) {fields : ℕ} (f : x ≡ Past fields)
       {y : Parsed} (g : y ≡ endOf (uncheckedHead last (drop last s))) {lastFields : ℕ} (h : y ≡ Past lastFields) where
     fields-are : (p : Prototype) (k : Stands s inForce p) → k .fields ≡ fields
-    fields-are p k = past-same (sym (standing s inForce e p k) ∙ f)
+    fields-are p k = next-same (sym (standing s inForce e p k) ∙ f)
 
     last-are : (q : Prototype) (k : Stands s last q) → k .fields ≡ lastFields
-    last-are q k = past-same (sym (standing s last g q k) ∙ h)
+    last-are q k = next-same (sym (standing s last g q k) ∙ h)
 
     module _ {r : Bool} (w : SameFields s inForce last fields lastFields r) where
       -- the two counts that the text compares
@@ -180,7 +177,7 @@ module _ (s : List ℕ) (offset at inForce last : ℕ) (old : List ℕ) (to : �
         unfolding valuesOffset
         whole-block {v} {new} y = record {
           writes = λ p q k l b i j o d c t.
-              let first : start ≡ j = past-same (sym m ∙ n ∙ id-past s at d) in
+              let first : start ≡ j = next-same (sym m ∙ n ∙ id-past s at d) in
               let count = counts p q k l (b .values) (values-length (p .fields) s j t) in
               let begin : offset + length (b .head) + length (b .id .raw) ≡ start = ap (λ (a : ℕ). a + length (b .id .raw)) (sym i) ∙ sym o ∙ sym first in
               subst (λ (x : Reply (List ℕ)). WrittenIs old to x c v new)

@@ -16,10 +16,10 @@ use Rattle.bsii_format.specs.Text.{valueText}
 use Rattle.bsii_format.specs.BlockText.{joined, orRefuse, fieldsText}
 use Rattle.bsii_format.proofs.Readers.{map-ok}
 use Rattle.bsii_format.proofs.Parsers.{value-exact}
+use Rattle.bsii_format.proofs.Positions.{step}
 use Rattle.bsii_value.specs.Answers.{faultIs, refusedAt}
 use Rattle.bsii_value.specs.declared.answers.Refusal.{Refusal}
 use Rattle.bsii_past.proofs.Blocks.{turn, done as no-values}
-use Rattle.bsii_element.proofs.Standing.{step}
 use Rattle.bsii_definition.specs.Pairs.{definition, Paired, PairIs, both, ends, last-longer, last-shorter, PairOf}
 use Rattle.bsii_definition.specs.declared.pairs.Definition.{Definition}
 use Rattle.bsii_definition.specs.declared.pairs.Pair.{Pair}

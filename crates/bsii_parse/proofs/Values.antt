@@ -14,7 +14,7 @@ use Rattle.bsii_value.specs.Answers.{faultIs, endOf, uncheckedStr}
 use Rattle.bsii_value.specs.declared.answers.Refusal.{Refusal}
 use Rattle.bsii_value.specs.declared.answers.Parsed.{Parsed}
 use Rattle.bsii_value.specs.declared.answers.Parsed.the-variants.{Next, Fault}
-use Rattle.bsii_value.proofs.Ends.{end-ended, alike, next≢fault, next-ended, fault-ended}
+use Rattle.bsii_value.proofs.Ends.{end-ended, alike, next≢fault, next-ended, fault-ended, next-same}
 use Rattle.bsii_prototype.specs.Entries.{entryWith, uncheckedHead}
 use Rattle.bsii_prototype.specs.Answers.{entryOf}
 use Rattle.bsii_prototype.specs.declared.answers.Entry.the-variants.{Field, Last, Bad}
@@ -128,9 +128,6 @@ module _ {s : List ℕ} {o at : ℕ} {r : Parsed} (e : r ≡ endOf (uncheckedHea
   pub standing-block : {first : ℕ} {v : Parsed} → r ≡ Next first → BlockEnd s first at v → StandingEnd s o at v
   standing-block {first} {v} z b = record {
     ends = λ p h.
-        let i : first ≡ h .fields = next-is (sym z ∙ standing-next s o p h e) in
+        let i : first ≡ h .fields = next-same (sym z ∙ standing-next s o p h e) in
         b .ends _ _ _ (ap (λ n. fieldsParser n (drop n s)) i ∙ h .list);
   }
-    where
-      next-is : {a b : ℕ} → _≡_ {A = Parsed} (Next a) (Next b) → a ≡ b
-      next-is y = cc

@@ -30,6 +30,9 @@ mapped f R at s = alike ((f <$> R) at s) (R at s) (ended-map f R at s)
 pub next≢fault : {P : Type 0} {n : ℕ} {f : Refusal} → _≡_ {A = Parsed} (Next n) (Fault f) → P
 next≢fault e = let z : _≡_ {A = ℕ} 0 1 = cc in let f : ⊥ = omega arith in absurd f
 
+pub next-same : {a b : ℕ} → _≡_ {A = Parsed} (Next a) (Next b) → a ≡ b
+next-same e = cc
+
 pub next-ended : {A : Type 0} {R : Reader A} → Exact A R → (s : List ℕ) (at : ℕ) {n : ℕ} → Next n ≡ endOf (R at (drop at s)) → ended (R at (drop at s)) ≡ ok tt n (drop n s)
 unfolding endOf ended
 next-ended {A} {R} x s at {n} e = go (R at (drop at s)) refl e
