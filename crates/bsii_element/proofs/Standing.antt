@@ -1,5 +1,5 @@
 -- Where the elements of an array stand: the i-th one where i elements end.
-use mathlib.Core.Path.{_≡_, refl, sym, ap, ap₂, _∙_, subst}
+use mathlib.Core.Path.{_≡_, refl, sym, ap, _∙_, subst}
 use Prim.Native.Nat.{ℕ, zero, suc, _+_, _-_, _≤_, _<_}
 use native.Mathlib.Omega.{arith}
 use mathlib.Core.Option.{none, some}
@@ -7,9 +7,9 @@ use mathlib.Core.List.{List, [], _∷_}
 use lib.ListN.{length, drop, getElem?}
 use Rattle.bsii_format.specs.Reader.{ok, Reader, Consumed, consumed, repeat}
 use Rattle.bsii_format.specs.Calls.{Placed, placed}
-use Rattle.bsii_format.proofs.Readers.{Exact, consumed-took, consumed-exact}
-use Rattle.bsii_format.proofs.Positions.{moved, ended, repeat-none, repeat-step}
-use Rattle.bsii_float.proofs.NumbersAt.{split}
+use Rattle.bsii_format.proofs.Readers.{Exact}
+use Rattle.bsii_format.proofs.Positions.{step, ended, repeat-none, repeat-step}
+use Rattle.bsii_value.proofs.NumbersAt.{split}
 
 abbrev pub at-offset : {A : Type 0} → ℕ → A → Placed A
 at-offset p x = record { offset = p; it = x }
@@ -32,22 +32,6 @@ pub record Standing (A : Type 0) (R : Reader A) (s : List ℕ) (at : ℕ) (l : L
   pub reads : R start (drop start s) ≡ ok (it .value) next (drop next s)
   pub long : length (it .raw) ≡ next - start
   pub passed : ended (repeat i R at (drop at s)) ≡ ok tt start (drop start s)
-
--- what one step of the walk reads
-pub record Step (A : Type 0) (R : Reader A) (s : List ℕ) (at : ℕ) (a : Consumed A) (next : ℕ) (rest : List ℕ) : Type 0 where
-  pub reads : R at (drop at s) ≡ ok (a .value) next (drop next s)
-  pub behind : rest ≡ drop next s
-  pub place : next ≡ at + length (a .raw)
-
-pub step : {A : Type 0} {R : Reader A} → Exact A R → (s : List ℕ) (at : ℕ) {a : Consumed A} {next : ℕ} {rest : List ℕ} → consumed R at (drop at s) ≡ ok a next rest → Step A R s at a next rest
-step {A} {R} x s at {a} {next} {rest} e =
-    let t = consumed-took x at (drop at s) a next rest e in
-    let m = moved (consumed-exact x) s at e .rest in
-    record {
-      reads = ap (R at) (t .front) ∙ t .fit .reads at rest ∙ ap₂ (λ (i : ℕ) (r : List ℕ). ok (a .value) i r) (sym (t .place)) m;
-      behind = m;
-      place = t .place;
-    }
 
 pub standing : {A : Type 0} {R : Reader A} → Exact A R → (s : List ℕ) (n at : ℕ) {l : List (Consumed A)} {e : ℕ} {r : List ℕ}
     → repeat n (consumed R) at (drop at s) ≡ ok l e r → (i : ℕ) → i < n → Standing A R s at l i

@@ -1,33 +1,39 @@
 -- A block by its number, and by its number under a prototype name.
-use mathlib.Core.Path.{_≡_, refl, sym, ap, ap₂, _∙_, subst}
+use mathlib.Core.Path.{_≡_, refl, sym, ap, _∙_, subst}
 use Prim.Native.Nat.{ℕ, zero, suc, _+_, _-_, _≤_}
 use native.Mathlib.Omega.{arith}
 use mathlib.Core.Bool.{Bool, true, false, cond}
 use mathlib.Core.Option.{Option, none, some, Option·map}
 use mathlib.Core.List.{List, [], _∷_}
 use lib.ListN.{length, drop, getElem?}
-use Rattle.bsii_format.specs.Replies.{gives, refusal}
-use Rattle.bsii_format.specs.Reader.{ok}
+use lib.Dec.{leb, eqb}
+use Rattle.bsii_format.specs.Replies.{gives, malformed, absent}
+use Rattle.bsii_format.specs.Reader.{Result, ok, verify, success, _>>=_}
+use Rattle.bsii_format.specs.Numbers.{leU8, leU32}
+use Rattle.bsii_format.specs.Strings.{strParser}
 use Rattle.bsii_format.specs.Prototypes.{Prototype}
 use Rattle.bsii_format.specs.Blocks.{DataBlock, getPrototype}
-use Rattle.bsii_format.specs.File.{prototypesOf, BsiiFile}
+use Rattle.bsii_format.specs.File.{Head, carrying, markParser, headParser, prototypesOf}
 use Rattle.bsii_format.specs.Calls.{Placed, BlockAnswer, blockAnswer, blocksOf, blockCall, isNamed, numbersNamed, blocksByPrototypeName, namedBlockCall, orAbsent}
 use Rattle.bsii_format.specs.BlockText.{orRefuse}
+use Rattle.bsii_format.proofs.Readers.{after-ok, ok-val}
 use Rattle.bsii_format.proofs.Positions.{moved}
-use Rattle.bsii_value.specs.Answers.{endOf}
+use Rattle.bsii_value.specs.Answers.{refusedAt, endOf}
+use Rattle.bsii_value.specs.NumbersAt.{numberAt}
 use Rattle.bsii_value.specs.declared.answers.Parsed.{Parsed}
+use Rattle.bsii_value.specs.declared.answers.Refusal.{Refusal}
 use Rattle.bsii_value.specs.declared.answers.Parsed.the-variants.{Next, Fault}
+use Rattle.bsii_value.proofs.Ends.{next≢fault, next-same}
+use Rattle.bsii_value.proofs.NumbersAt.{number-is}
 use Rattle.bsii_prototype.proofs.Entries.{next-is}
 use Rattle.bsii_past.specs.Unchecked.{uncheckedId}
 use Rattle.bsii_past.proofs.Exact.{unchecked-id-exact}
 use Rattle.bsii_past.proofs.Values.{id-same}
 use Rattle.bsii_parse.specs.Walks.{ReadFile}
+use Rattle.bsii_parse.specs.declared.walk.Totals.{Totals}
 use Rattle.bsii_parse.specs.declared.walk.Walked.{Walked}
 use Rattle.bsii_parse.specs.declared.walk.Walked.the-variants.{Done, Fault as Stopped}
-use Rattle.bsii_again.specs.Again.{KindAt}
-use Rattle.bsii_again.specs.Seek.{Numbered, passOver, seekIn, BlockIs, blocksFrom, Sought, sought, missed, Seeks}
-use Rattle.bsii_again.specs.declared.records.Kind.{Kind}
-use Rattle.bsii_again.specs.declared.records.Kind.the-variants.{Ends, Defines, Carries}
+use Rattle.bsii_again.specs.Seek.{Numbered, passOver, seekIn, BlockIs, Sought, sought, missed, Seeks}
 use Rattle.bsii_again.specs.declared.seek.Block.{Block}
 use Rattle.bsii_again.specs.declared.seek.BlockAt.{BlockAt}
 use Rattle.bsii_again.specs.declared.seek.BlockAt.the-variants.{Block as ABlock, NoBlock}
@@ -35,7 +41,6 @@ use Rattle.bsii_file.specs.Answers.{blockIs, numberIs}
 use Rattle.bsii_file.specs.Lookups.{BlockAnswered}
 use Rattle.bsii_file.specs.declared.blocks.BlockReply.{BlockReply}
 use Rattle.bsii_file.specs.declared.blocks.BlockReply.the-variants as block
-use Rattle.bsii_file.specs.declared.blocks.NumberReply.{NumberReply}
 use Rattle.bsii_file.specs.declared.blocks.NumberReply.the-variants as number
 use Rattle.bsii_file.proofs.Lookups.{WasRead, was-read, read-answers, unread-refuses}
 use Rattle.bsii_file.proofs.Rereading.{standing-first, blocks-are}
@@ -77,7 +82,7 @@ was-missed : {s : List ℕ} {last : List Prototype} {o : Option Numbered} {r : B
 was-missed (sought x i e) z = let y : _≡_ {A = ℕ} 0 1 = cc in let f : ⊥ = omega arith in absurd f
 was-missed (missed e) z = e
 
-module _ {s t : List ℕ} {rows blocks n : ℕ} {t′ : List ℕ} (w : WasRead s t rows blocks n t′) {any : Bool} {name : List ℕ} {k : ℕ} {r : BlockAt} (h : Seeks s 8 t′ rows any name k r) where
+module _ {s t : List ℕ} {a : Totals} {t′ : List ℕ} (w : WasRead s t a t′) {any : Bool} {name : List ℕ} {k : ℕ} {r : BlockAt} (h : Seeks s 8 t′ (a .rows) any name k r) where
   here : Sought s (prototypesOf (w .file .records)) (seekIn (prototypesOf (w .file .records)) any name 0 k (blocksOf (w .file))) r
   here = subst (λ l. Sought s (prototypesOf (w .file .records)) (seekIn (prototypesOf (w .file .records)) any name 0 k l) r) (blocks-are w) (h .seeks _ _ _ (standing-first w))
 
@@ -89,66 +94,57 @@ module _ {s t : List ℕ} {rows blocks n : ℕ} {t′ : List ℕ} (w : WasRead s
 
 -- ---- the parts of a block that was found
 
-module _ (s : List ℕ) (b : Block) {k : Kind} (h : KindAt s (b .at) k) where
-  carries : (last : List Prototype) (x : Placed DataBlock) → BlockIs s last b x → k ≡ Carries (x .it .prototypeId) (b .id)
-  carries last x i = h .is _ _ _ (i .head)
+-- also where nobody knows that an id stands there
+pub id-later : (s : List ℕ) (next : ℕ) {q : Parsed} → q ≡ endOf (uncheckedId next (drop next s)) → {m : ℕ} → q ≡ Next m → next ≤ m
+id-later s next e y = let r = next-is (uncheckedId next (drop next s)) (sym y ∙ e) in moved unchecked-id-exact s next (r .2) .later
 
-  pub answered-end : k ≡ Ends → (v : BlockReply) → BlockAnswered s b v
-  answered-end z v = record { answers = λ last x i. no (sym z ∙ carries last x i) }
+-- a block's record number is its prototype id
+head-number : (s : List ℕ) (at : ℕ) {k n : ℕ} {r : List ℕ} → headParser at (drop at s) ≡ ok (carrying k) n r → numberAt 4 s at ≡ k
+unfolding headParser markParser _>>=_ success
+head-number s at {k} {n} {r} e = let q = after-ok (leU32 at (drop at s)) _ e in number-is 4 s at (q .3) ∙ go (eqb (q .0) 0) (q .0) (q .1) (q .2) (q .4)
+  where
+    other : {P : Type 0} {h : Head} {i : ℕ} {t : List ℕ} → (h ≡ carrying k → P) → _≡_ {A = Result Head} (ok h i t) (ok (carrying k) n r) → P
+    other f h = f (ok-val h)
+
+    marked : {P : Type 0} (m i : ℕ) (t : List ℕ) → markParser m i t ≡ ok (carrying k) n r → P
+    marked zero i t h = other (λ z. let y : _≡_ {A = ℕ} 0 1 = cc in absurd (omega arith)) h
+    marked (suc m) i t h =
+        let p = after-ok (leU32 i t) _ h in
+        let o = after-ok (strParser (p .1) (p .2)) _ (p .4) in
+        other (λ z. let y : _≡_ {A = ℕ} 0 1 = cc in absurd (omega arith)) (o .4)
+
+    go : (b : Bool) (v i : ℕ) (t : List ℕ) → cond b (verify (λ m. leb m 1) malformed leU8 >>= markParser) (success (carrying v)) i t ≡ ok (carrying k) n r → v ≡ k
+    go true v i t h = let p = after-ok (verify (λ m. leb m 1) malformed leU8 i t) markParser h in marked (p .0) (p .1) (p .2) (p .4)
+    go false v i t h = let z = ok-val h in cc
+
+module _ {s : List ℕ} {b : Block} {q : Parsed} (e : q ≡ endOf (uncheckedId (b .id) (drop (b .id) s))) where
+  id-ends : (last : List Prototype) (x : Placed DataBlock) → BlockIs s last b x → q ≡ Next (b .id + length (x .it .id .raw))
+  id-ends last x i = e ∙ id-same (b .id) (drop (b .id) s) (i .id)
+
+  pub answered-fault : {f : Refusal} → q ≡ Fault f → (v : BlockReply) → BlockAnswered s b v
+  answered-fault y v = record { answers = λ last x i. next≢fault (sym (id-ends last x i) ∙ y) }
+
+  pub answered : {m k : ℕ} → q ≡ Next m → k ≡ numberAt 4 s (b .at) → BlockAnswered s b (block.Block k (b .id) (m - b .id))
+  unfolding blockAnswer
+  answered {m} {k} y z = record {
+    answers = λ last x i.
+        let j : m ≡ b .id + length (x .it .id .raw) = next-same (sym y ∙ id-ends last x i) in
+        let l : m - b .id ≡ length (x .it .id .raw) = omega (arith, j) in
+        ap gives (made (z ∙ head-number s (b .at) (i .head)) (i .idPlace) l);
+  }
     where
-      no : {P : Type 0} {a c : ℕ} → _≡_ {A = Kind} Ends (Carries a c) → P
-      no e = let y : _≡_ {A = ℕ} 0 1 = cc in let f : ⊥ = omega arith in absurd f
-
-  pub answered-defines : {id : ℕ} → k ≡ Defines id → (v : BlockReply) → BlockAnswered s b v
-  answered-defines z v = record { answers = λ last x i. no (sym z ∙ carries last x i) }
-    where
-      no : {P : Type 0} {d a c : ℕ} → _≡_ {A = Kind} (Defines d) (Carries a c) → P
-      no e = let y : _≡_ {A = ℕ} 0 1 = cc in let f : ⊥ = omega arith in absurd f
-
-  module _ {id next : ℕ} (z : k ≡ Carries id next) {q : Parsed} (e : q ≡ endOf (uncheckedId next (drop next s))) where
-    parts : (last : List Prototype) (x : Placed DataBlock) → BlockIs s last b x → (id ≡ x .it .prototypeId) × (next ≡ b .id) × (q ≡ Next (b .id + length (x .it .id .raw)))
-    parts last x i =
-        let y = sym z ∙ carries last x i in
-        let j : next ≡ b .id = cc in
-        let l : id ≡ x .it .prototypeId = cc in
-        (l, j, e ∙ ap (λ (m : ℕ). endOf (uncheckedId m (drop m s))) j ∙ id-same (b .id) (drop (b .id) s) (i .id))
-
-    pub answered-fault : {m o : ℕ} → q ≡ Fault m o → (v : BlockReply) → BlockAnswered s b v
-    answered-fault y v = record { answers = λ last x i. no (sym (parts last x i .2) ∙ y) }
-      where
-        no : {P : Type 0} {a c d : ℕ} → _≡_ {A = Parsed} (Next a) (Fault c d) → P
-        no e = let y : _≡_ {A = ℕ} 0 1 = cc in let f : ⊥ = omega arith in absurd f
-
-    -- also where nobody knows that an id stands there
-    pub id-later : {m : ℕ} → q ≡ Next m → next ≤ m
-    id-later y = let r = next-is (uncheckedId next (drop next s)) (sym y ∙ e) in moved unchecked-id-exact s next (r .2) .later
-
-    pub answered : {m : ℕ} → q ≡ Next m → BlockAnswered s b (block.Block id next (m - next))
-    unfolding blockAnswer
-    answered {m} y = record {
-      answers = λ last x i.
-          let p = parts last x i in
-          let j : m ≡ b .id + length (x .it .id .raw) = at-is (sym y ∙ p .2) in
-          let o : next ≡ x .offset + length (x .it .head) = p .1 ∙ i .idPlace in
-          let l : m - next ≡ length (x .it .id .raw) = omega (arith, j, p .1) in
-          ap gives (made (p .0) o l);
-    }
-      where
-        at-is : {a c : ℕ} → _≡_ {A = Parsed} (Next a) (Next c) → a ≡ c
-        at-is e = cc
-
-        made : {a a′ c c′ d d′ : ℕ} → a ≡ a′ → c ≡ c′ → d ≡ d′
-            → _≡_ {A = BlockAnswer} (record { prototypeId = a; id = record { offset = c; size = d } }) (record { prototypeId = a′; id = record { offset = c′; size = d′ } })
-        made e f g = cc
+      made : {a a′ c c′ d d′ : ℕ} → a ≡ a′ → c ≡ c′ → d ≡ d′
+          → _≡_ {A = BlockAnswer} (record { prototypeId = a; id = record { offset = c; size = d } }) (record { prototypeId = a′; id = record { offset = c′; size = d′ } })
+      made e f g = cc
 
 -- ---- the calls
 
-module _ (s t : List ℕ) (k : ℕ) {r : Walked} {t′ : List ℕ} (h : ReadFile s t r t′) where
-  pub block-refused : {m o : ℕ} → r ≡ Stopped m o → blockIs (block.Refused m o) ≡ blockCall (length t) s k
+module _ {s t : List ℕ} {r : Walked} {t′ : List ℕ} (h : ReadFile s t r t′) where
+  pub block-refused : (k : ℕ) {f : Refusal} → r ≡ Stopped f → blockIs (block.Refused f) ≡ blockCall (length t) s k
   unfolding blockCall
-  block-refused q = sym (unread-refuses (λ f at. orAbsent (Option·map blockAnswer (getElem? (blocksOf f) k))) h q)
+  block-refused k q = sym (unread-refuses (λ f at. orAbsent (Option·map blockAnswer (getElem? (blocksOf f) k))) h q)
 
-  module _ {rows blocks n : ℕ} (q : r ≡ Done rows blocks n) {name : List ℕ} {p : BlockAt} (x : Seeks s 8 t′ rows true name k p) where
+  module _ {a : Totals} (q : r ≡ Done a) {name : List ℕ} {k : ℕ} {p : BlockAt} (x : Seeks s 8 t′ (a .rows) true name k p) where
     is-block : {o : Option Numbered} → seekIn (prototypesOf (was-read h q .file .records)) true name 0 k (blocksOf (was-read h q .file)) ≡ o
         → blockCall (length t) s k ≡ orAbsent (Option·map blockAnswer (Option·map (λ (y : Numbered). y .of) o))
     unfolding blockCall
@@ -157,20 +153,20 @@ module _ (s t : List ℕ) (k : ℕ) {r : Walked} {t′ : List ℕ} (h : ReadFile
         read-answers (λ f at. orAbsent (Option·map blockAnswer (getElem? (blocksOf f) k))) w
         ∙ ap (λ o. orAbsent (Option·map blockAnswer o)) (sym (seek-any (prototypesOf (w .file .records)) name 0 k (blocksOf (w .file))) ∙ ap (Option·map (λ (y : Numbered). y .of)) e)
 
-    pub block-absent : p ≡ NoBlock → blockIs (block.Refused 13 0) ≡ blockCall (length t) s k
+    pub block-absent : p ≡ NoBlock → blockIs (block.Refused (refusedAt absent 0)) ≡ blockCall (length t) s k
     unfolding orRefuse
     block-absent z = sym (is-block (block-missed (was-read h q) x z))
 
     pub block-answers : {b : Block} → p ≡ ABlock b → {v : BlockReply} → BlockAnswered s b v → blockIs v ≡ blockCall (length t) s k
     unfolding orRefuse
-    block-answers z a = let f = block-found (was-read h q) x z in a .answers _ (f .block) (f .parts) ∙ sym (is-block (f .found))
+    block-answers z v = let f = block-found (was-read h q) x z in v .answers _ (f .block) (f .parts) ∙ sym (is-block (f .found))
 
-module _ (s t name : List ℕ) (k : ℕ) {r : Walked} {t′ : List ℕ} (h : ReadFile s t r t′) where
-  pub number-refused : {m o : ℕ} → r ≡ Stopped m o → numberIs (number.Refused m o) ≡ namedBlockCall (length t) s name k
+module _ {s t : List ℕ} {r : Walked} {t′ : List ℕ} (h : ReadFile s t r t′) where
+  pub number-refused : (name : List ℕ) (k : ℕ) {f : Refusal} → r ≡ Stopped f → numberIs (number.Refused f) ≡ namedBlockCall (length t) s name k
   unfolding namedBlockCall
-  number-refused q = sym (unread-refuses (λ f at. orAbsent (getElem? (blocksByPrototypeName name f) k)) h q)
+  number-refused name k q = sym (unread-refuses (λ f at. orAbsent (getElem? (blocksByPrototypeName name f) k)) h q)
 
-  module _ {rows blocks n : ℕ} (q : r ≡ Done rows blocks n) {p : BlockAt} (x : Seeks s 8 t′ rows false name k p) where
+  module _ {a : Totals} (q : r ≡ Done a) {name : List ℕ} {k : ℕ} {p : BlockAt} (x : Seeks s 8 t′ (a .rows) false name k p) where
     is-number : {o : Option Numbered} → seekIn (prototypesOf (was-read h q .file .records)) false name 0 k (blocksOf (was-read h q .file)) ≡ o
         → namedBlockCall (length t) s name k ≡ orAbsent (Option·map (λ (y : Numbered). y .number) o)
     unfolding namedBlockCall blocksByPrototypeName
@@ -179,7 +175,7 @@ module _ (s t name : List ℕ) (k : ℕ) {r : Walked} {t′ : List ℕ} (h : Rea
         read-answers (λ f at. orAbsent (getElem? (blocksByPrototypeName name f) k)) w
         ∙ ap orAbsent (sym (seek-named (prototypesOf (w .file .records)) name 0 k (blocksOf (w .file))) ∙ ap (Option·map (λ (y : Numbered). y .number)) e)
 
-    pub number-absent : p ≡ NoBlock → numberIs (number.Refused 13 0) ≡ namedBlockCall (length t) s name k
+    pub number-absent : p ≡ NoBlock → numberIs (number.Refused (refusedAt absent 0)) ≡ namedBlockCall (length t) s name k
     unfolding orRefuse
     number-absent z = sym (is-number (block-missed (was-read h q) x z))
 

@@ -1,6 +1,4 @@
 // A block by its number, and by its number among those under a prototype name.
-use bsii_again::records::Kind;
-use bsii_again::records::kind_at;
 use bsii_again::seek::Block;
 use bsii_again::seek::BlockAt;
 use bsii_again::seek::seek;
@@ -8,7 +6,11 @@ use bsii_parse::reading::bsii_parser;
 use bsii_parse::walk::Walked;
 use bsii_past::id_past;
 use bsii_table::clear;
+use bsii_value::answers::ABSENT;
 use bsii_value::answers::Parsed;
+use bsii_value::answers::Refusal;
+use bsii_value::answers::refused;
+use bsii_value::at::u32_at;
 ghost use mathlib.Core.Path.{_≡_};
 ghost use lib.ListN.{length};
 ghost use Rattle.bsii_format.specs.Calls.{blockCall, namedBlockCall, tableAfter};
@@ -22,42 +24,27 @@ pub enum BlockReply {
         id: usize,
         id_size: usize,
     },
-    Refused {
-        number: u32,
-        offset: usize,
-    },
+    Refused(Refusal),
 }
 
 pub enum NumberReply {
     Number(usize),
-    Refused { number: u32, offset: usize },
+    Refused(Refusal),
 }
 
-// A block that was found.
+// A block that was found. Its id was passed on the way to it, so no input is refused here.
 fn block_found(s: &[u8], b: Block) -> BlockReply
     ensures { λ r. ⌜ BlockAnswered (now (s .entry)) b r ⌝ }
 {
-    let kind = kind_at(s, b.at);
-    match kind {
-        Kind::Ends => BlockReply::Refused {
-            number: 13,
-            offset: 0,
+    let start = b.id;
+    let end = id_past(s, start);
+    match end {
+        Parsed::Fault(f) => BlockReply::Refused(f),
+        Parsed::Next(behind) => BlockReply::Block {
+            prototype_id: u32_at(s, b.at),
+            id: start,
+            id_size: behind - start,
         },
-        Kind::Defines(_) => BlockReply::Refused {
-            number: 13,
-            offset: 0,
-        },
-        Kind::Carries { id, next } => {
-            let end = id_past(s, next);
-            match end {
-                Parsed::Fault { number, offset } => BlockReply::Refused { number, offset },
-                Parsed::Next(behind) => BlockReply::Block {
-                    prototype_id: id,
-                    id: next,
-                    id_size: behind - next,
-                },
-            }
-        }
     }
 }
 
@@ -67,18 +54,11 @@ fn read_block(file: &[u8], table: &mut [u32], k: usize) -> BlockReply
 {
     let walked = bsii_parser(file, table);
     match walked {
-        Walked::Fault { number, offset } => return BlockReply::Refused { number, offset },
-        Walked::Done {
-            rows,
-            blocks: _,
-            next: _,
-        } => {
-            let place = seek(file, 8, table, rows, true, file, k);
+        Walked::Fault(f) => return BlockReply::Refused(f),
+        Walked::Done(t) => {
+            let place = seek(file, 8, table, t.rows, true, file, k);
             match place {
-                BlockAt::NoBlock => return BlockReply::Refused {
-                    number: 13,
-                    offset: 0,
-                },
+                BlockAt::NoBlock => return BlockReply::Refused(refused(ABSENT, 0)),
                 BlockAt::Block(b) => return block_found(file, b),
             }
         }
@@ -99,18 +79,11 @@ fn read_named(file: &[u8], table: &mut [u32], name: &[u8], n: usize) -> NumberRe
 {
     let walked = bsii_parser(file, table);
     match walked {
-        Walked::Fault { number, offset } => return NumberReply::Refused { number, offset },
-        Walked::Done {
-            rows,
-            blocks: _,
-            next: _,
-        } => {
-            let place = seek(file, 8, table, rows, false, name, n);
+        Walked::Fault(f) => return NumberReply::Refused(f),
+        Walked::Done(t) => {
+            let place = seek(file, 8, table, t.rows, false, name, n);
             match place {
-                BlockAt::NoBlock => return NumberReply::Refused {
-                    number: 13,
-                    offset: 0,
-                },
+                BlockAt::NoBlock => return NumberReply::Refused(refused(ABSENT, 0)),
                 BlockAt::Block(b) => return NumberReply::Number(b.number),
             }
         }

@@ -2,6 +2,7 @@
 pub mod Readers
 pub mod ReplyLaws
 pub mod Positions
+pub mod Follows
 pub mod Parsers
 pub mod Records
 pub mod File

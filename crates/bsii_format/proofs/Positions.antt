@@ -10,9 +10,9 @@ use lib.ListN.{length, take, drop, length-append, length-drop}
 use lib.Seq.{drop-drop, drop-append-seam}
 use lib.Dec.{T, leb, leb→le, le→leb}
 use Rattle.bsii_format.specs.Replies.{Fault, malformed}
-use Rattle.bsii_format.specs.Reader.{Result, ok, fault, Reader, faultAt, after, _>>=_, success, _<$>_, bytes, verify, with, consumed, repeat}
+use Rattle.bsii_format.specs.Reader.{Result, ok, fault, Reader, faultAt, after, _>>=_, success, _<$>_, bytes, verify, Consumed, with, consumed, repeat}
 use Rattle.bsii_format.specs.Numbers.{littleEndian, number}
-use Rattle.bsii_format.proofs.Readers.{Exact, is-true, is-false, fault≢ok, fault-is, takes}
+use Rattle.bsii_format.proofs.Readers.{Exact, consumed-took, consumed-exact, is-true, is-false, fault≢ok, fault-is, takes}
 
 -- ---- a reader at a position leaves the file from a later position on
 
@@ -32,6 +32,22 @@ moved x s at {v} {at′} {r} e =
       later = omega (arith, t .1 .place);
       taken = omega (arith, t .1 .place);
       inside = λ h. omega (arith, t .1 .place);
+    }
+
+-- a value that is read with its bytes: they lie between its offset and the next
+pub record Stepped (A : Type 0) (R : Reader A) (s : List ℕ) (at : ℕ) (a : Consumed A) (next : ℕ) (rest : List ℕ) : Type 0 where
+  pub reads : R at (drop at s) ≡ ok (a .value) next (drop next s)
+  pub behind : rest ≡ drop next s
+  pub place : next ≡ at + length (a .raw)
+
+pub step : {A : Type 0} {R : Reader A} → Exact A R → (s : List ℕ) (at : ℕ) {a : Consumed A} {next : ℕ} {rest : List ℕ} → consumed R at (drop at s) ≡ ok a next rest → Stepped A R s at a next rest
+step {A} {R} x s at {a} {next} {rest} e =
+    let t = consumed-took x at (drop at s) a next rest e in
+    let m = moved (consumed-exact x) s at e .rest in
+    record {
+      reads = ap (R at) (t .front) ∙ t .fit .reads at rest ∙ ap₂ (λ (i : ℕ) (r : List ℕ). ok (a .value) i r) (sym (t .place)) m;
+      behind = m;
+      place = t .place;
     }
 
 -- ---- bytes and numbers at a position

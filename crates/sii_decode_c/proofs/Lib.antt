@@ -1,3 +1,3 @@
 -- The laws that the proofs share.
-pub mod Twos
+pub mod Signed
 pub mod Words

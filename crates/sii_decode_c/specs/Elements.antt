@@ -1,17 +1,13 @@
 -- The C struct of an element: its kind, and a place, a number or words; or a refusal's number and offset and nothing else.
-use Prim.Native.Nat.{ℕ, suc, _-_}
+use Prim.Native.Nat.{ℕ}
 use mathlib.Core.Bool.{cond}
-use lib.IntN.{ℤ, pos, negsuc}
+use lib.IntN.{ℤ}
 use lib.Ieee.{Float}
-use Rattle.bsii_format.specs.Replies.{Reply, gives, refuses}
+use Rattle.bsii_format.specs.Replies.{Fault, Reply, gives, refuses}
 use Rattle.bsii_format.specs.Calls.{Place, Datum, dString, dEncodedString, dFloat, dFloatVec2, dFloatVec3, dFloatVec4, dFloatVec8, dInt32, dInt32Vec3, dUInt32, dUInt16, dInt64, dUInt64, dBool, dEnum, dId}
 use Rattle.bsii_float.specs.Bits.{bitsOf}
+use Rattle.bsii_element.specs.Twos.{twos}
 use Rattle.sii_decode_c.specs.declared.elements.SiiElement.{SiiElement}
-
--- two's complement: m is 2^32 or 2^64
-abbrev pub twos : ℕ → ℤ → ℕ
-twos m (pos n) = n
-twos m (negsuc n) = m - suc n
 
 abbrev pub twos32 : ℤ → ℕ
 twos32 = twos 0x1_0000_0000
@@ -32,8 +28,8 @@ valueOut k n = record { number = 0; offset = 0; kind = k; «place_offset» = 0; 
 abbrev pub wordsOut : ℕ → ℕ → ℕ → ℕ → ℕ → ℕ → ℕ → ℕ → ℕ → SiiElement
 wordsOut k a b c d e f g h = record { number = 0; offset = 0; kind = k; «place_offset» = 0; «place_len» = 0; value = 0; a = a; b = b; c = c; d = d; e = e; f = f; g = g; h = h }
 
-abbrev pub refusedOut : ℕ → ℕ → SiiElement
-refusedOut n at = record { number = n; offset = at; kind = 0; «place_offset» = 0; «place_len» = 0; value = 0; a = 0; b = 0; c = 0; d = 0; e = 0; f = 0; g = 0; h = 0 }
+abbrev pub refusedOut : Fault → SiiElement
+refusedOut f = record { number = f .number; offset = f .offset; kind = 0; «place_offset» = 0; «place_len» = 0; value = 0; a = 0; b = 0; c = 0; d = 0; e = 0; f = 0; g = 0; h = 0 }
 
 abbrev pub datumOut : Datum → SiiElement
 datumOut (dString p) = placeOut 1 (p .offset) (p .size)
@@ -55,4 +51,4 @@ datumOut (dId p) = placeOut 16 (p .offset) (p .size)
 
 abbrev pub elementOut : Reply Datum → SiiElement
 elementOut (gives d) = datumOut d
-elementOut (refuses f) = refusedOut (f .number) (f .offset)
+elementOut (refuses f) = refusedOut f

@@ -84,9 +84,9 @@ pub extern "C" fn sii_read(file: &[u8], table: &mut [u32]) -> SiiReading
             blocks: blocks as u64,
             next: next as u64,
         },
-        Reading::Refused { number, offset } => SiiReading {
-            number,
-            offset: offset as u64,
+        Reading::Refused(f) => SiiReading {
+            number: f.number,
+            offset: f.offset as u64,
             prototypes: 0,
             blocks: 0,
             next: 0,
@@ -112,9 +112,9 @@ pub extern "C" fn sii_get_prototype(file: &[u8], table: &mut [u32], id: u32) -> 
             name_len: name_size as u64,
             fields: fields as u64,
         },
-        PrototypeReply::Refused { number, offset } => SiiPrototype {
-            number,
-            offset: offset as u64,
+        PrototypeReply::Refused(f) => SiiPrototype {
+            number: f.number,
+            offset: f.offset as u64,
             name_offset: 0,
             name_len: 0,
             fields: 0,
@@ -140,9 +140,9 @@ pub extern "C" fn sii_block_at(file: &[u8], table: &mut [u32], n: u64) -> SiiBlo
             id_offset: id as u64,
             id_len: id_size as u64,
         },
-        BlockReply::Refused { number, offset } => SiiBlock {
-            number,
-            offset: offset as u64,
+        BlockReply::Refused(f) => SiiBlock {
+            number: f.number,
+            offset: f.offset as u64,
             prototype_id: 0,
             id_offset: 0,
             id_len: 0,
@@ -167,9 +167,9 @@ pub extern "C" fn sii_blocks_by_prototype_name(
             offset: 0,
             value: value as u64,
         },
-        NumberReply::Refused { number, offset } => SiiNumber {
-            number,
-            offset: offset as u64,
+        NumberReply::Refused(f) => SiiNumber {
+            number: f.number,
+            offset: f.offset as u64,
             value: 0,
         },
     }
@@ -193,9 +193,9 @@ pub extern "C" fn sii_field_of(file: &[u8], table: &mut [u32], block: u64, name:
             part_offset: part as u64,
             part_len: part_size as u64,
         },
-        FieldReply::Refused { number, offset } => SiiField {
-            number,
-            offset: offset as u64,
+        FieldReply::Refused(f) => SiiField {
+            number: f.number,
+            offset: f.offset as u64,
             type_id: 0,
             part_offset: 0,
             part_len: 0,
@@ -216,13 +216,9 @@ pub extern "C" fn sii_to_siin(file: &[u8], table: &mut [u32], output: &mut [u8])
             offset: 0,
             length: n as u64,
         },
-        TextReply::Refused {
-            number,
-            offset,
-            needed,
-        } => SiiText {
-            number,
-            offset: offset as u64,
+        TextReply::Refused { refusal, needed } => SiiText {
+            number: refusal.number,
+            offset: refusal.offset as u64,
             length: needed as u64,
         },
     }

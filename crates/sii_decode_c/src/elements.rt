@@ -1,14 +1,17 @@
 // The element call. Floats go as their bits, all NaN as one; signed numbers as their two's complement.
 use bsii_element::answers::Element;
 use bsii_element::elements::element;
+use bsii_element::signed::bits32;
+use bsii_element::signed::bits64;
 use bsii_float::floats::Placement;
 use bsii_float::floats::bits_of;
+use bsii_value::answers::Refusal;
 ghost use mathlib.Core.Path.{_≡_};
 ghost use mathlib.Core.Bool.{cond};
-ghost use Rattle.bsii_format.specs.Numbers.{signed};
 ghost use Rattle.bsii_format.specs.Calls.{elementCall};
+ghost use Rattle.bsii_value.specs.Answers.{faultIs};
 ghost use Rattle.bsii_element.specs.Cases.{elementIs};
-ghost use Rattle.sii_decode_c.specs.Elements.{twos32, twos64, word, placeOut, valueOut, wordsOut, refusedOut, elementOut};
+ghost use Rattle.sii_decode_c.specs.Elements.{twos64, word, placeOut, valueOut, wordsOut, refusedOut, elementOut};
 
 #[repr(C)]
 pub struct SiiElement {
@@ -76,12 +79,12 @@ fn place(kind: u32, offset: usize, size: usize) -> SiiElement
     }
 }
 
-fn refused(number: u32, offset: usize) -> SiiElement
-    ensures { λ r. ⌜ r ≡ refusedOut number offset ⌝ }
+fn refused(f: Refusal) -> SiiElement
+    ensures { λ r. ⌜ r ≡ refusedOut (faultIs f) ⌝ }
 {
     SiiElement {
-        number,
-        offset: offset as u64,
+        number: f.number,
+        offset: f.offset as u64,
         kind: 0,
         place_offset: 0,
         place_len: 0,
@@ -140,26 +143,10 @@ fn placement(p: Placement) -> SiiElement
 }
 
 // An i32 as an i64.
-fn extended(n: u32) -> u64
-    ensures { λ r. ⌜ r ≡ twos64 (signed 0x8000_0000 n) ⌝ }
+fn extended(n: i32) -> u64
+    ensures { λ r. ⌜ r ≡ twos64 n ⌝ }
 {
-    if n < 0x8000_0000 {
-        return n as u64;
-    }
-    n as u64 + 0xffff_ffff_0000_0000
-}
-
-// A signed number stands as its two's complement already: these two are there for their contracts.
-fn signed_word(n: u32) -> u32
-    ensures { λ r. ⌜ r ≡ twos32 (signed 0x8000_0000 n) ⌝ }
-{
-    n
-}
-
-fn signed_long(n: u64) -> u64
-    ensures { λ r. ⌜ r ≡ twos64 (signed 0x8000_0000_0000_0000 n) ⌝ }
-{
-    n
+    bits64(n as i64)
 }
 
 fn nonzero(b: bool) -> u64
@@ -183,15 +170,15 @@ fn copied(answer: Element) -> SiiElement
         Element::FloatVec4(v) => words(7, bits(v.a), bits(v.b), bits(v.c), bits(v.d)),
         Element::FloatVec8(p) => placement(p),
         Element::Int32(n) => number(9, extended(n)),
-        Element::Int32Vec3(v) => words(6, signed_word(v.a), signed_word(v.b), signed_word(v.c), 0),
+        Element::Int32Vec3(v) => words(6, bits32(v.a), bits32(v.b), bits32(v.c), 0),
         Element::UInt32(n) => number(10, n as u64),
         Element::UInt16(n) => number(11, n as u64),
-        Element::Int64(n) => number(12, signed_long(n)),
+        Element::Int64(n) => number(12, bits64(n)),
         Element::UInt64(n) => number(13, n),
         Element::Bool(b) => number(14, nonzero(b)),
         Element::Enum(n) => number(15, n as u64),
         Element::Id { offset, size } => place(16, offset, size),
-        Element::Refused { number, offset } => refused(number, offset),
+        Element::Refused(f) => refused(f),
     }
 }
 

@@ -1,20 +1,8 @@
 use denote.Ref.{now}
-use Rattle.bsii_file.proofs.BlockCalls.{answered-end, answered-defines, answered-fault, id-later, answered}
+use Rattle.bsii_file.proofs.BlockCalls.{answered-fault, id-later, answered}
 use borrow.Author.Needs.{needs}
 use Rattle.bsii_file.proofs.blocks.block_found.Statement.{statement}
 use Rattle.bsii_file.proofs.blocks.block_found.Tie as tie
-
-kind-at-requires : tie.Need-kind-at-requires
-kind-at-requires c κs = search needs
-
-enum-told : tie.Need-enum-told
-enum-told c = search needs
-
-enum-told-2 : tie.Need-enum-told-2
-enum-told-2 c = search needs
-
-enum-known-kind : tie.Need-enum-known-kind
-enum-known-kind c = search needs
 
 id-past-requires : tie.Need-id-past-requires
 id-past-requires c κs = search needs
@@ -25,34 +13,34 @@ enum-known-end c = search needs
 enum-known-end-2 : tie.Need-enum-known-end-2
 enum-known-end-2 c = search needs
 
-sub-t12 : tie.Need-sub-t12
-sub-t12 c = let k = c .before .before .before .before .before .before .before in let a = k .before .before .args in id-later (now (a .s)) (a .b) (k .kind-at .ensures) (c .before .before .before .before .before .kind .given .1) (c .before .before .before .id-past .ensures) (c .before .end2 .given .1)
+u32-at-requires : tie.Need-u32-at-requires
+u32-at-requires c κs = search needs
+
+sub-t9 : tie.Need-sub-t9
+sub-t9 c =
+    let told = c .before .before in
+    let passed = told .before .before in
+    let a = passed .before .before .args in
+    id-later (now (a .s)) (a .b .id) (passed .id-past .ensures) (told .end2 .given .1)
 
 returns : tie.Need-returns
-returns c = let k = c .before .before in let a = k .before .before .args in answered-end (now (a .s)) (a .b) (k .kind-at .ensures) (c .enum-told .given .1) _
+returns c =
+    let told = c .before in
+    answered-fault (told .before .before .id-past .ensures) (told .end .given .1) _
 
 returns-2 : tie.Need-returns-2
-returns-2 c = let k = c .before .before in let a = k .before .before .args in answered-defines (now (a .s)) (a .b) (k .kind-at .ensures) (c .enum-told2 .given .1) _
-
-returns-3 : tie.Need-returns-3
-returns-3 c = let k = c .before .before .before .before .before .before .before in let a = k .before .before .args in answered-fault (now (a .s)) (a .b) (k .kind-at .ensures) (c .before .before .before .before .before .kind .given .1) (c .before .before .before .id-past .ensures) (c .before .end .given .1) _
-
-returns-4 : tie.Need-returns-4
-returns-4 c = let k = c .before .before .before .before .before .before .before in let a = k .before .before .args in answered (now (a .s)) (a .b) (k .kind-at .ensures) (c .before .before .before .before .before .kind .given .1) (c .before .before .before .id-past .ensures) (c .before .end2 .given .1)
+returns-2 c =
+    let told = c .before .before in
+    answered (told .before .before .id-past .ensures) (told .end2 .given .1) (c .u32-at .ensures)
 
 pub block-found-spec : {M : Type 1} → statement M
 block-found-spec =
     tie.close
     (tie.spec
-    kind-at-requires
-    enum-told
-    enum-told-2
-    enum-known-kind
     id-past-requires
     enum-known-end
     enum-known-end-2
-    sub-t12
+    u32-at-requires
+    sub-t9
     returns
-    returns-2
-    returns-3
-    returns-4)
+    returns-2)

@@ -1,3 +1,4 @@
+-- The lines of the elements that are passed are written, and those of the rest follow: so it is at the start, and each element keeps it.
 use native.Mathlib.Omega.{arith}
 use denote.Ref.{now}
 use Rattle.bsii_value.specs.Kinds.{kindIs}

@@ -36,7 +36,12 @@ same-length : tie.Need-same-length
 same-length c = search needs
 
 returns : tie.Need-returns
-returns c = let a = c .before .before .before .before .before .before .before .before .before .before .before .before .before .before .before .args in body-refused (now (a .s)) (a .id) (a .start) (a .fields) (a .name) (a .last-fields) (c .before .before .before .before .before .before .before .before .before .write-opening .ensures) (fields-by (c .before .body .given .1) (c .before .before .before .before .before .write-fields .ensures))
+returns c =
+    let told = c .before in
+    let walked = told .before .before .before .before in
+    let opened = walked .before .before .before .before in
+    let a = opened .before .before .before .before .before .before .args in
+    body-refused (now (a .s)) (a .id) (a .start) (a .fields) (a .name) (a .last-fields) (opened .write-opening .ensures) (fields-by (told .body .given .1) (walked .write-fields .ensures))
 
 enum-known-body-2 : tie.Need-enum-known-body-2
 enum-known-body-2 c = search needs
@@ -52,7 +57,12 @@ same-length-2 c = search needs
 
 returns-2 : tie.Need-returns-2
 unfolding closing
-returns-2 c = let a = c .before .before .before .before .before .before .before .before .before .before .before .before .before .before .before .before .before .before .before .before .args in body-written (now (a .s)) (a .id) (a .start) (a .fields) (a .name) (a .last-fields) (c .before .before .before .before .before .before .before .before .before .before .before .before .before .before .write-opening .ensures) (fields-by (c .before .before .before .before .before .before .body2 .given .1) (c .before .before .before .before .before .before .before .before .before .before .write-fields .ensures)) (c .before .before .put-all .ensures)
+returns-2 c =
+    let told = c .before .before .before .before .before .before in
+    let walked = told .before .before .before .before in
+    let opened = walked .before .before .before .before in
+    let a = opened .before .before .before .before .before .before .args in
+    body-written (now (a .s)) (a .id) (a .start) (a .fields) (a .name) (a .last-fields) (opened .write-opening .ensures) (fields-by (told .body2 .given .1) (walked .write-fields .ensures)) (c .before .before .put-all .ensures)
 
 pub write-body-spec : {M : Type 1} → statement M
 write-body-spec =

@@ -14,13 +14,20 @@ same-length : tie.Need-same-length
 same-length c = search needs
 
 returns : tie.Need-returns
-returns c = let a = c .before .before .before .before .before .before .before .args in prototype-not (now (a .s)) (a .at) (now (a .table)) (a .rows) (a .id) (a .to) (c .before .before .before .prototype-again .ensures) (c .match .keys2)
+returns c =
+    let met = c .before .before .before in
+    let a = met .before .before .before .before .args in
+    prototype-not (now (a .s)) (a .at) (now (a .table)) (a .rows) (a .id) (a .to) (met .prototype-again .ensures) (c .match .keys2)
 
 same-length-2 : tie.Need-same-length-2
 same-length-2 c = search needs
 
 returns-2 : tie.Need-returns-2
-returns-2 c = let a = c .before .before .before .before .before .before .before .before .before .args in prototype-step (now (a .s)) (a .at) (now (a .table)) (a .rows) (a .id) (a .to) (c .before .before .before .before .before .prototype-again .ensures) (c .before .met .given .1)
+returns-2 c =
+    let told = c .before in
+    let met = told .before .before .before .before in
+    let a = met .before .before .before .before .args in
+    prototype-step (now (a .s)) (a .at) (now (a .table)) (a .rows) (a .id) (a .to) (met .prototype-again .ensures) (told .met .given .1)
 
 pub pass-prototype-spec : {M : Type 1} → statement M
 pass-prototype-spec =

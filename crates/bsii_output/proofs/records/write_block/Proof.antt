@@ -34,8 +34,14 @@ same-length c = search needs
 
 returns-2 : tie.Need-returns-2
 returns-2 c =
-    let a = c .before .before .before .before .before .before .before .before .before .before .before .before .before .before .before .before .args in
-    block-step (now (a .s)) (a .offset) (now (a .table)) (a .rows) (a .prototype-id) (a .id) (now (a .out)) (a .to) (c .before .before .before .before .before .before .before .before .before .before .before .before .find .ensures) (c .before .before .before .before .before .before .before .before .before .before .found .given .1) (c .before .before .before .before .before .before .before .before .size .ensures) (c .before .before .before .before .before .before .before .size2 .ensures) (c .before .before .before .before .before .write-data-block .ensures) (ap stepOf (c .before .written .given .1))
+    let told = c .before in
+    let wrote = told .before .before .before .before in
+    let named = wrote .before .before in
+    let under = named .before in
+    let row = under .before .before in
+    let sought = row .before .before in
+    let a = sought .before .before .before .before .args in
+    block-step (now (a .s)) (a .offset) (now (a .table)) (a .rows) (a .prototype-id) (a .id) (now (a .out)) (a .to) (sought .find .ensures) (row .found .given .1) (under .size .ensures) (named .size2 .ensures) (wrote .write-data-block .ensures) (ap stepOf (told .written .given .1))
 
 enum-known-written-2 : tie.Need-enum-known-written-2
 enum-known-written-2 c = search needs
@@ -45,8 +51,14 @@ same-length-2 c = search needs
 
 returns-3 : tie.Need-returns-3
 returns-3 c =
-    let a = c .before .before .before .before .before .before .before .before .before .before .before .before .before .before .before .before .args in
-    block-step (now (a .s)) (a .offset) (now (a .table)) (a .rows) (a .prototype-id) (a .id) (now (a .out)) (a .to) (c .before .before .before .before .before .before .before .before .before .before .before .before .find .ensures) (c .before .before .before .before .before .before .before .before .before .before .found .given .1) (c .before .before .before .before .before .before .before .before .size .ensures) (c .before .before .before .before .before .before .before .size2 .ensures) (c .before .before .before .before .before .write-data-block .ensures) (ap stepOf (c .before .written2 .given .1))
+    let told = c .before in
+    let wrote = told .before .before .before .before in
+    let named = wrote .before .before in
+    let under = named .before in
+    let row = under .before .before in
+    let sought = row .before .before in
+    let a = sought .before .before .before .before .args in
+    block-step (now (a .s)) (a .offset) (now (a .table)) (a .rows) (a .prototype-id) (a .id) (now (a .out)) (a .to) (sought .find .ensures) (row .found .given .1) (under .size .ensures) (named .size2 .ensures) (wrote .write-data-block .ensures) (ap stepOf (told .written2 .given .1))
 
 pub write-block-spec : {M : Type 1} → statement M
 write-block-spec =

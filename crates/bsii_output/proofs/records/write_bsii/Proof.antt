@@ -25,7 +25,12 @@ same-length-2 c = search needs
 
 returns : tie.Need-returns
 unfolding fileOpening
-returns c = let a = c .before .before .before .before .before .before .before .before .before .before .before .before .before .before .before .before .before .before .args in file-refused (now (a .s)) (a .start) (now (a .table)) (a .rows) (c .before .before .before .before .before .before .before .before .before .before .before .before .put-all .ensures) (records-by (c .before .blocks2 .given .1) (c .before .before .before .before .before .before .before .write-records .ensures))
+returns c =
+    let told = c .before in
+    let walked = told .before .before .before .before .before .before in
+    let opened = walked .before .before .before .before .before in
+    let a = opened .before .before .before .before .before .before .args in
+    file-refused (now (a .s)) (a .start) (now (a .table)) (a .rows) (opened .put-all .ensures) (records-by (told .blocks2 .given .1) (walked .write-records .ensures))
 
 enum-known-blocks-2 : tie.Need-enum-known-blocks-2
 enum-known-blocks-2 c = search needs
@@ -44,7 +49,12 @@ same-length-4 c = search needs
 
 returns-2 : tie.Need-returns-2
 unfolding fileOpening closing
-returns-2 c = let a = c .before .before .before .before .before .before .before .before .before .before .before .before .before .before .before .before .before .before .before .before .before .before .before .args in file-written (now (a .s)) (a .start) (now (a .table)) (a .rows) (c .before .before .before .before .before .before .before .before .before .before .before .before .before .before .before .before .before .put-all .ensures) (records-by (c .before .before .before .before .before .before .blocks3 .given .1) (c .before .before .before .before .before .before .before .before .before .before .before .before .write-records .ensures)) (c .before .before .put-all2 .ensures)
+returns-2 c =
+    let told = c .before .before .before .before .before .before in
+    let walked = told .before .before .before .before .before .before in
+    let opened = walked .before .before .before .before .before in
+    let a = opened .before .before .before .before .before .before .args in
+    file-written (now (a .s)) (a .start) (now (a .table)) (a .rows) (opened .put-all .ensures) (records-by (told .blocks3 .given .1) (walked .write-records .ensures)) (c .before .before .put-all2 .ensures)
 
 pub write-bsii-spec : {M : Type 1} → statement M
 write-bsii-spec =

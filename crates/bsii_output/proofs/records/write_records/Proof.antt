@@ -1,3 +1,4 @@
+-- The text is that of the records that are passed, with the text of those from here on behind it: so it is at the start, and each record keeps it.
 use native.Mathlib.Omega.{arith}
 use denote.Ref.{now}
 use Rattle.bsii_output.proofs.WalkLaws.{Going, go-start, go-rows, go-end, go-refused, go-later, go-on}
@@ -35,11 +36,12 @@ same-length-2 c = search needs
 
 returns : tie.Need-returns Inv-loop μ-loop
 returns c =
-    let l = c .before .before .before .before .before .before .before .before .before in
+    let walked = c .before .before .before .before .before .before in
+    let l = walked .before .before .before in
     let b = l .before .before .before .before in
     let a = b .args in
     let x = l .loop in
-    go-end (now (a .s)) (a .start) (now (a .table)) (a .rows) (now (a .out)) (a .to) (x .at) (x .here) (x .table) (x .out) (x .inv) (c .before .before .before .before .before .before .write-record .ensures) (c .enum-told .given .1)
+    go-end (now (a .s)) (a .start) (now (a .table)) (a .rows) (now (a .out)) (a .to) (x .at) (x .here) (x .table) (x .out) (x .inv) (walked .write-record .ensures) (c .enum-told .given .1)
 
 enum-known-step : tie.Need-enum-known-step Inv-loop μ-loop
 enum-known-step c = search needs
@@ -52,30 +54,36 @@ same-length-4 c = search needs
 
 returns-2 : tie.Need-returns-2 Inv-loop μ-loop
 returns-2 c =
-    let l = c .before .before .before .before .before .before .before .before .before .before in
+    let told = c .before in
+    let walked = told .before .before .before .before .before .before in
+    let l = walked .before .before .before in
     let b = l .before .before .before .before in
     let a = b .args in
     let x = l .loop in
-    go-refused (now (a .s)) (a .start) (now (a .table)) (a .rows) (now (a .out)) (a .to) (x .at) (x .here) (x .table) (x .out) (x .inv) (c .before .before .before .before .before .before .before .write-record .ensures) (c .before .step .given .1)
+    go-refused (now (a .s)) (a .start) (now (a .table)) (a .rows) (now (a .out)) (a .to) (x .at) (x .here) (x .table) (x .out) (x .inv) (walked .write-record .ensures) (told .step .given .1)
 
 enum-known-step-2 : tie.Need-enum-known-step-2 Inv-loop μ-loop
 enum-known-step-2 c = search needs
 
 loop-less : tie.Need-loop-less Inv-loop μ-loop
 loop-less c =
-    let l = c .before .before .before .before .before .before .before .before .before .before in
+    let told = c .before in
+    let walked = told .before .before .before .before .before .before in
+    let l = walked .before .before .before in
     let b = l .before .before .before .before in
     let a = b .args in
     let x = l .loop in
-    omega (arith, go-later (now (a .s)) (a .start) (now (a .table)) (a .rows) (now (a .out)) (a .to) (x .at) (x .here) (x .table) (x .out) (x .inv) (c .before .before .before .before .before .before .before .write-record .ensures) _ _ (c .before .step2 .given .1) (b .pre))
+    omega (arith, go-later (now (a .s)) (a .start) (now (a .table)) (a .rows) (now (a .out)) (a .to) (x .at) (x .here) (x .table) (x .out) (x .inv) (walked .write-record .ensures) _ _ (told .step2 .given .1) (b .pre))
 
 loop-again : tie.Need-loop-again Inv-loop μ-loop
 loop-again c =
-    let l = c .before .before .before .before .before .before .before .before .before .before in
+    let told = c .before in
+    let walked = told .before .before .before .before .before .before in
+    let l = walked .before .before .before in
     let b = l .before .before .before .before in
     let a = b .args in
     let x = l .loop in
-    go-on (now (a .s)) (a .start) (now (a .table)) (a .rows) (now (a .out)) (a .to) (x .at) (x .here) (x .table) (x .out) (x .inv) (c .before .before .before .before .before .before .before .write-record .ensures) _ _ (c .before .step2 .given .1) (b .pre)
+    go-on (now (a .s)) (a .start) (now (a .table)) (a .rows) (now (a .out)) (a .to) (x .at) (x .here) (x .table) (x .out) (x .inv) (walked .write-record .ensures) _ _ (told .step2 .given .1) (b .pre)
 
 pub write-records-spec : {M : Type 1} → statement M
 write-records-spec =

@@ -19,9 +19,10 @@ same-length-2 c = search needs
 
 returns : tie.Need-returns
 returns c =
-    let a = c .before .before .before .before .before .before .before .before .before .before .before .before .before .before .args in
-    let l : length (c .before .before .before .before .before .before .before .before .write-text .last .1 .0) ≡ length (now (a .table)) = search needs in
-    (c .before .before .before .before .before .before .before .before .write-text .ensures, c .before .before .clear .ensures ∙ ap (λ n. replicate n 0) l)
+    let wrote = c .before .before .before .before .before .before .before .before in
+    let a = wrote .before .before .before .before .before .before .args in
+    let l : length (wrote .write-text .last .1 .0) ≡ length (now (a .table)) = search needs in
+    (wrote .write-text .ensures, c .before .before .clear .ensures ∙ ap (λ n. replicate n 0) l)
 
 pub to-siin-spec : {M : Type 1} → statement M
 to-siin-spec =

@@ -23,13 +23,22 @@ same-length-2 : tie.Need-same-length-2
 same-length-2 c = search needs
 
 returns : tie.Need-returns
-returns c = let a = c .before .before .before .before .before .before .before .before .before .before .before .before .before .args in text-refused (now (a .file)) (now (a .table)) (a .rows) (now (a .output)) (c .before .before .before .before .before .before .before .write-bsii .ensures) (c .before .measured .given .1)
+returns c =
+    let told = c .before in
+    let walked = told .before .before .before .before .before .before in
+    let a = walked .before .before .before .before .before .before .args in
+    text-refused (now (a .file)) (now (a .table)) (a .rows) (now (a .output)) (walked .write-bsii .ensures) (told .measured .given .1)
 
 enum-known-measured-2 : tie.Need-enum-known-measured-2
 enum-known-measured-2 c = search needs
 
 write-measured-requires : tie.Need-write-measured-requires
-write-measured-requires c κs = let b = c .before .before .before .before .before .before .before .before .before .before .before .before .before .before .before in let a = b .args in measured-again (now (a .file)) (now (a .table)) (a .rows) (now (a .output)) (c .before .before .before .before .before .before .before .before .before .write-bsii .ensures) (c .before .before .before .measured2 .given .1) (b .pre)
+write-measured-requires c κs =
+    let told = c .before .before .before in
+    let walked = told .before .before .before .before .before .before in
+    let b = walked .before .before .before .before .before .before in
+    let a = b .args in
+    measured-again (now (a .file)) (now (a .table)) (a .rows) (now (a .output)) (walked .write-bsii .ensures) (told .measured2 .given .1) (b .pre)
 
 same-length-3 : tie.Need-same-length-3
 same-length-3 c = search needs
@@ -38,7 +47,12 @@ same-length-4 : tie.Need-same-length-4
 same-length-4 c = search needs
 
 returns-2 : tie.Need-returns-2
-returns-2 c = let a = c .before .before .before .before .before .before .before .before .before .before .before .before .before .before .before .before .before .before .before .before .args in text-measured (now (a .file)) (now (a .table)) (a .rows) (now (a .output)) (c .before .before .before .before .before .before .before .before .before .before .before .before .before .before .write-bsii .ensures) (c .before .before .before .before .before .before .before .before .measured2 .given .1) (c .before .before .before .before .write-measured .ensures)
+returns-2 c =
+    let wrote = c .before .before .before .before in
+    let told = wrote .before .before .before .before in
+    let walked = told .before .before .before .before .before .before in
+    let a = walked .before .before .before .before .before .before .args in
+    text-measured (now (a .file)) (now (a .table)) (a .rows) (now (a .output)) (walked .write-bsii .ensures) (told .measured2 .given .1) (wrote .write-measured .ensures)
 
 pub write-read-spec : {M : Type 1} → statement M
 write-read-spec =

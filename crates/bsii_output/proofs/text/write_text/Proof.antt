@@ -17,13 +17,19 @@ same-length : tie.Need-same-length
 same-length c = search needs
 
 returns : tie.Need-returns
-returns c = let a = c .before .before .before .before .before .before .before .before .before .before .args in call-refused (now (a .file)) (now (a .table)) (now (a .output)) (c .before .before .before .before .before .bsii-parser .ensures) (c .before .walked .given .1)
+returns c =
+    let told = c .before in
+    let read = told .before .before .before .before in
+    let a = read .before .before .before .before .before .args in
+    call-refused (now (a .file)) (now (a .table)) (now (a .output)) (read .bsii-parser .ensures) (told .walked .given .1)
 
 enum-known-walked-2 : tie.Need-enum-known-walked-2
 enum-known-walked-2 c = search needs
 
 write-read-requires : tie.Need-write-read-requires
-write-read-requires c κs = readable (was-read (c .before .before .before .before .before .before .before .bsii-parser .ensures) (c .before .before .before .walked2 .given .1))
+write-read-requires c κs =
+    let told = c .before .before .before in
+    readable (was-read (told .before .before .before .before .bsii-parser .ensures) (told .walked2 .given .1))
 
 same-length-2 : tie.Need-same-length-2
 same-length-2 c = search needs
@@ -32,7 +38,13 @@ same-length-3 : tie.Need-same-length-3
 same-length-3 c = search needs
 
 returns-2 : tie.Need-returns-2
-returns-2 c = let a = c .before .before .before .before .before .before .before .before .before .before .before .before .before .before .before .before .before .args in call-answers (now (a .file)) (now (a .table)) (now (a .output)) (c .before .before .before .before .before .before .before .before .before .before .before .before .bsii-parser .ensures) (c .before .before .before .before .before .before .before .before .walked2 .given .1) (λ i. omega (arith, c .before .before .before .before .before .before .before .before .before .before .before .before .before .before .before .before .shared-slice-known .given i)) (c .before .before .before .before .write-read .ensures)
+returns-2 c =
+    let wrote = c .before .before .before .before in
+    let told = wrote .before .before .before .before in
+    let read = told .before .before .before .before in
+    let known = read .before .before .before .before in
+    let a = known .before .args in
+    call-answers (now (a .file)) (now (a .table)) (now (a .output)) (read .bsii-parser .ensures) (told .walked2 .given .1) (λ i. omega (arith, known .shared-slice-known .given i)) (wrote .write-read .ensures)
 
 pub write-text-spec : {M : Type 1} → statement M
 write-text-spec =

@@ -1,3 +1,4 @@
+-- The digits that are counted and those of what is left of the number are all: a division takes eight of them.
 use Prim.Native.Nat.{_+_}
 use mathlib.Core.Path.{_≡_}
 use native.Mathlib.Nat.{zero-add}

@@ -1,3 +1,4 @@
+-- What is stored from i on are the last digits, and the digits of what is left of the number stand in front of them: each turn moves two over.
 use lib.Seq.{length-sets}
 use Prim.Native.Nat.{_-_, _/_, _%_, _+_, _≤_}
 use mathlib.Core.Path.{_≡_, ap, _∙_}

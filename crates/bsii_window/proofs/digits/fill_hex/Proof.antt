@@ -1,3 +1,4 @@
+-- What is stored from i on are the last digits, and so many of what is left of the number stand in front of them: each turn moves two over.
 use Prim.Native.Nat.{ℕ, _-_, _/_, _%_, _+_, _≤_}
 use mathlib.Core.Path.{_≡_, sym, ap, _∙_}
 use mathlib.Core.List.{[], _∷_, _++_}

@@ -1,3 +1,4 @@
+-- The first i bytes of the text are stored: so it is for none, and each store adds the next one.
 use Prim.Native.Nat.{_-_, _≤_}
 use mathlib.Core.Path.{_≡_, refl, _∙_, ap}
 use native.Mathlib.Omega.{arith}

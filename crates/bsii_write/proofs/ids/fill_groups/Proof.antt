@@ -1,3 +1,4 @@
+-- What is stored from i on are the last groups, and those of what is left of the number stand in front of them: each turn moves one over.
 use Prim.Native.Nat.{ℕ, _+_, _-_, _%_, _≤_, _<_}
 use mathlib.Core.Path.{_≡_, sym, ap, _∙_}
 use mathlib.Core.List.{List, _++_}

@@ -1,3 +1,4 @@
+-- The words that are passed are written, and those that are left stand from `place` on: a turn moves one over.
 use Prim.Native.Nat.{_+_, _*_}
 use mathlib.Core.Path.{_≡_}
 use denote.Ref.{now}

@@ -1,3 +1,4 @@
+-- The bytes from i on decide for all: each byte that was passed is bare.
 use borrow.Author.Tests.{not-true, not-false}
 use mathlib.Core.Path.{_≡_, refl, sym, _∙_}
 use Prim.Native.Nat.{_≤_, _-_}

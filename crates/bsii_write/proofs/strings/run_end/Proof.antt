@@ -1,3 +1,4 @@
+-- The run from i on ends where the one from the start on does: a raw byte is passed without moving that end.
 use mathlib.Core.Path.{_≡_, refl, sym, _∙_}
 use Prim.Native.Nat.{_≤_, _-_}
 use denote.Ref.{now}

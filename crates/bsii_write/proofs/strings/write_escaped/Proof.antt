@@ -1,3 +1,4 @@
+-- The text of the bytes that are passed is written, and that of the rest is to follow: a turn passes a run and the byte behind it.
 use Prim.Native.Nat.{_-_}
 use denote.Ref.{now}
 use lib.ListN.{length, drop}

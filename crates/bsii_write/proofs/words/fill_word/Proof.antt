@@ -1,3 +1,4 @@
+-- The characters in front of i are stored, and those of what is left of the word are to follow: a division takes two of them.
 use Prim.Native.Nat.{_+_, _/_, _%_}
 use mathlib.Core.Path.{_≡_, refl, _∙_}
 use native.Mathlib.Omega.{arith}

@@ -1,6 +1,8 @@
 use mathlib.Core.Path.{refl, sym, ap, _∙_}
 use Rattle.bsii_element.specs.Cases.{elementIs}
-use Rattle.sii_decode_c.specs.Elements.{valueOut, elementOut}
+use mir.Syntax.{w32, w64}
+use Rattle.sii_decode_c.specs.Elements.{twos32, twos64, valueOut, elementOut}
+use Rattle.sii_decode_c.proofs.Signed.{keeps}
 use Rattle.sii_decode_c.proofs.Words.{words-same}
 use borrow.Author.Needs.{needs}
 use Rattle.sii_decode_c.proofs.elements.copied.Statement.{statement}
@@ -90,14 +92,14 @@ number-requires-2 c κs = search needs
 enum-known-answer-9 : tie.Need-enum-known-answer-9
 enum-known-answer-9 c = search needs
 
-signed-word-requires : tie.Need-signed-word-requires
-signed-word-requires c κs = search needs
+bits32-requires : tie.Need-bits32-requires
+bits32-requires c κs = search needs
 
-signed-word-requires-2 : tie.Need-signed-word-requires-2
-signed-word-requires-2 c κs = search needs
+bits32-requires-2 : tie.Need-bits32-requires-2
+bits32-requires-2 c κs = search needs
 
-signed-word-requires-3 : tie.Need-signed-word-requires-3
-signed-word-requires-3 c κs = search needs
+bits32-requires-3 : tie.Need-bits32-requires-3
+bits32-requires-3 c κs = search needs
 
 words-requires-5 : tie.Need-words-requires-5
 words-requires-5 c κs = search needs
@@ -123,8 +125,8 @@ number-requires-4 c κs = search needs
 enum-known-answer-12 : tie.Need-enum-known-answer-12
 enum-known-answer-12 c = search needs
 
-signed-long-requires : tie.Need-signed-long-requires
-signed-long-requires c κs = search needs
+bits64-requires : tie.Need-bits64-requires
+bits64-requires c κs = search needs
 
 number-requires-5 : tie.Need-number-requires-5
 number-requires-5 c κs = search needs
@@ -187,10 +189,17 @@ returns-7 : tie.Need-returns-7
 returns-7 c = c .placement .ensures ∙ ap (λ z. elementOut (elementIs z)) (sym (c .before .before .answer7 .given .1))
 
 returns-8 : tie.Need-returns-8
-returns-8 c = c .number2 .ensures ∙ ap (valueOut 9) (c .before .extended .ensures) ∙ ap (λ z. elementOut (elementIs z)) (sym (c .before .before .before .answer8 .given .1))
+returns-8 c =
+    c .number2 .ensures ∙ ap (valueOut 9) (keeps w32 (c .before .before .before .answer8 .given .0 .0) (c .before .before .known-told8 .given .0 .1) twos64 (c .before .extended .ensures)) ∙ ap (λ z. elementOut (elementIs z)) (sym (c .before .before .before .answer8 .given .1))
 
 returns-9 : tie.Need-returns-9
-returns-9 c = c .words5 .ensures ∙ words-same 6 (c .before .before .before .signed-word .ensures) (c .before .before .signed-word2 .ensures) (c .before .signed-word3 .ensures) refl refl refl refl refl ∙ ap (λ z. elementOut (elementIs z)) (sym (c .before .before .before .before .before .answer9 .given .1))
+returns-9 c =
+    let t = c .before .before .before .before .before .before in
+    let v = t .struct-told .given in
+    let n = t .before .before .answer9 .given .0 .0 in
+    c .words5 .ensures
+    ∙ words-same 6 (keeps w32 (n .a) (v .0 .1) twos32 (c .before .before .before .before .before .bits32 .ensures)) (keeps w32 (n .b) (v .1 .0 .1) twos32 (c .before .before .before .bits322 .ensures)) (keeps w32 (n .c) (v .1 .1 .0 .1) twos32 (c .before .bits323 .ensures)) refl refl refl refl refl
+    ∙ ap (λ z. elementOut (elementIs z)) (sym (t .before .before .answer9 .given .1))
 
 returns-10 : tie.Need-returns-10
 returns-10 c = c .number3 .ensures ∙ ap (λ z. elementOut (elementIs z)) (sym (c .before .before .answer10 .given .1))
@@ -199,7 +208,8 @@ returns-11 : tie.Need-returns-11
 returns-11 c = c .number4 .ensures ∙ ap (λ z. elementOut (elementIs z)) (sym (c .before .before .answer11 .given .1))
 
 returns-12 : tie.Need-returns-12
-returns-12 c = c .number5 .ensures ∙ ap (valueOut 12) (c .before .signed-long .ensures) ∙ ap (λ z. elementOut (elementIs z)) (sym (c .before .before .before .answer12 .given .1))
+returns-12 c =
+    c .number5 .ensures ∙ ap (valueOut 12) (keeps w64 (c .before .before .before .answer12 .given .0 .0) (c .before .before .known-told12 .given .0 .1) twos64 (c .before .bits64 .ensures)) ∙ ap (λ z. elementOut (elementIs z)) (sym (c .before .before .before .answer12 .given .1))
 
 returns-13 : tie.Need-returns-13
 returns-13 c = c .number6 .ensures ∙ ap (λ z. elementOut (elementIs z)) (sym (c .before .before .answer13 .given .1))
@@ -248,9 +258,9 @@ copied-spec =
     extended-requires
     number-requires-2
     enum-known-answer-9
-    signed-word-requires
-    signed-word-requires-2
-    signed-word-requires-3
+    bits32-requires
+    bits32-requires-2
+    bits32-requires-3
     words-requires-5
     enum-known-answer-10
     cast-number
@@ -259,7 +269,7 @@ copied-spec =
     cast-number-2
     number-requires-4
     enum-known-answer-12
-    signed-long-requires
+    bits64-requires
     number-requires-5
     enum-known-answer-13
     number-requires-6
