@@ -9,6 +9,7 @@ use bsii_output::text::TextReply;
 use bsii_output::text::to_siin;
 use bsii_parse::reading::Reading;
 use bsii_parse::reading::parse;
+use bsii_value::answers::ABSENT;
 use bsii_value::numbers::size;
 ghost use mathlib.Core.Path.{_≡_};
 ghost use lib.ListN.{length};
@@ -42,7 +43,7 @@ fn same_reading(file: &[u8], table: &mut [u32], reply: u32, prototypes: u32, blo
 {
     let reading = parse(file, table);
     match reading {
-        Reading::Refused { number, offset: _ } => return number == reply,
+        Reading::Refused(f) => return f.number == reply,
         Reading::Read {
             prototypes: p,
             blocks: b,
@@ -58,10 +59,7 @@ fn same_number(file: &[u8], table: &mut [u32], name: &[u8], n: usize, expected: 
     let found = blocks_by_prototype_name(file, table, name, n);
     match found {
         NumberReply::Number(k) => k == size(expected),
-        NumberReply::Refused {
-            number: _,
-            offset: _,
-        } => false,
+        NumberReply::Refused(_) => false,
     }
 }
 
@@ -72,7 +70,7 @@ fn is_absent(file: &[u8], table: &mut [u32], name: &[u8], n: usize) -> bool
     let found = blocks_by_prototype_name(file, table, name, n);
     match found {
         NumberReply::Number(_) => false,
-        NumberReply::Refused { number, offset: _ } => number == 13,
+        NumberReply::Refused(f) => f.number == ABSENT,
     }
 }
 
@@ -151,11 +149,7 @@ fn same_text(file: &[u8], table: &mut [u32], output: &mut [u8], reply: u32, text
 {
     let answer = to_siin(file, table, output);
     match answer {
-        TextReply::Refused {
-            number,
-            offset: _,
-            needed: _,
-        } => return number == reply,
+        TextReply::Refused { refusal, needed: _ } => return refusal.number == reply,
         TextReply::Text(n) => {
             if reply != 0 {
                 return false;

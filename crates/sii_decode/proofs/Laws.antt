@@ -9,7 +9,7 @@ use borrow.Author.Tests.{le-leb, lt-leb}
 use lib.ListN.{length, take, drop, length-append, length-take}
 use lib.Seq.{sets-eq, take-all, take-append-seam}
 use lib.Dec.{leb}
-use Rattle.bsii_format.specs.Replies.{Reply, gives, refuses, refusal, inputLong, outputShort}
+use Rattle.bsii_format.specs.Replies.{Fault, Reply, gives, refuses, refusal, inputLong, outputShort}
 use Rattle.bsii_format.specs.Calls.{TextAnswer, textOf, textAnswer, textCall, printed, ofSize, program}
 use Rattle.bsii_length.proofs.Digits.{digits-length}
 use Rattle.bsii_window.specs.Window.{Wrote}
@@ -18,9 +18,9 @@ use Rattle.sii_decode.specs.Starts.{Starts}
 
 -- ---- refusals
 
-pub refusal-length : (n at : ℕ) → n < 2 ^ 64 → at < 2 ^ 64 → length (printed (refusal n at)) ≤ 65_536
+pub refusal-length : (f : Fault) → f .number < 2 ^ 64 → f .offset < 2 ^ 64 → length (printed (refuses f)) ≤ 65_536
 unfolding printed
-refusal-length n at h l = simp length-append (omega (arith, digits-length 10 64 n (omega arith) h, digits-length 10 64 at (omega arith) l))
+refusal-length f h l = simp length-append (omega (arith, digits-length 10 64 (f .number) (omega arith) h, digits-length 10 64 (f .offset) (omega arith) l))
 
 -- a text that was written at the window's start, where there is room for it
 module _ {old new text : List ℕ} {r : ℕ} (w : Wrote old 0x8000_0000_0000_0000 text r new) (h : length text ≤ 65_536) (k : length old ≡ 65_536) where

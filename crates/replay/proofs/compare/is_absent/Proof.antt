@@ -24,7 +24,7 @@ same-length-2 : tie.Need-same-length-2
 same-length-2 c = search needs
 
 returns-2 : tie.Need-returns-2
-returns-2 c = ap (λ z. isAbsent (numberIs z)) (sym (c .before .found .given .1)) ∙ ap isAbsent (c .before .before .before .before .before .blocks-by-prototype-name .ensures .0)
+returns-2 c = ap (λ z. isAbsent (numberIs z)) (sym (c .before .before .found .given .1)) ∙ ap isAbsent (c .before .before .before .before .before .before .blocks-by-prototype-name .ensures .0)
 
 pub is-absent-spec : {M : Type 1} → statement M
 is-absent-spec =

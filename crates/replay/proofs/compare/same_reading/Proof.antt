@@ -15,7 +15,7 @@ same-length : tie.Need-same-length
 same-length c = search needs
 
 returns : tie.Need-returns
-returns c = let a = c .before .before .before .before .before .before .before .before .before .args in ap (λ z. sameReading (a .reply) (a .prototypes) (a .blocks) (readingIs z)) (sym (c .before .reading .given .1)) ∙ ap (sameReading (a .reply) (a .prototypes) (a .blocks)) (c .before .before .before .before .before .parse .ensures .0)
+returns c = let a = c .before .before .before .before .before .before .before .before .before .before .args in ap (λ z. sameReading (a .reply) (a .prototypes) (a .blocks) (readingIs z)) (sym (c .before .before .reading .given .1)) ∙ ap (sameReading (a .reply) (a .prototypes) (a .blocks)) (c .before .before .before .before .before .before .parse .ensures .0)
 
 enum-known-reading-2 : tie.Need-enum-known-reading-2
 enum-known-reading-2 c = search needs

@@ -21,9 +21,9 @@ same-length-2 c = search needs
 
 returns : tie.Need-returns
 returns c =
-    let k = c .before .before .before .before .before .before .before in
+    let k = c .before .before .before .before .before .before .before .before in
     let a = k .before .before .before .before .before .before .before .args in
-    let e = ap (sameText (a .reply) (now (a .text))) (ap (λ z. textIs z (k .to-siin .last .1 .1 .0)) (sym (c .before .answer .given .1)) ∙ k .to-siin .ensures .0) in
+    let e = ap (sameText (a .reply) (now (a .text))) (ap (λ z. textIs z (k .to-siin .last .1 .1 .0)) (sym (c .before .before .answer .given .1)) ∙ k .to-siin .ensures .0) in
     e
 
 enum-known-answer-2 : tie.Need-enum-known-answer-2

@@ -1,11 +1,18 @@
 use mathlib.Core.Path.{sym, ap, subst, _∙_}
 use denote.Ref.{now}
+use Rattle.bsii_format.specs.Replies.{refuses}
+use Rattle.bsii_format.specs.Calls.{printed}
+use Rattle.bsii_value.specs.Answers.{faultIs}
+use Rattle.bsii_value.specs.declared.answers.Refusal.{Refusal}
 use Rattle.bsii_output.specs.Answers.{textIs}
 use Rattle.sii_decode.specs.Starts.{Starts}
 use Rattle.sii_decode.proofs.Laws.{longer, call-answers}
 use borrow.Author.Needs.{needs}
 use Rattle.sii_decode.proofs.printed.print_into.Statement.{statement}
 use Rattle.sii_decode.proofs.printed.print_into.Tie as tie
+
+refused-requires : tie.Need-refused-requires
+refused-requires c κs = search needs
 
 print-refusal-requires : tie.Need-print-refusal-requires
 print-refusal-requires c κs = search needs
@@ -15,8 +22,9 @@ same-length c = search needs
 
 returns : tie.Need-returns
 returns c =
-    let s = c .before .before .before .before .before .before .before .before in
-    subst (Starts _ _) (sym (longer (now (s .args .input)) (c .before .before .before .before .if1 .taken))) (c .before .before .print-refusal .ensures)
+    let made = c .before .before .before in
+    let s = made .before .before .before .before .before .before in
+    subst (Starts _ _) (ap (λ (f : Refusal). printed (refuses (faultIs f))) (made .refused .ensures) ∙ sym (longer (now (s .args .input)) (made .before .before .if1 .taken))) (c .before .before .print-refusal .ensures)
 
 to-siin-requires : tie.Need-to-siin-requires
 to-siin-requires c κs = search needs
@@ -60,6 +68,7 @@ pub print-into-spec : {M : Type 1} → statement M
 print-into-spec =
     tie.close
     (tie.spec
+    refused-requires
     print-refusal-requires
     same-length
     returns

@@ -10,6 +10,9 @@ slice-aggregate-put-all c = search needs
 put-all-requires : tie.Need-put-all-requires
 put-all-requires c κs = search needs
 
+cast-write-decimal : tie.Need-cast-write-decimal
+cast-write-decimal c = search needs
+
 write-decimal-requires : tie.Need-write-decimal-requires
 write-decimal-requires c κs = search needs
 
@@ -34,7 +37,12 @@ same-length c = search needs
 returns : tie.Need-returns
 unfolding printed
 returns c =
-    then (then (then (then (c .before .before .before .before .before .before .before .before .before .before .before .before .before .before .before .before .before .before .before .before .put-all .ensures) (c .before .before .before .before .before .before .before .before .before .before .before .before .before .before .before .before .write-decimal .ensures)) (c .before .before .before .before .before .before .before .before .before .before .before .put-all2 .ensures)) (c .before .before .before .before .before .before .before .write-decimal2 .ensures)) (c .before .before .put-all3 .ensures)
+    let feed = c .before .before in
+    let offset = feed .before .before .before .before .before in
+    let between = offset .before .before .before .before in
+    let number = between .before .before .before .before .before in
+    let front = number .before .before .before .before .before in
+    then (then (then (then (front .put-all .ensures) (number .write-decimal .ensures)) (between .put-all2 .ensures)) (offset .write-decimal2 .ensures)) (feed .put-all3 .ensures)
 
 pub write-refusal-spec : {M : Type 1} → statement M
 write-refusal-spec =
@@ -42,6 +50,7 @@ write-refusal-spec =
     (tie.spec
     slice-aggregate-put-all
     put-all-requires
+    cast-write-decimal
     write-decimal-requires
     slice-aggregate-put-all-2
     put-all-requires-2
