@@ -4,4 +4,5 @@ pub mod Past
 pub mod Meeting
 pub mod Naming
 pub mod Seeking
+pub mod Loops
 pub mod Searching

@@ -129,7 +129,7 @@ module _ (s : List ℕ) (at : ℕ) (t : List ℕ) (rows : ℕ) {k : Kind} (e : K
   is-end env l n u h = e .is _ _ _ (end-head env s at n l u h .2)
 
   pub again-end : k ≡ Ends → RecordAgain s at t rows Nothing t
-  again-end z = record { meets = λ env last w i n h d. go env last n i h; ends = λ env l n u h. refl; size = refl }
+  again-end z = record { meets = λ env last w i n h d. go env last n i h; ends = λ env l n u h. (refl, refl); size = refl }
     where
       go : (env last : List Prototype) (n : ℕ) (i : Record) → recordParser env at (drop at s) ≡ ok (more i) n (drop n s) → Meets s at rows env last n i Nothing t
       go env last n (prototype p) h = ends≢defines (sym z ∙ is-prototype env p n h)

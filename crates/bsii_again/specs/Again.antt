@@ -77,5 +77,5 @@ pub data Meets (s : List ℕ) (at rows : ℕ) (env last : List Prototype) (n : �
 pub record RecordAgain (s : List ℕ) (at : ℕ) (t : List ℕ) (rows : ℕ) (r : Met) (t′ : List ℕ) : Type 0 where
   pub meets : (env last : List Prototype) → Entered (Stands s) t rows env last → (i : Record) (n : ℕ) → recordParser env at (drop at s) ≡ ok (more i) n (drop n s)
       → ((id : ℕ) (p : Prototype) → getPrototype id env ≡ some p → (q : Prototype) × (getPrototype id last ≡ some q)) → Meets s at rows env last n i r t′
-  pub ends : (env : List Prototype) (l : List ℕ) (n : ℕ) (u : List ℕ) → recordParser env at (drop at s) ≡ ok (end l) n u → r ≡ Nothing
+  pub ends : (env : List Prototype) (l : List ℕ) (n : ℕ) (u : List ℕ) → recordParser env at (drop at s) ≡ ok (end l) n u → (r ≡ Nothing) × (t′ ≡ t)
   pub size : length t′ ≡ length t

@@ -1,24 +1,26 @@
 -- `seek::seek`: Invariant: the search among all blocks is the one among those from here on, with as many still to be passed over. Measure: what is
--- left of the file, since a record has a byte at least.
+-- left of the file, since a block has a byte at least.
+use mathlib.Core.Path.{refl}
 use borrow.Author.Needs.{needs}
 use native.Mathlib.Omega.{arith}
-use Prim.Native.Nat.{_-_}
+use Prim.Native.Nat.{_-_, _≤_}
 use lib.ListN.{length}
-use Rattle.bsii_again.proofs.Searching.{Seeking, seeking-start, seeking-ready, seeking-end, seeking-found, seeking-later, seeking-on}
+use Rattle.bsii_again.proofs.Loops.{readable-stood, Over, over-start, over-stood, over-later}
+use Rattle.bsii_again.proofs.Searching.{Asked, seek-end, seek-found, seek-on}
 use Rattle.bsii_again.proofs.seek.seek.Statement.{statement}
 use Rattle.bsii_again.proofs.seek.seek.Tie as tie
 
 abbrev Inv-loop : tie.InvT-loop
-Inv-loop s start table₀ rows any name k p₀ table p = Seeking s start table₀ rows any name k p table
+Inv-loop s start table₀ rows any name k at₀ number₀ left₀ table at number left = Over s start table₀ rows at table (Asked any name k number left) × (number ≤ at)
 
 abbrev μ-loop : tie.MeasureT-loop
-μ-loop s start table₀ rows any name k p₀ table p = length s - p .at
+μ-loop s start table₀ rows any name k at₀ number₀ left₀ table at number left = length s - at
 
 loop-holds : tie.Need-loop-holds Inv-loop μ-loop
-loop-holds c = let b = c .before .before .before in seeking-start (b .pre .inside)
+loop-holds c = (over-start (c .before .before .before .pre .inside) (λ last l. record { equal = refl }), omega arith)
 
-seek-step-requires : tie.Need-seek-step-requires Inv-loop μ-loop
-seek-step-requires c κs = let l = c .before in let b = l .before .before .before .before in seeking-ready (l .loop .inv) (b .pre)
+next-block-requires : tie.Need-next-block-requires Inv-loop μ-loop
+next-block-requires c κs = let at-loop = c .before in over-stood (at-loop .loop .inv .0) (readable-stood (at-loop .before .before .before .before .pre))
 
 enum-told : tie.Need-enum-told Inv-loop μ-loop
 enum-told c = search needs
@@ -27,25 +29,55 @@ same-length : tie.Need-same-length Inv-loop μ-loop
 same-length c = search needs
 
 returns : tie.Need-returns Inv-loop μ-loop
-returns c = let k = c .before .before .before .before in let l = k .before .before in seeking-end (l .loop .inv) (k .seek-step .ensures) (c .enum-told .given .1)
+returns c = let called = c .before .before .before .before in seek-end (called .before .before .loop .inv .0) (called .next-block .ensures) (c .enum-told .given .1)
 
-enum-known-step : tie.Need-enum-known-step Inv-loop μ-loop
-enum-known-step c = search needs
+enum-known-next : tie.Need-enum-known-next Inv-loop μ-loop
+enum-known-next c = search needs
+
+count-down-requires : tie.Need-count-down-requires Inv-loop μ-loop
+count-down-requires c κs = search needs
+
+enum-told-2 : tie.Need-enum-told-2 Inv-loop μ-loop
+enum-told-2 c = search needs
 
 same-length-2 : tie.Need-same-length-2 Inv-loop μ-loop
 same-length-2 c = search needs
 
 returns-2 : tie.Need-returns-2 Inv-loop μ-loop
-returns-2 c = let k = c .before .before .before .before .before in let l = k .before .before in seeking-found (l .loop .inv) (k .seek-step .ensures) (c .before .step .given .1)
+returns-2 c =
+    let counted = c .before .before in
+    let met = counted .before .before in
+    let called = met .before .before .before .before in
+    seek-found (called .before .before .loop .inv .0) (called .next-block .ensures) (met .next .given .1) (counted .count-down .ensures) (c .enum-told2 .given .1)
 
-enum-known-step-2 : tie.Need-enum-known-step-2 Inv-loop μ-loop
-enum-known-step-2 c = search needs
+enum-known-count : tie.Need-enum-known-count Inv-loop μ-loop
+enum-known-count c = search needs
+
+add-number : tie.Need-add-number Inv-loop μ-loop
+add-number c =
+    let met = c .before .before .before .before .before in
+    let at-loop = met .before .before .before .before .before .before in
+    let start = at-loop .before .before .before .before in
+    omega (arith, at-loop .loop .inv .1, at-loop .loop .inv .0 .inside, start .pre .short)
 
 loop-less : tie.Need-loop-less Inv-loop μ-loop
-loop-less c = let k = c .before .before .before .before .before in let l = k .before .before in let b = l .before .before .before .before in let f = seeking-later (l .loop .inv) (k .seek-step .ensures) (c .before .step2 .given .1) (b .pre) in let g = seeking-on (l .loop .inv) (k .seek-step .ensures) (c .before .step2 .given .1) (b .pre) in omega (arith, f, g .inside)
+loop-less c =
+    let met = c .before .before .before .before .before in
+    let called = met .before .before .before .before in
+    let at-loop = called .before .before in
+    let start = at-loop .before .before .before .before in
+    let p = over-later (at-loop .loop .inv .0) (called .next-block .ensures) (met .next .given .1) (readable-stood (start .pre)) in
+    omega (arith, p .0, p .1, p .2)
 
 loop-again : tie.Need-loop-again Inv-loop μ-loop
-loop-again c = let k = c .before .before .before .before .before in let l = k .before .before in let b = l .before .before .before .before in seeking-on (l .loop .inv) (k .seek-step .ensures) (c .before .step2 .given .1) (b .pre)
+loop-again c =
+    let counted = c .before .before .before in
+    let met = counted .before .before in
+    let called = met .before .before .before .before in
+    let at-loop = called .before .before in
+    let start = readable-stood (at-loop .before .before .before .before .pre) in
+    let p = over-later (at-loop .loop .inv .0) (called .next-block .ensures) (met .next .given .1) start in
+    (seek-on (at-loop .loop .inv .0) (called .next-block .ensures) (met .next .given .1) (counted .count-down .ensures) (c .before .count .given .1) start, omega (arith, p .0, p .1, at-loop .loop .inv .1))
 
 pub seek-spec : {M : Type 1} → statement M
 seek-spec =
@@ -54,13 +86,16 @@ seek-spec =
     Inv-loop
     μ-loop
     loop-holds
-    seek-step-requires
+    next-block-requires
     enum-told
     same-length
     returns
-    enum-known-step
+    enum-known-next
+    count-down-requires
+    enum-told-2
     same-length-2
     returns-2
-    enum-known-step-2
+    enum-known-count
+    add-number
     loop-less
     loop-again)

@@ -1,5 +1,5 @@
 use borrow.Author.Needs.{needs}
-use Rattle.bsii_again.proofs.Seeking.{wants-any, wants-named}
+use Rattle.bsii_again.proofs.Searching.{wants-any, wants-named}
 use Rattle.bsii_again.proofs.seek.wants.Statement.{statement}
 use Rattle.bsii_again.proofs.seek.wants.Tie as tie
 
