@@ -15,9 +15,10 @@ use Rattle.bsii_format.specs.File.{Head, ending, defining, carrying, markParser
 use Rattle.bsii_format.proofs.Readers.{fault≢ok, ok-val, ok-at, ok-rest, after-ok, cond-ok}
 use Rattle.bsii_format.proofs.Parsers.{number-exact}
 use Rattle.bsii_format.proofs.Positions.{moved}
-use Rattle.bsii_value.specs.Answers.{numOf}
+use Rattle.bsii_value.specs.Answers.{faultIs, numOf}
 use Rattle.bsii_value.specs.declared.answers.Num.{Num}
 use Rattle.bsii_value.specs.declared.answers.Num.the-variants.{Got, Short}
+use Rattle.bsii_value.specs.declared.answers.Refusal.{Refusal}
 use Rattle.bsii_prototype.specs.Entries.{markedParser}
 use Rattle.bsii_again.specs.Again.{kindOf, KindAt, MarkAt}
 use Rattle.bsii_again.specs.declared.records.Kind.{Kind}
@@ -27,7 +28,7 @@ use Rattle.bsii_again.specs.declared.records.Kind.the-variants.{Ends, De
 read-is : (s : List ℕ) (w at : ℕ) {q : Num} {v n : ℕ} → numOf s q ≡ number w at (drop at s) → q ≡ Got v n → number w at (drop at s) ≡ ok v n (drop n s)
 read-is s w at e z = sym e ∙ ap (numOf s) z
 
-cut-is : (s : List ℕ) (w at : ℕ) {q : Num} {o : ℕ} → numOf s q ≡ number w at (drop at s) → q ≡ Short o → number w at (drop at s) ≡ faultAt malformed o
+cut-is : (s : List ℕ) (w at : ℕ) {q : Num} {f : Refusal} → numOf s q ≡ number w at (drop at s) → q ≡ Short f → number w at (drop at s) ≡ fault (faultIs f)
 cut-is s w at e z = sym e ∙ ap (numOf s) z
 
 -- ---- behind a record number of zero
@@ -66,7 +67,7 @@ record IdAt (s : List ℕ) (next : ℕ) (h : Head) : Type 0 where
   pub is : h ≡ defining id name
 
 module _ (s : List ℕ) (at : ℕ) {q : Num} (e : numOf s q ≡ number 1 at (drop at s)) where
-  pub mark-cut : {o : ℕ} → q ≡ Short o → (r : Kind) → MarkAt s at r
+  pub mark-cut : {f : Refusal} → q ≡ Short f → (r : Kind) → MarkAt s at r
   mark-cut z r = record { is = λ h n t w. let m = marked at (drop at s) h n t w in fault≢ok (sym (cut-is s 1 at e z) ∙ m .read) }
 
   pub mark-zero : {v n : ℕ} → q ≡ Got v n → v ≡ 0 → MarkAt s at Ends
@@ -88,7 +89,7 @@ module _ (s : List ℕ) (at : ℕ) {q : Num} (e : numOf s q ≡ number 1 at (dro
         let r : number 4 next (drop next s) ≡ ok (d .0) (d .1) (d .2) = ap₂ (λ (a : ℕ) (b : List ℕ). number 4 a b) (ok-at i) (ok-rest i) ∙ d .4 in
         record { id = d .0; after = d .1; name = d .3; read = r ∙ ap (ok (d .0) (d .1)) (moved (number-exact 4) s next r .rest); is = d .5 }
 
-    pub mark-id-cut : {p : Num} {o : ℕ} → numOf s p ≡ number 4 next (drop next s) → p ≡ Short o → (r : Kind) → MarkAt s at r
+    pub mark-id-cut : {p : Num} {x : Refusal} → numOf s p ≡ number 4 next (drop next s) → p ≡ Short x → (r : Kind) → MarkAt s at r
     mark-id-cut f y r = record { is = λ h n t w. fault≢ok (sym (cut-is s 4 next f y) ∙ id-of h n t w .read) }
 
     pub mark-id : {p : Num} {id after : ℕ} → numOf s p ≡ number 4 next (drop next s) → p ≡ Got id after → MarkAt s at (Defines id)
@@ -105,12 +106,12 @@ module _ (s : List ℕ) (at : ℕ) {q : Num} (e : numOf s q ≡ number 4 at (dro
   unfolding headParser _>>=_ after markedParser
   head-after z = rw (read-is s 4 at e z)
 
-  pub kind-cut : {o : ℕ} → q ≡ Short o → (r : Kind) → KindAt s at r
+  pub kind-cut : {f : Refusal} → q ≡ Short f → (r : Kind) → KindAt s at r
   unfolding headParser _>>=_ after
-  kind-cut {o} z r = record {
+  kind-cut {f} z r = record {
     is = λ h n t w.
-        let f : headParser at (drop at s) ≡ faultAt malformed o = rw (cut-is s 4 at e z) in
-        fault≢ok (sym f ∙ w);
+        let x : headParser at (drop at s) ≡ fault (faultIs f) = rw (cut-is s 4 at e z) in
+        fault≢ok (sym x ∙ w);
   }
 
   pub kind-block : {v n : ℕ} → q ≡ Got v n → (v ≡ 0 → ⊥) → KindAt s at (Carries v n)

@@ -12,7 +12,9 @@ use Rattle.bsii_format.specs.Blocks.{DataValue, DataBlock, getPrototype, dataVa
 use Rattle.bsii_format.specs.File.{Record, prototype, block, Head, ending, defining, carrying, headParser, end, more, recordParser}
 use Rattle.bsii_value.specs.Answers.{endOf, uncheckedStr}
 use Rattle.bsii_value.specs.declared.answers.Parsed.{Parsed}
+use Rattle.bsii_value.specs.declared.answers.Refusal.{Refusal}
 use Rattle.bsii_value.specs.declared.answers.Parsed.the-variants.{Next, Fault}
+use Rattle.bsii_value.proofs.Ends.{next≢fault}
 use Rattle.bsii_prototype.specs.Entries.{uncheckedHead, fieldsWith}
 use Rattle.bsii_prototype.specs.Answers.{countOf}
 use Rattle.bsii_prototype.specs.declared.answers.Counted.{Counted}
@@ -33,9 +35,6 @@ use Rattle.bsii_again.specs.declared.records.Met.{Met}
 use Rattle.bsii_again.specs.declared.records.Met.the-variants.{Prototype as MetPrototype, Block as MetBlock, Nothing}
 use Rattle.bsii_again.proofs.Parts.{stands, BlockParts, block-parts, block-body, end-head}
 
-next≢fault : {P : Type 0} {n k o : ℕ} → _≡_ {A = Parsed} (Next n) (Fault k o) → P
-next≢fault e = let z : _≡_ {A = ℕ} 0 1 = cc in let f : ⊥ = omega arith in absurd f
-
 next-is : {a b : ℕ} → _≡_ {A = Parsed} (Next a) (Next b) → a ≡ b
 next-is e = cc
 
@@ -51,7 +50,7 @@ module _ (s : List ℕ) (at : ℕ) (t : List ℕ) (rows id : ℕ) {r : Parsed} (
   fields-are : (p : Prototype) (h : Stands s at p) {first : ℕ} → r ≡ Next first → first ≡ h .fields
   fields-are p h z = next-is (sym z ∙ e ∙ head-next at (drop at s) (h .head))
 
-  pub again-head-fault : {k o : ℕ} → r ≡ Fault k o → PrototypeAgain s at t rows id Nothing t
+  pub again-head-fault : {x : Refusal} → r ≡ Fault x → PrototypeAgain s at t rows id Nothing t
   again-head-fault z = record { meets = λ env last n p h i. next≢fault (sym (e ∙ head-next at (drop at s) (h .head)) ∙ z); size = refl }
 
   module _ {first : ℕ} (z : r ≡ Next first) {c : Counted} (f : c ≡ countOf (fieldsWith uncheckedStr first (drop first s))) where
@@ -62,10 +61,10 @@ module _ (s : List ℕ) (at : ℕ) (t : List ℕ) (rows id : ℕ) {r : Parsed} (
         ap (λ n. fieldsParser n (drop n s)) (fields-are p h z) ∙ h .list in
         f ∙ fields-again first (drop first s) l ∙ ap countOf l
 
-    pub again-fields-fault : {k o : ℕ} → c ≡ CountedFault k o → PrototypeAgain s at t rows id Nothing t
+    pub again-fields-fault : {x : Refusal} → c ≡ CountedFault x → PrototypeAgain s at t rows id Nothing t
     again-fields-fault y = record { meets = λ env last n p h i. counted≢ (sym (counted p h) ∙ y); size = refl }
       where
-        counted≢ : {P : Type 0} {a b k o : ℕ} → _≡_ {A = Counted} (CountedFields a b) (CountedFault k o) → P
+        counted≢ : {P : Type 0} {a b : ℕ} {x : Refusal} → _≡_ {A = Counted} (CountedFields a b) (CountedFault x) → P
         counted≢ w = let x : _≡_ {A = ℕ} 0 1 = cc in let g : ⊥ = omega arith in absurd g
 
     pub again-entered : {n m w : ℕ} {t′ : List ℕ} → c ≡ CountedFields n m → w ≡ at → Enters t rows id w t′ → PrototypeAgain s at t rows id (MetPrototype m) t′
@@ -92,7 +91,7 @@ module _ (s : List ℕ) (idAt : ℕ) (t : List ℕ) (rows id : ℕ) {f : Found} 
         let o = entered-at (Stands s) k id z e in
         (subst (λ c. Stands s c p) (sym i) (o .3 p g), subst (λ c. Stands s c q) (sym j) (subst (Stands s b) (some-is (sym (o .1) ∙ h)) (o .2)))
 
-    pub again-block-fault : {k o : ℕ} → r ≡ Fault k o → BlockAgain s idAt t rows id Nothing
+    pub again-block-fault : {x : Refusal} → r ≡ Fault x → BlockAgain s idAt t rows id Nothing
     again-block-fault g = record { meets = λ env last k p q d h v n u c. next≢fault (sym (w .ends p (under env last k p q d h .0) v n u c) ∙ g) }
 
     pub again-block : {n : ℕ} → r ≡ Next n → BlockAgain s idAt t rows id (MetBlock idAt x y n)

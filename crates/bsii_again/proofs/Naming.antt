@@ -12,7 +12,9 @@ use Rattle.bsii_format.proofs.Readers.{after-ok, bytes-exact}
 use Rattle.bsii_format.proofs.Positions.{moved}
 use Rattle.bsii_value.specs.Answers.{endOf, uncheckedStr}
 use Rattle.bsii_value.specs.declared.answers.Parsed.{Parsed}
+use Rattle.bsii_value.specs.declared.answers.Refusal.{Refusal}
 use Rattle.bsii_value.specs.declared.answers.Parsed.the-variants.{Next, Fault}
+use Rattle.bsii_value.proofs.Ends.{next≢fault}
 use Rattle.bsii_prototype.specs.Entries.{uncheckedHead}
 use Rattle.bsii_prototype.proofs.Beginnings.{head-past}
 use Rattle.bsii_prototype.proofs.Entries.{next-is}
@@ -68,11 +70,8 @@ module _ (s : List ℕ) (o : ℕ) {h : Parsed} (e : h ≡ endOf (uncheckedHead o
   standing p x = e ∙ ap endOf (head-past o (drop o s) (x .head))
 
   module _ (name : List ℕ) where
-    pub name-fault : {k i : ℕ} → h ≡ Fault k i → (r : Bool) → NameIs s o name r
+    pub name-fault : {f : Refusal} → h ≡ Fault f → (r : Bool) → NameIs s o name r
     name-fault z r = record { is = λ p x. next≢fault (sym (standing p x) ∙ z) }
-      where
-        next≢fault : {P : Type 0} {n k i : ℕ} → _≡_ {A = Parsed} (Next n) (Fault k i) → P
-        next≢fault z = let y : _≡_ {A = ℕ} 0 1 = cc in let f : ⊥ = omega arith in absurd f
 
     module _ {n : ℕ} (z : h ≡ Next n) where
       here : (p : Prototype) → Stands s o p → HeadName s o (p .name) n

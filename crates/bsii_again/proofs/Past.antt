@@ -1,32 +1,30 @@
 -- Values and blocks that were accepted, gone past without a check.
-use mathlib.Core.Path.{_≡_, refl, sym, ap, _∙_, subst}
+use mathlib.Core.Path.{_≡_, sym, ap, _∙_}
 use Prim.Native.Nat.{ℕ, _+_, _-_}
-use native.Mathlib.Omega.{arith}
 use mathlib.Core.List.{List, [], _∷_}
-use lib.ListN.{length, take, drop}
-use Rattle.bsii_format.specs.Reader.{Result, ok, fault, after, _>>=_, Consumed, with}
+use lib.ListN.{take, drop}
+use Rattle.bsii_format.specs.Reader.{ok, _>>=_, with}
 use Rattle.bsii_format.specs.Strings.{idParser}
-use Rattle.bsii_format.specs.Prototypes.{ValuePrototype, Prototype, Fields, consField, fieldsParser}
+use Rattle.bsii_format.specs.Prototypes.{Prototype, Fields, consField, fieldsParser}
 use Rattle.bsii_format.specs.Blocks.{DataValue, dataValuesParser}
 use Rattle.bsii_format.proofs.Readers.{after-ok}
 use Rattle.bsii_format.proofs.Parsers.{id-exact}
 use Rattle.bsii_format.proofs.Positions.{moved}
 use Rattle.bsii_value.specs.Answers.{endOf, uncheckedStr}
 use Rattle.bsii_value.specs.declared.answers.Parsed.{Parsed}
+use Rattle.bsii_value.specs.declared.answers.Refusal.{Refusal}
 use Rattle.bsii_value.specs.declared.answers.Parsed.the-variants.{Next, Fault}
+use Rattle.bsii_value.proofs.Ends.{next≢fault}
 use Rattle.bsii_prototype.specs.Entries.{entryWith, uncheckedHead}
 use Rattle.bsii_prototype.specs.Answers.{entryOf}
 use Rattle.bsii_prototype.specs.declared.answers.Entry.the-variants.{Field, Last, Bad}
-use Rattle.bsii_prototype.proofs.Turns.{FieldTurn, turn-field, turn-last, turn-bad}
+use Rattle.bsii_prototype.proofs.Turns.{turn-field, turn-last, turn-bad}
 use Rattle.bsii_prototype.proofs.Beginnings.{head-next}
 use Rattle.bsii_past.specs.Unchecked.{uncheckedId, uncheckedValue}
 use Rattle.bsii_past.proofs.Values.{id-same}
-use Rattle.bsii_past.proofs.Blocks.{Turn, turn, done}
+use Rattle.bsii_past.proofs.Blocks.{turn, done}
 use Rattle.bsii_parse.specs.Walks.{Stands}
 use Rattle.bsii_again.specs.Again.{ValuesPast, BlockPast}
-
-next≢fault : {P : Type 0} {n k o : ℕ} → _≡_ {A = Parsed} (Next n) (Fault k o) → P
-next≢fault e = let z : _≡_ {A = ℕ} 0 1 = cc in let f : ⊥ = omega arith in absurd f
 
 next-is : {a b : ℕ} → _≡_ {A = Parsed} (Next a) (Next b) → a ≡ b
 next-is e = cc
@@ -38,10 +36,10 @@ pub record InPast (s : List ℕ) (fields start field at : ℕ) : Type 0 where
       → (v : List DataValue) (m : ℕ) (u : List ℕ) → dataValuesParser (l .fields) start (drop start s) ≡ ok v m u
       → (k : Fields) × (fieldsParser field (drop field s) ≡ ok k n t) × (w : List DataValue) × (dataValuesParser (k .fields) at (drop at s) ≡ ok w m u)
 
-pub past-start : (s : List ℕ) (fields start : ℕ) → InPast s fields start fields start
-past-start s fields start = record { rest = λ l n t e v m u f. (l, e, v, f) }
+pub past-start : {s : List ℕ} {fields start : ℕ} → InPast s fields start fields start
+past-start = record { rest = λ l n t e v m u f. (l, e, v, f) }
 
-module _ (s : List ℕ) (fields start field at : ℕ) (i : InPast s fields start field at) where
+module _ {s : List ℕ} {fields start field at : ℕ} (i : InPast s fields start field at) where
   pub past-last : {n : ℕ} → Last n ≡ entryOf (field + 8) (entryWith uncheckedStr field (drop field s)) → ValuesPast s fields start (Next at)
   past-last e = record {
     ends = λ l n t h v m u f.
@@ -50,7 +48,7 @@ module _ (s : List ℕ) (fields start field at : ℕ) (i : InPast s fields start
         ap Next (sym (done none .1));
   }
 
-  pub past-bad : {k o : ℕ} → Bad k o ≡ entryOf (field + 8) (entryWith uncheckedStr field (drop field s)) → (r : Parsed) → ValuesPast s fields start r
+  pub past-bad : {x : Refusal} → Bad x ≡ entryOf (field + 8) (entryWith uncheckedStr field (drop field s)) → (r : Parsed) → ValuesPast s fields start r
   past-bad e r = record { ends = λ l n t h v m u f. turn-bad s field (i .rest l n t h v m u f .1) e }
 
   module _ {type a b next : ℕ} (e : Field type a b next ≡ entryOf (field + 8) (entryWith uncheckedStr field (drop field s))) where
@@ -73,7 +71,7 @@ module _ (s : List ℕ) (fields start field at : ℕ) (i : InPast s fields start
         let w = turn (with (y .field) (take (next - field) (drop field s))) (y .rest .fields) s at z in
         record { rest = y .rest; more = y .more; end = w .end; past = ap (λ k. endOf (uncheckedValue k at (drop at s))) (y .typed) ∙ w .past; values = w .values; others = w .others }
 
-    pub past-fault : {k o : ℕ} → Fault k o ≡ endOf (uncheckedValue type at (drop at s)) → (r : Parsed) → ValuesPast s fields start r
+    pub past-fault : {x : Refusal} → Fault x ≡ endOf (uncheckedValue type at (drop at s)) → (r : Parsed) → ValuesPast s fields start r
     past-fault v r = record { ends = λ l n t h w m u f. next≢fault (sym (both l n t h w m u f .past) ∙ sym v) }
 
     pub past-next : {end : ℕ} → Next end ≡ endOf (uncheckedValue type at (drop at s)) → InPast s fields start next end
@@ -90,7 +88,7 @@ module _ (s : List ℕ) (o at : ℕ) {r : Parsed} (e : r ≡ endOf (uncheckedHea
   head-is : (p : Prototype) (h : Stands s o p) → r ≡ Next (h .fields)
   head-is p h = e ∙ head-next o (drop o s) (h .head)
 
-  pub block-head-fault : {k q : ℕ} → r ≡ Fault k q → (v : Parsed) → BlockPast s o at v
+  pub block-head-fault : {x : Refusal} → r ≡ Fault x → (v : Parsed) → BlockPast s o at v
   block-head-fault z v = record { ends = λ p h w m u f. next≢fault (sym (head-is p h) ∙ z) }
 
   module _ {first : ℕ} (z : r ≡ Next first) {i : Parsed} (d : i ≡ endOf (uncheckedId at (drop at s))) where
@@ -102,7 +100,7 @@ module _ (s : List ℕ) (o at : ℕ) {r : Parsed} (e : r ≡ endOf (uncheckedHea
         let x = after-ok (idParser at (drop at s)) (λ i. dataValuesParser (p .fields)) f in
         (x .1, d ∙ id-same at (drop at s) (x .3), ap (dataValuesParser (p .fields) (x .1)) (sym (moved id-exact s at (x .3) .rest)) ∙ x .4)
 
-    pub block-id-fault : {k q : ℕ} → i ≡ Fault k q → (v : Parsed) → BlockPast s o at v
+    pub block-id-fault : {x : Refusal} → i ≡ Fault x → (v : Parsed) → BlockPast s o at v
     block-id-fault y v = record { ends = λ p h w m u f. next≢fault (sym (split p w m u f .1) ∙ y) }
 
     pub block-values : {next : ℕ} {v : Parsed} → i ≡ Next next → ValuesPast s first next v → BlockPast s o at v

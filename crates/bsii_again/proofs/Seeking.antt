@@ -2,10 +2,10 @@
 use mathlib.Core.Path.{_≡_, refl, sym, ap, ap₂, _∙_, subst}
 use Prim.Native.Nat.{ℕ, zero, suc, _+_, _-_, _≤_, _<_}
 use native.Mathlib.Omega.{arith}
-use mathlib.Core.Bool.{Bool, true, false, not, cond, _||_}
-use mathlib.Core.Option.{Option, none, some}
-use mathlib.Core.List.{List, [], _∷_, _++_}
-use lib.ListN.{length, drop, length-append, length-drop}
+use mathlib.Core.Bool.{Bool, true, false, not, _||_}
+use mathlib.Core.Option.{Option, some}
+use mathlib.Core.List.{List, [], _∷_}
+use lib.ListN.{length, drop, length-append}
 use Rattle.bsii_format.specs.Reader.{Result, ok, fault, same}
 use Rattle.bsii_format.specs.Prototypes.{Prototype}
 use Rattle.bsii_format.specs.Blocks.{DataBlock, getPrototype, dataValuesParser}
@@ -13,14 +13,14 @@ use Rattle.bsii_format.specs.Strings.{idParser}
 use Rattle.bsii_format.specs.File.{Record, prototype, block, carrying, headParser, Step, end, more, recordParser, recordBytes, define, hasRoom, Records, defineAll}
 use Rattle.bsii_format.specs.Calls.{Placed, placed, blocksIn, consBlock, isNamed}
 use Rattle.bsii_format.proofs.Readers.{fault≢ok, ok-val, ok-at, ok-rest}
-use Rattle.bsii_format.proofs.Positions.{Moved, moved}
+use Rattle.bsii_format.proofs.Positions.{moved}
 use Rattle.bsii_format.proofs.Records.{record-good, head-takes, GoodStep, stepBytes}
 use Rattle.bsii_table.specs.Relation.{Entered}
 use Rattle.bsii_table.proofs.Relation.{still-defined}
 use Rattle.bsii_parse.specs.Walks.{Stands, behind, recordsAt}
 use Rattle.bsii_parse.proofs.Records.{record-exact, records-fault, records-end, records-full, records-more}
-use Rattle.bsii_again.specs.Again.{NameIs, PrototypeMet, BlockMet, Meets, a-prototype, a-block, RecordAgain}
-use Rattle.bsii_again.specs.Seek.{Numbered, isWanted, passOver, seekIn, Wants, BlockIs, blocksFrom, Standing, BlockTurn, found, over, BlockTurns, Turned, further, ended, Turns}
+use Rattle.bsii_again.specs.Again.{NameIs, BlockMet, Meets, a-prototype, a-block, RecordAgain}
+use Rattle.bsii_again.specs.Seek.{isWanted, passOver, seekIn, Wants, BlockIs, blocksFrom, Standing, BlockTurn, found, over, BlockTurns, Turned, further, ended, Turns}
 use Rattle.bsii_again.specs.Seek as seek
 use Rattle.bsii_again.specs.declared.records.Met.{Met}
 use Rattle.bsii_again.specs.declared.records.Met.the-variants.{Prototype as MetPrototype, Block as MetBlock, Nothing}
@@ -28,7 +28,7 @@ use Rattle.bsii_again.specs.declared.seek.Place.{Place}
 use Rattle.bsii_again.specs.declared.seek.Block.{Block}
 use Rattle.bsii_again.specs.declared.seek.Turn.{Turn}
 use Rattle.bsii_again.specs.declared.seek.Turn.the-variants.{Go, Found, End}
-use Rattle.bsii_again.proofs.Parts.{BlockParts, block-parts}
+use Rattle.bsii_again.proofs.Parts.{block-parts}
 
 -- ---- records that were accepted: the end record, or a record and more of them
 
@@ -102,11 +102,11 @@ module _ (last : List Prototype) (any : Bool) (name : List ℕ) (k : ℕ) (x : P
 
 -- ---- one block
 
-pub wants-any : (s : List ℕ) (o : ℕ) {any : Bool} (name : List ℕ) → any ≡ true → Wants s o any name true
-wants-any s o name z = record { is = λ q h. sym (ap (λ b. b || same name (q .name)) z) }
+pub wants-any : {s : List ℕ} {o : ℕ} {any : Bool} {name : List ℕ} → any ≡ true → Wants s o any name true
+wants-any {name = name} z = record { is = λ q h. sym (ap (λ b. b || same name (q .name)) z) }
 
-pub wants-named : (s : List ℕ) (o : ℕ) {any : Bool} (name : List ℕ) {r : Bool} → any ≡ false → NameIs s o name r → Wants s o any name r
-wants-named s o name z h = record { is = λ q x. h .is q x ∙ sym (ap (λ b. b || same name (q .name)) z) }
+pub wants-named : {s : List ℕ} {o : ℕ} {any : Bool} {name : List ℕ} {r : Bool} → any ≡ false → NameIs s o name r → Wants s o any name r
+wants-named {name = name} z h = record { is = λ q x. h .is q x ∙ sym (ap (λ b. b || same name (q .name)) z) }
 
 module _ (s : List ℕ) (p : Place) (b : Block) (any : Bool) (name : List ℕ) {w : Bool} (h : Wants s (b .last) any name w) where
   wants-is : (last : List Prototype) (x : Placed DataBlock) → BlockIs s last b x → isWanted last any name (x .it) ≡ w

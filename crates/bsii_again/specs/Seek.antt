@@ -9,7 +9,7 @@ use Rattle.bsii_format.specs.Reader.{ok, same}
 use Rattle.bsii_format.specs.Strings.{idParser}
 use Rattle.bsii_format.specs.Prototypes.{Prototype}
 use Rattle.bsii_format.specs.Blocks.{DataBlock, getPrototype, dataValuesParser}
-use Rattle.bsii_format.specs.File.{Record, carrying, headParser, recordBytes, define, defineAll}
+use Rattle.bsii_format.specs.File.{Record, carrying, headParser, recordBytes, define, defineAll, lengthLimit}
 use Rattle.bsii_format.specs.Calls.{Placed, placed, blocksIn, isNamed}
 use Rattle.bsii_table.specs.Rows.{Rows}
 use Rattle.bsii_table.specs.Relation.{Entered}
@@ -60,7 +60,7 @@ pub record BlockIs (s : List ℕ) (last : List Prototype) (b : Block) (x : Place
   pub values : dataValuesParser (p .fields) (b .id + length (x .it .id .raw)) (drop (b .id + length (x .it .id .raw)) s) ≡ ok (x .it .values) (b .next) (drop (b .next) s)
 
 pub record Ready (s : List ℕ) (p : Place) (t : List ℕ) (rows : ℕ) : Type 0 where
-  pub short : length s ≤ 16_777_216
+  pub short : length s ≤ lengthLimit
   pub inside : p .at ≤ length s
   pub counted : p .number ≤ p .at
   pub rowed : Rows t rows
@@ -79,7 +79,7 @@ pub record Standing (s : List ℕ) (rooms rows : ℕ) (last : List Prototype) (t
 
 -- a file that was read, with its definitions in the table
 pub record Readable (s : List ℕ) (start : ℕ) (t : List ℕ) (rows : ℕ) : Type 0 where
-  pub short : length s ≤ 16_777_216
+  pub short : length s ≤ lengthLimit
   pub inside : start ≤ length s
   pub rooms : ℕ
   pub last : List Prototype

@@ -10,10 +10,7 @@ pub fn name_is(s: &[u8], offset: usize, name: &[u8]) -> bool
 {
     let head = fields_at(s, offset);
     match head {
-        Parsed::Fault {
-            number: _,
-            offset: _,
-        } => false,
+        Parsed::Fault(_) => false,
         Parsed::Next(end) => {
             let start = offset + 13;
             if end - start != name.len() {

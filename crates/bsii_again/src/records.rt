@@ -17,6 +17,7 @@ use bsii_value::numbers::size;
 ghost use mathlib.Core.Path.{_≡_};
 ghost use Prim.Native.Nat.{_≤_};
 ghost use lib.ListN.{length};
+ghost use Rattle.bsii_format.specs.File.{lengthLimit};
 ghost use Rattle.bsii_table.specs.Rows.{Rows};
 ghost use Rattle.bsii_again.specs.Again.{MarkAt, KindAt, ValuesPast, BlockPast, PrototypeAgain, BlockAgain, RecordAgain};
 
@@ -84,7 +85,7 @@ pub fn values_past(s: &[u8], fields: usize, start: usize) -> Parsed
         let entry = value_prototype_past(s, field);
         match entry {
             Entry::Last(_) => return Parsed::Next(at),
-            Entry::Bad { number, offset } => return Parsed::Fault { number, offset },
+            Entry::Bad(f) => return Parsed::Fault(f),
             Entry::Field {
                 type_id,
                 name: _,
@@ -93,7 +94,7 @@ pub fn values_past(s: &[u8], fields: usize, start: usize) -> Parsed
             } => {
                 let value = value_past(s, at, type_id);
                 match value {
-                    Parsed::Fault { number, offset } => return Parsed::Fault { number, offset },
+                    Parsed::Fault(f) => return Parsed::Fault(f),
                     Parsed::Next(end) => {
                         at = end;
                         field = next;
@@ -110,11 +111,11 @@ pub fn block_past(s: &[u8], prototype: usize, at: usize) -> Parsed
 {
     let fields = fields_at(s, prototype);
     match fields {
-        Parsed::Fault { number, offset } => Parsed::Fault { number, offset },
+        Parsed::Fault(f) => Parsed::Fault(f),
         Parsed::Next(first) => {
             let id = id_past(s, at);
             match id {
-                Parsed::Fault { number, offset } => Parsed::Fault { number, offset },
+                Parsed::Fault(f) => Parsed::Fault(f),
                 Parsed::Next(next) => values_past(s, first, next),
             }
         }
@@ -122,7 +123,7 @@ pub fn block_past(s: &[u8], prototype: usize, at: usize) -> Parsed
 }
 
 fn word(x: usize) -> u32
-    requires { ⌜ x ≤ 16_777_216 ⌝ }
+    requires { ⌜ x ≤ lengthLimit ⌝ }
     ensures { λ r. ⌜ r ≡ x ⌝ }
 {
     x as u32
@@ -130,22 +131,16 @@ fn word(x: usize) -> u32
 
 // A prototype is in force from here on.
 pub fn prototype_again(s: &[u8], at: usize, table: &mut [u32], rows: usize, id: u32) -> Met
-    requires { ⌜ (length (now s) ≤ 16_777_216) × (at ≤ length (now s)) × Rows (now table) rows ⌝ }
+    requires { ⌜ (length (now s) ≤ lengthLimit) × (at ≤ length (now s)) × Rows (now table) rows ⌝ }
     ensures { λ r. ⌜ PrototypeAgain (now (s .entry)) at (now (table .entry)) rows id r (now (table .exit)) ⌝ }
 {
     let fields = fields_at(s, at);
     match fields {
-        Parsed::Fault {
-            number: _,
-            offset: _,
-        } => return Met::Nothing,
+        Parsed::Fault(_) => return Met::Nothing,
         Parsed::Next(first) => {
             let list = fields_past(s, first);
             match list {
-                Counted::Fault {
-                    number: _,
-                    offset: _,
-                } => return Met::Nothing,
+                Counted::Fault(_) => return Met::Nothing,
                 Counted::Fields { count: _, next } => {
                     enter(table, rows, id, word(at));
                     return Met::Prototype(next);
@@ -167,10 +162,7 @@ fn block_again(s: &[u8], id_at: usize, table: &[u32], rows: usize, id: u32) -> M
             let other = size(last);
             let end = block_past(s, prototype, id_at);
             match end {
-                Parsed::Fault {
-                    number: _,
-                    offset: _,
-                } => return Met::Nothing,
+                Parsed::Fault(_) => return Met::Nothing,
                 Parsed::Next(next) => return Met::Block {
                     id_at,
                     in_force: prototype,
@@ -183,7 +175,7 @@ fn block_again(s: &[u8], id_at: usize, table: &[u32], rows: usize, id: u32) -> M
 }
 
 pub fn record_again(s: &[u8], at: usize, table: &mut [u32], rows: usize) -> Met
-    requires { ⌜ (length (now s) ≤ 16_777_216) × (at ≤ length (now s)) × Rows (now table) rows ⌝ }
+    requires { ⌜ (length (now s) ≤ lengthLimit) × (at ≤ length (now s)) × Rows (now table) rows ⌝ }
     ensures { λ r. ⌜ RecordAgain (now (s .entry)) at (now (table .entry)) rows r (now (table .exit)) ⌝ }
 {
     let kind = kind_at(s, at);

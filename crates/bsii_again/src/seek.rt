@@ -3,6 +3,7 @@ use crate::names::name_is;
 use crate::records::Met;
 use crate::records::record_again;
 ghost use Prim.Native.Nat.{_≤_};
+ghost use Rattle.bsii_format.specs.File.{lengthLimit};
 ghost use Rattle.bsii_again.specs.Seek.{Wants, Ready, Readable, BlockTurns, Turns, Seeks};
 
 // Where the search is: the next record, the next block's number, and how many of the wanted blocks are passed over still.
@@ -45,7 +46,7 @@ fn wants(s: &[u8], last: usize, any: bool, name: &[u8]) -> bool
 }
 
 fn block_step(s: &[u8], p: Place, b: Block, any: bool, name: &[u8]) -> Turn
-    requires { ⌜ p .number ≤ 16_777_216 ⌝ }
+    requires { ⌜ p .number ≤ lengthLimit ⌝ }
     ensures { λ r. ⌜ BlockTurns (now (s .entry)) p b any (now (name .entry)) r ⌝ }
 {
     let number = p.number;

@@ -20,7 +20,7 @@ use Rattle.bsii_value.specs.declared.answers.Parsed.{Parsed}
 use Rattle.bsii_value.specs.declared.answers.Parsed.the-variants.{Next, Fault}
 use Rattle.bsii_value.proofs.Texts.{str-past-next}
 use Rattle.bsii_prototype.specs.Entries.{enumValuesWith}
-use Rattle.bsii_prototype.proofs.Agrees.{checked-enum-value, checked-enum-values}
+use Rattle.bsii_prototype.proofs.Unchecked.{checked-enum-value, checked-enum-values}
 use Rattle.bsii_prototype.proofs.Names.{checked, unchecked, named}
 use Rattle.bsii_prototype.proofs.Entries.{next-is, list-none, list-short, list-more}
 use Rattle.bsii_definition.specs.Enums.{stringIs, StringInside, PairAt, later, LastPair, StringOf}

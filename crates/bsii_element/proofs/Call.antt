@@ -4,10 +4,10 @@ use Prim.Native.Nat.{ℕ, zero, suc, _+_, _-_, _≤_, _<_}
 use native.Mathlib.Omega.{arith}
 use mathlib.Core.Option.{none, some}
 use mathlib.Core.List.{List, []}
-use lib.ListN.{length, take, drop, getElem?}
-use lib.Seq.{length-take-le}
+use lib.ListN.{length, take, drop, getElem?, length-drop}
+use lib.Seq.{take-all, length-take-le}
 use lib.Dec.{leb, leb→le}
-use Rattle.bsii_format.specs.Replies.{Fault as Refusal, gives, refusal, malformed, absent, notUtf8}
+use Rattle.bsii_format.specs.Replies.{Fault as Reason, gives, refuses, refusal, malformed, absent, notUtf8}
 use Rattle.bsii_format.specs.Reader.{Result, ok, fault, faultAt, bytes, after, success, verify, Consumed, consumed, repeat, _>>=_, _<$>_}
 use Rattle.bsii_format.specs.Numbers.{number}
 use Rattle.bsii_format.specs.Utf8.{utf8}
@@ -18,37 +18,41 @@ use Rattle.bsii_format.specs.BlockText.{orRefuse}
 use Rattle.bsii_format.specs.Calls.{dString, dId, numericDatum, datumOf, datum, Placed, placed, elementsOf, ofValue}
 use Rattle.bsii_format.proofs.Readers.{after-ok, map-ok, cond-ok, ok-val, ok-at, map-fault, fault≢ok, fault-is}
 use Rattle.bsii_format.proofs.Parsers.{element-exact, id-exact}
-use Rattle.bsii_format.proofs.Positions.{ended, moved, moved-on, map-value, ended-consumed}
-use Rattle.bsii_value.specs.Answers.{endOf}
+use Rattle.bsii_format.proofs.Positions.{ended, ended-ok, moved, moved-on, map-value, ended-consumed}
+use Rattle.bsii_value.specs.Answers.{faultIs, endOf}
+use Rattle.bsii_value.specs.declared.answers.Refusal.{Refusal}
+use Rattle.bsii_value.specs.declared.answers.Parsed.{Parsed}
 use Rattle.bsii_value.specs.declared.answers.Parsed.the-variants.{Next, Fault}
-use Rattle.bsii_value.proofs.Ends.{answer}
+use Rattle.bsii_value.proofs.Ends.{next≢fault, fault-at}
 use Rattle.bsii_value.proofs.Elements.{one-end}
-use Rattle.bsii_float.specs.NumbersAt.{numberAt, numbersAt}
-use Rattle.bsii_float.proofs.NumbersAt.{number-moves, number-is, numbers-are, row-length}
+use Rattle.bsii_past.specs.Unchecked.{uncheckedElement}
+use Rattle.bsii_past.proofs.Values.{elements-same}
+use Rattle.bsii_value.specs.NumbersAt.{numberAt, numbersAt}
+use Rattle.bsii_value.proofs.NumbersAt.{number-moves, number-is, numbers-from, row-length}
 use Rattle.bsii_element.specs.Decoded.{decoded}
-use Rattle.bsii_element.specs.Unchecked.{startsAt}
-use Rattle.bsii_element.proofs.Ended.{next-ok, fault-not}
+use Rattle.bsii_element.proofs.Ended.{next-is, next-ok}
 use Rattle.bsii_element.proofs.Standing.{standing, step, absent-past, extent, at-offset}
 
 -- the faults of an element and of a value are the call's
-pub decoded-fault : (p : ℕ) (q : Result Element) {k at : ℕ} → Fault k at ≡ endOf q → refusal k at ≡ decoded p q
+pub decoded-fault : (p : ℕ) (q : Result Element) {f : Refusal} → Fault f ≡ endOf q → refuses (faultIs f) ≡ decoded p q
 unfolding decoded
-decoded-fault p q e = sym (ap (decoded p) (fault-not q e))
+decoded-fault p q e = sym (ap (decoded p) (fault-at q e))
 
-pub value-fault : (i : ℕ) (q : Result Value) {k at : ℕ} → Fault k at ≡ endOf q → refusal k at ≡ ofValue i q
+pub value-fault : (i : ℕ) (q : Result Value) {f : Refusal} → Fault f ≡ endOf q → refuses (faultIs f) ≡ ofValue i q
 unfolding ofValue
-value-fault i q e = sym (ap (ofValue i) (fault-not q e))
+value-fault i q e = sym (ap (ofValue i) (fault-at q e))
 
 -- ---- one element
 
--- an element that is numbers, where its bytes are there
+-- an element that is numbers, where its bytes are there: those from its start on
 pub numbers-decoded : (k : Numeric) (s : List ℕ) (at : ℕ) {n : ℕ} → Next n ≡ endOf (elementParser (numbers k) at (drop at s))
-    → gives (numericDatum k (numbersAt (arity k) (width k) s at)) ≡ decoded at (elementParser (numbers k) at (drop at s))
+    → gives (numericDatum k (numbersAt (arity k) (width k) (take (length s - at) (drop at s)) 0)) ≡ decoded at (elementParser (numbers k) at (drop at s))
 unfolding decoded elementParser datumOf
 numbers-decoded k s at {n} e =
     let q = next-ok (elementParser (numbers k) at (drop at s)) e in
     let m = map-ok (nums k) (repeat (arity k) (number (width k))) at (drop at s) (q .2) in
-    ap (λ (l : List ℕ). gives (numericDatum k l)) (numbers-are (arity k) (width k) s at (m .2))
+    let whole : take (length s - at) (drop at s) ≡ drop at s = take-all (length s - at) (drop at s) (omega (arith, length-drop at s)) in
+    ap (λ (l : List ℕ). gives (numericDatum k l)) (ap (λ (l : List ℕ). numbersAt (arity k) (width k) l 0) whole ∙ numbers-from (arity k) (width k) at (drop at s) (m .2))
     ∙ ap (λ (x : Element). gives (datumOf at (n - at) x)) (m .1)
     ∙ sym (ap (decoded at) (q .2))
 
@@ -125,7 +129,7 @@ decoded-there k s p x e l = ap (decoded p) e ∙ ap (λ (m : ℕ). gives (datumO
 
 -- ---- a single value
 
-ended-fault : {A : Type 0} (q : Result A) {f : Refusal} → ended q ≡ fault f → q ≡ fault f
+ended-fault : {A : Type 0} (q : Result A) {f : Reason} → ended q ≡ fault f → q ≡ fault f
 unfolding ended
 ended-fault (ok a i r) e = fault≢ok (sym e)
 ended-fault (fault g) e = ap fault (fault-is e)
@@ -185,18 +189,25 @@ module _ (k : Kind) (s : List ℕ) {n : ℕ} (e : Next n ≡ endOf (shapeParser 
       let l : length (a .elements) ≡ numberAt 4 s 0 = row-length (numberAt 4 s 0) (consumed (elementParser k)) 4 (drop 4 s) (a .row) in
       value-absent (array (a .elements)) n (a .rest) i (absent-past extent 4 (a .elements) i (omega arith)) ∙ ap (ofValue i) (sym (a .value))
 
-  -- the element stands where i elements end, and there they end
-  pub array-there : i < numberAt 4 s 0 → (p : ℕ) × (Next p ≡ endOf (repeat i (elementParser k) 4 (drop 4 s))) × (decoded p (elementParser k p (drop p s)) ≡ ofValue i (shapeParser (some (many k)) 0 s))
-  unfolding elementsOf endOf
+  -- the element stands where i elements end, for the walk that checks nothing too
+  pub array-there : i < numberAt 4 s 0 → (p : ℕ) × (endOf (repeat i (uncheckedElement k) 4 (drop 4 s)) ≡ Next p) × (decoded p (elementParser k p (drop p s)) ≡ ofValue i (shapeParser (some (many k)) 0 s))
+  unfolding elementsOf
   array-there h =
       let a = array-read k s e in
       let x = standing (element-exact k) s (numberAt 4 s 0) 4 (a .row) i h in (
         x .start,
-        answer (repeat i (elementParser k) 4 (drop 4 s)) (ok tt (x .start) (drop (x .start) s)) (x .passed),
+        elements-same k i 4 (drop 4 s) (ended-ok (repeat i (elementParser k) 4 (drop 4 s)) (x .passed) .1),
         decoded-there k s (x .start) (x .it) (x .reads) (x .long)
             ∙ value-there (array (a .elements)) n (a .rest) i (x .found)
             ∙ ap (ofValue i) (sym (a .value)),
       )
 
-  pub array-element : (r : ℕ) → startsAt k s i r → i < numberAt 4 s 0 → decoded r (elementParser k r (drop r s)) ≡ ofValue i (shapeParser (some (many k)) 0 s)
-  array-element r starts h = let x = array-there h in ap (λ (p : ℕ). decoded p (elementParser k p (drop p s))) (starts (x .0) (x .1)) ∙ x .2
+  module _ (h : i < numberAt 4 s 0) {q : Parsed} (u : q ≡ endOf (repeat i (uncheckedElement k) 4 (drop 4 s))) where
+    pub array-element : {r : ℕ} → q ≡ Next r → decoded r (elementParser k r (drop r s)) ≡ ofValue i (shapeParser (some (many k)) 0 s)
+    array-element {r} g =
+        let x = array-there h in
+        let p : r ≡ x .0 = next-is (sym g ∙ u ∙ x .1) in
+        ap (λ (p : ℕ). decoded p (elementParser k p (drop p s))) p ∙ x .2
+
+    pub array-ends : {P : Type 0} {f : Refusal} → q ≡ Fault f → P
+    array-ends g = next≢fault (sym (array-there h .1) ∙ sym u ∙ g)

@@ -1,5 +1,6 @@
--- The laws that the proofs share. Standing says where an array's elements stand, Unchecked how they are passed, Call what the call answers.
+-- The laws that the proofs share. Standing says where an array's elements stand, Call what the call answers,
+-- SignedBits how signed numbers and their bits are related.
 pub mod Ended
 pub mod Standing
-pub mod Unchecked
 pub mod Call
+pub mod SignedBits

@@ -1,10 +1,13 @@
 // One element of a value.
 use crate::answers::Element;
 use crate::numeric::numeric;
-use crate::skips::start_of;
-use bsii_float::numbers::u32_at;
+use bsii_past::elements_past;
+use bsii_value::answers::ABSENT;
 use bsii_value::answers::Parsed;
+use bsii_value::answers::UNLISTED_TYPE;
 use bsii_value::answers::Word;
+use bsii_value::answers::refused;
+use bsii_value::at::u32_at;
 use bsii_value::numbers::size;
 use bsii_value::strings::encoded_str_parser;
 use bsii_value::strings::id_parser;
@@ -21,8 +24,7 @@ ghost use Rattle.bsii_format.specs.Values.{elementParser, shapeParser};
 ghost use Rattle.bsii_format.specs.Calls.{ofValue, elementCall};
 ghost use Rattle.bsii_value.specs.Kinds.{kindIs};
 ghost use Rattle.bsii_element.specs.Cases.{elementIs};
-ghost use Rattle.bsii_element.specs.Decoded.{decoded};
-ghost use Rattle.bsii_element.specs.Unchecked.{answersAt};
+ghost use Rattle.bsii_element.specs.Decoded.{decoded, answersAt};
 
 fn text(s: &[u8], at: usize) -> Element
     ensures { λ r. ⌜ elementIs r ≡ decoded at (elementParser string at (drop at (now (s .entry)))) ⌝ }
@@ -33,7 +35,7 @@ fn text(s: &[u8], at: usize) -> Element
             offset: at + 4,
             size: next - at - 4,
         },
-        Parsed::Fault { number, offset } => Element::Refused { number, offset },
+        Parsed::Fault(f) => Element::Refused(f),
     }
 }
 
@@ -43,8 +45,7 @@ fn word(s: &[u8], at: usize) -> Element
     let read = encoded_str_parser(s, at);
     match read {
         Word::Low63(low, _) => Element::EncodedString(low),
-        Word::CutWord(offset) => Element::Refused { number: 3, offset },
-        Word::ZeroDigit(offset) => Element::Refused { number: 5, offset },
+        Word::Refused(f) => Element::Refused(f),
     }
 }
 
@@ -57,7 +58,7 @@ fn id(s: &[u8], at: usize) -> Element
             offset: at,
             size: next - at,
         },
-        Parsed::Fault { number, offset } => Element::Refused { number, offset },
+        Parsed::Fault(f) => Element::Refused(f),
     }
 }
 
@@ -82,26 +83,24 @@ fn single(part: &[u8], kind: Kind, index: usize) -> Element
     }
     let end = element_parser(part, 0, kind);
     match end {
-        Parsed::Next(_) => Element::Refused {
-            number: 13,
-            offset: 0,
-        },
-        Parsed::Fault { number, offset } => Element::Refused { number, offset },
+        Parsed::Next(_) => Element::Refused(refused(ABSENT, 0)),
+        Parsed::Fault(f) => Element::Refused(f),
     }
 }
 
-// An element of an array that was accepted.
+// An element of an array that was accepted, so nothing is checked on the way to it, and no refusal is met there.
 fn in_array(part: &[u8], kind: Kind, index: usize) -> Element
     ensures { λ r. ⌜ answersAt (kindIs kind) (now (part .entry)) index (elementIs r) ⌝ }
 {
     let count = size(u32_at(part, 0));
     if count <= index {
-        return Element::Refused {
-            number: 13,
-            offset: 0,
-        };
+        return Element::Refused(refused(ABSENT, 0));
     }
-    decode(part, start_of(part, kind, index as u32), kind)
+    let start = elements_past(part, 4, index as u32, kind);
+    match start {
+        Parsed::Next(at) => decode(part, at, kind),
+        Parsed::Fault(f) => Element::Refused(f),
+    }
 }
 
 // The element at the index of the value that the slice starts with. The value is read whole before the index is looked at.
@@ -115,12 +114,9 @@ pub fn element(type_id: u32, part: &[u8], index: usize) -> Element
             let whole = value_parser(part, 0, type_id);
             match whole {
                 Parsed::Next(_) => in_array(part, kind, index),
-                Parsed::Fault { number, offset } => Element::Refused { number, offset },
+                Parsed::Fault(f) => Element::Refused(f),
             }
         }
-        Shape::Unlisted => Element::Refused {
-            number: 7,
-            offset: 0,
-        },
+        Shape::Unlisted => Element::Refused(refused(UNLISTED_TYPE, 0)),
     }
 }

@@ -2,4 +2,4 @@
 pub mod answers;
 pub mod elements;
 mod numeric;
-mod skips;
+pub mod signed;

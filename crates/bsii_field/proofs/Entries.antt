@@ -20,16 +20,17 @@ use Rattle.bsii_value.specs.Answers.{uncheckedStr}
 use Rattle.bsii_prototype.specs.Entries.{enumValuesWith, definitionWith, entryWith}
 use Rattle.bsii_prototype.specs.Answers.{entryOf}
 use Rattle.bsii_prototype.specs.declared.answers.Entry.{Entry}
+use Rattle.bsii_value.specs.declared.answers.Refusal.{Refusal}
 use Rattle.bsii_prototype.specs.declared.answers.Entry.the-variants.{Field, Last, Bad}
 use Rattle.bsii_prototype.proofs.answers.Entry.{the-type}
 use Rattle.bsii_prototype.proofs.Names.{named, unchecked, number-front}
 use Rattle.bsii_prototype.proofs.Entries.{entry-none, entry-exact, field-is}
 
 -- what is no field is the end of the list or a fault
-pub unfielded : {P : Type 0} (x : Entry) → OneOf (1 ∷ 2 ∷ []) (tagOf the-type x) → ((n : ℕ) → x ≡ Last n → P) → ((k o : ℕ) → x ≡ Bad k o → P) → P
+pub unfielded : {P : Type 0} (x : Entry) → OneOf (1 ∷ 2 ∷ []) (tagOf the-type x) → ((n : ℕ) → x ≡ Last n → P) → ((f : Refusal) → x ≡ Bad f → P) → P
 unfielded (Field t a b n) h last bad = ⊎-elim (λ z. absurd (omega arith)) (λ z. absurd (omega arith)) h
 unfielded (Last n) h last bad = last n refl
-unfielded (Bad k o) h last bad = bad k o refl
+unfielded (Bad f) h last bad = bad f refl
 
 last≢some : {P : Type 0} {d : ValuePrototype} {i n : ℕ} {q r : List ℕ} → _≡_ {A = Result (Option ValuePrototype)} (ok none i q) (ok (some d) n r) → P
 last≢some e = let z : _≡_ {A = ℕ} 0 1 = cc in let f : ⊥ = omega arith in absurd f

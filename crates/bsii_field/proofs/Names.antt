@@ -17,6 +17,7 @@ use Rattle.bsii_format.proofs.Readers.{is-true, is-false, same→eq, same-refl}
 use Rattle.bsii_value.specs.Answers.{uncheckedStr}
 use Rattle.bsii_prototype.specs.Entries.{entryWith}
 use Rattle.bsii_prototype.specs.Answers.{entryOf}
+use Rattle.bsii_value.specs.declared.answers.Refusal.{Refusal}
 use Rattle.bsii_prototype.specs.declared.answers.Entry.the-variants.{Field, Last, Bad}
 use Rattle.bsii_prototype.proofs.Turns.{turn-field, turn-last, turn-bad}
 use Rattle.bsii_field.specs.declared.Index.{Index}
@@ -96,10 +97,10 @@ pub record Rest (s : List ℕ) (name : List ℕ) (field index : ℕ) (l : Fields
 pub record Seeking (s : List ℕ) (fields : ℕ) (name : List ℕ) (field index : ℕ) : Type 0 where
   pub rest : (l : Fields) (n : ℕ) (t : List ℕ) → fieldsParser fields (drop fields s) ≡ ok l n t → Rest s name field index l n t
 
-pub seek-start : (s : List ℕ) (fields : ℕ) (name : List ℕ) → Seeking s fields name fields 0
-seek-start s fields name = record { rest = λ l n t e. record { fields = l; read = e; first = from-zero (fieldIndex name (l .fields)) } }
+pub seek-start : {s : List ℕ} {fields : ℕ} {name : List ℕ} → Seeking s fields name fields 0
+seek-start {name = name} = record { rest = λ l n t e. record { fields = l; read = e; first = from-zero (fieldIndex name (l .fields)) } }
 
-module _ (s : List ℕ) (fields : ℕ) (name : List ℕ) (field index : ℕ) (k : Seeking s fields name field index) where
+module _ {s : List ℕ} {fields : ℕ} {name : List ℕ} {field index : ℕ} (k : Seeking s fields name field index) where
   pub seek-last : {n : ℕ} → Last n ≡ entryOf (field + 8) (entryWith uncheckedStr field (drop field s)) → IndexOf s fields name Absent
   unfolding fieldIndex
   seek-last e = record {
@@ -108,7 +109,7 @@ module _ (s : List ℕ) (fields : ℕ) (name : List ℕ) (field index : ℕ) (k 
         sym (from-none index) ∙ ap (λ fs. from index (fieldIndex name fs)) (sym (turn-last s field (x .read) e .0)) ∙ x .first;
   }
 
-  pub seek-bad : {m o : ℕ} → Bad m o ≡ entryOf (field + 8) (entryWith uncheckedStr field (drop field s)) → (r : Index) → IndexOf s fields name r
+  pub seek-bad : {f : Refusal} → Bad f ≡ entryOf (field + 8) (entryWith uncheckedStr field (drop field s)) → (r : Index) → IndexOf s fields name r
   seek-bad e r = record { first = λ l n t h. turn-bad s field (k .rest l n t h .read) e }
 
   module _ {type a b next : ℕ} (e : Field type a b next ≡ entryOf (field + 8) (entryWith uncheckedStr field (drop field s))) where

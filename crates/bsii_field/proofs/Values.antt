@@ -16,6 +16,8 @@ use Rattle.bsii_value.specs.declared.answers.Parsed.{Parsed}
 use Rattle.bsii_value.specs.declared.answers.Parsed.the-variants.{Next, Fault}
 use Rattle.bsii_prototype.specs.Entries.{entryWith}
 use Rattle.bsii_prototype.specs.Answers.{entryOf}
+use Rattle.bsii_value.specs.declared.answers.Refusal.{Refusal}
+use Rattle.bsii_value.proofs.Ends.{next≢fault}
 use Rattle.bsii_prototype.specs.declared.answers.Entry.the-variants.{Field, Last, Bad}
 use Rattle.bsii_prototype.proofs.Turns.{FieldTurn, turn-field, turn-last, turn-bad}
 use Rattle.bsii_past.specs.Unchecked.{uncheckedValue}
@@ -41,9 +43,6 @@ pub record Step (s : List ℕ) (at type next end : ℕ) (vs : List DataValue) (n
 
 next-is : {a b : ℕ} → _≡_ {A = Parsed} (Next a) (Next b) → a ≡ b
 next-is e = cc
-
-next≢fault : {P : Type 0} {n k o : ℕ} → _≡_ {A = Parsed} (Next n) (Fault k o) → P
-next≢fault e = let z : _≡_ {A = ℕ} 0 1 = cc in let f : ⊥ = omega arith in absurd f
 
 module _ (s : List ℕ) (field at : ℕ) {l : Fields} {n : ℕ} {t : List ℕ} (read : fieldsParser field (drop field s) ≡ ok l n t)
     {vs : List DataValue} {m : ℕ} {u : List ℕ} (carried : dataValuesParser (l .fields) at (drop at s) ≡ ok vs m u)
@@ -78,7 +77,7 @@ module _ (s : List ℕ) (field at : ℕ) {l : Fields} {n : ℕ} {t : List ℕ} (
   step h = let q = step-end in subst (λ (k : ℕ). Step s at type next k vs n t m u) (sym (next-is (h ∙ q .1))) (q .2)
 
   -- what was accepted is not refused
-  pub step-fault : {P : Type 0} {k o : ℕ} → Fault k o ≡ endOf (uncheckedValue type at (drop at s)) → P
+  pub step-fault : {P : Type 0} {f : Refusal} → Fault f ≡ endOf (uncheckedValue type at (drop at s)) → P
   step-fault h = next≢fault (sym (h ∙ step-end .1))
 
 -- ---- the list of values with their places
@@ -119,8 +118,8 @@ pub record Going (s : List ℕ) (fields start index field at passed : ℕ) : Typ
       → (vs : List DataValue) (m : ℕ) (u : List ℕ) → dataValuesParser (l .fields) start (drop start s) ≡ ok vs m u
       → Rest s field at (index - passed) (getElem? (places start vs) index) n t m u
 
-pub go-start : (s : List ℕ) (fields start index : ℕ) → Going s fields start index fields start 0
-go-start s fields start index = record {
+pub go-start : {s : List ℕ} {fields start index : ℕ} → Going s fields start index fields start 0
+go-start {start = start} {index = index} = record {
   rest = λ l n t e vs m u f.
       let all : index - 0 ≡ index = omega arith in
       record { fields = l; values = vs; read = e; carried = f; same = ap (getElem? (places start vs)) all };
@@ -132,7 +131,7 @@ value-is e = (cc, cc)
 none≢value : {P : Type 0} {t at next : ℕ} → _≡_ {A = Found} NoValue (Value t at next) → P
 none≢value e = let z : _≡_ {A = ℕ} 0 1 = cc in let f : ⊥ = omega arith in absurd f
 
-module _ (s : List ℕ) (fields start index field at passed : ℕ) (k : Going s fields start index field at passed) where
+module _ {s : List ℕ} {fields start index field at passed : ℕ} (k : Going s fields start index field at passed) where
   pub go-last : {n : ℕ} → Last n ≡ entryOf (field + 8) (entryWith uncheckedStr field (drop field s)) → ValueAt s fields start index NoValue
   go-last e = record {
     answer = λ l n t h vs m u f.
@@ -142,14 +141,14 @@ module _ (s : List ℕ) (fields start index field at passed : ℕ) (k : Going s 
     inside = λ t a n f. none≢value f;
   }
 
-  pub go-bad : {m o : ℕ} → Bad m o ≡ entryOf (field + 8) (entryWith uncheckedStr field (drop field s)) → ValueAt s fields start index NoValue
+  pub go-bad : {f : Refusal} → Bad f ≡ entryOf (field + 8) (entryWith uncheckedStr field (drop field s)) → ValueAt s fields start index NoValue
   go-bad e = record {
     answer = λ l n t h vs m u f. turn-bad s field (k .rest l n t h vs m u f .read) e;
     inside = λ t a n f. none≢value f;
   }
 
   module _ {type a b next : ℕ} (e : Field type a b next ≡ entryOf (field + 8) (entryWith uncheckedStr field (drop field s))) where
-    pub go-fault : {m o : ℕ} → Fault m o ≡ endOf (uncheckedValue type at (drop at s)) → ValueAt s fields start index NoValue
+    pub go-fault : {f : Refusal} → Fault f ≡ endOf (uncheckedValue type at (drop at s)) → ValueAt s fields start index NoValue
     go-fault h = record {
       answer = λ l n t f vs m u g. let x = k .rest l n t f vs m u g in step-fault s field at (x .read) (x .carried) e h;
       inside = λ t a n f. none≢value f;

@@ -1,31 +1,33 @@
 -- A block by its number, and by its number under a prototype name.
-use mathlib.Core.Path.{_≡_, refl, sym, ap, ap₂, _∙_, subst}
+use mathlib.Core.Path.{_≡_, refl, sym, ap, _∙_, subst}
 use Prim.Native.Nat.{ℕ, zero, suc, _+_, _-_, _≤_}
 use native.Mathlib.Omega.{arith}
 use mathlib.Core.Bool.{Bool, true, false, cond}
 use mathlib.Core.Option.{Option, none, some, Option·map}
 use mathlib.Core.List.{List, [], _∷_}
 use lib.ListN.{length, drop, getElem?}
-use Rattle.bsii_format.specs.Replies.{gives, refusal}
-use Rattle.bsii_format.specs.Reader.{ok}
+use Rattle.bsii_format.specs.Replies.{gives, absent}
 use Rattle.bsii_format.specs.Prototypes.{Prototype}
 use Rattle.bsii_format.specs.Blocks.{DataBlock, getPrototype}
-use Rattle.bsii_format.specs.File.{prototypesOf, BsiiFile}
+use Rattle.bsii_format.specs.File.{prototypesOf}
 use Rattle.bsii_format.specs.Calls.{Placed, BlockAnswer, blockAnswer, blocksOf, blockCall, isNamed, numbersNamed, blocksByPrototypeName, namedBlockCall, orAbsent}
 use Rattle.bsii_format.specs.BlockText.{orRefuse}
 use Rattle.bsii_format.proofs.Positions.{moved}
-use Rattle.bsii_value.specs.Answers.{endOf}
+use Rattle.bsii_value.specs.Answers.{refusedAt, endOf}
 use Rattle.bsii_value.specs.declared.answers.Parsed.{Parsed}
+use Rattle.bsii_value.specs.declared.answers.Refusal.{Refusal}
 use Rattle.bsii_value.specs.declared.answers.Parsed.the-variants.{Next, Fault}
+use Rattle.bsii_value.proofs.Ends.{next≢fault}
 use Rattle.bsii_prototype.proofs.Entries.{next-is}
 use Rattle.bsii_past.specs.Unchecked.{uncheckedId}
 use Rattle.bsii_past.proofs.Exact.{unchecked-id-exact}
 use Rattle.bsii_past.proofs.Values.{id-same}
 use Rattle.bsii_parse.specs.Walks.{ReadFile}
+use Rattle.bsii_parse.specs.declared.walk.Totals.{Totals}
 use Rattle.bsii_parse.specs.declared.walk.Walked.{Walked}
 use Rattle.bsii_parse.specs.declared.walk.Walked.the-variants.{Done, Fault as Stopped}
 use Rattle.bsii_again.specs.Again.{KindAt}
-use Rattle.bsii_again.specs.Seek.{Numbered, passOver, seekIn, BlockIs, blocksFrom, Sought, sought, missed, Seeks}
+use Rattle.bsii_again.specs.Seek.{Numbered, passOver, seekIn, BlockIs, Sought, sought, missed, Seeks}
 use Rattle.bsii_again.specs.declared.records.Kind.{Kind}
 use Rattle.bsii_again.specs.declared.records.Kind.the-variants.{Ends, Defines, Carries}
 use Rattle.bsii_again.specs.declared.seek.Block.{Block}
@@ -35,7 +37,6 @@ use Rattle.bsii_file.specs.Answers.{blockIs, numberIs}
 use Rattle.bsii_file.specs.Lookups.{BlockAnswered}
 use Rattle.bsii_file.specs.declared.blocks.BlockReply.{BlockReply}
 use Rattle.bsii_file.specs.declared.blocks.BlockReply.the-variants as block
-use Rattle.bsii_file.specs.declared.blocks.NumberReply.{NumberReply}
 use Rattle.bsii_file.specs.declared.blocks.NumberReply.the-variants as number
 use Rattle.bsii_file.proofs.Lookups.{WasRead, was-read, read-answers, unread-refuses}
 use Rattle.bsii_file.proofs.Rereading.{standing-first, blocks-are}
@@ -77,7 +78,7 @@ was-missed : {s : List ℕ} {last : List Prototype} {o : Option Numbered} {r : B
 was-missed (sought x i e) z = let y : _≡_ {A = ℕ} 0 1 = cc in let f : ⊥ = omega arith in absurd f
 was-missed (missed e) z = e
 
-module _ {s t : List ℕ} {rows blocks n : ℕ} {t′ : List ℕ} (w : WasRead s t rows blocks n t′) {any : Bool} {name : List ℕ} {k : ℕ} {r : BlockAt} (h : Seeks s 8 t′ rows any name k r) where
+module _ {s t : List ℕ} {a : Totals} {t′ : List ℕ} (w : WasRead s t a t′) {any : Bool} {name : List ℕ} {k : ℕ} {r : BlockAt} (h : Seeks s 8 t′ (a .rows) any name k r) where
   here : Sought s (prototypesOf (w .file .records)) (seekIn (prototypesOf (w .file .records)) any name 0 k (blocksOf (w .file))) r
   here = subst (λ l. Sought s (prototypesOf (w .file .records)) (seekIn (prototypesOf (w .file .records)) any name 0 k l) r) (blocks-are w) (h .seeks _ _ _ (standing-first w))
 
@@ -89,7 +90,11 @@ module _ {s t : List ℕ} {rows blocks n : ℕ} {t′ : List ℕ} (w : WasRead s
 
 -- ---- the parts of a block that was found
 
-module _ (s : List ℕ) (b : Block) {k : Kind} (h : KindAt s (b .at) k) where
+-- also where nobody knows that an id stands there
+pub id-later : (s : List ℕ) (next : ℕ) {q : Parsed} → q ≡ endOf (uncheckedId next (drop next s)) → {m : ℕ} → q ≡ Next m → next ≤ m
+id-later s next e y = let r = next-is (uncheckedId next (drop next s)) (sym y ∙ e) in moved unchecked-id-exact s next (r .2) .later
+
+module _ {s : List ℕ} {b : Block} {k : Kind} (h : KindAt s (b .at) k) where
   carries : (last : List Prototype) (x : Placed DataBlock) → BlockIs s last b x → k ≡ Carries (x .it .prototypeId) (b .id)
   carries last x i = h .is _ _ _ (i .head)
 
@@ -113,15 +118,8 @@ module _ (s : List ℕ) (b : Block) {k : Kind} (h : KindAt s (b .at) k) where
         let l : id ≡ x .it .prototypeId = cc in
         (l, j, e ∙ ap (λ (m : ℕ). endOf (uncheckedId m (drop m s))) j ∙ id-same (b .id) (drop (b .id) s) (i .id))
 
-    pub answered-fault : {m o : ℕ} → q ≡ Fault m o → (v : BlockReply) → BlockAnswered s b v
-    answered-fault y v = record { answers = λ last x i. no (sym (parts last x i .2) ∙ y) }
-      where
-        no : {P : Type 0} {a c d : ℕ} → _≡_ {A = Parsed} (Next a) (Fault c d) → P
-        no e = let y : _≡_ {A = ℕ} 0 1 = cc in let f : ⊥ = omega arith in absurd f
-
-    -- also where nobody knows that an id stands there
-    pub id-later : {m : ℕ} → q ≡ Next m → next ≤ m
-    id-later y = let r = next-is (uncheckedId next (drop next s)) (sym y ∙ e) in moved unchecked-id-exact s next (r .2) .later
+    pub answered-fault : {f : Refusal} → q ≡ Fault f → (v : BlockReply) → BlockAnswered s b v
+    answered-fault y v = record { answers = λ last x i. next≢fault (sym (parts last x i .2) ∙ y) }
 
     pub answered : {m : ℕ} → q ≡ Next m → BlockAnswered s b (block.Block id next (m - next))
     unfolding blockAnswer
@@ -143,12 +141,12 @@ module _ (s : List ℕ) (b : Block) {k : Kind} (h : KindAt s (b .at) k) where
 
 -- ---- the calls
 
-module _ (s t : List ℕ) (k : ℕ) {r : Walked} {t′ : List ℕ} (h : ReadFile s t r t′) where
-  pub block-refused : {m o : ℕ} → r ≡ Stopped m o → blockIs (block.Refused m o) ≡ blockCall (length t) s k
+module _ {s t : List ℕ} {r : Walked} {t′ : List ℕ} (h : ReadFile s t r t′) where
+  pub block-refused : (k : ℕ) {f : Refusal} → r ≡ Stopped f → blockIs (block.Refused f) ≡ blockCall (length t) s k
   unfolding blockCall
-  block-refused q = sym (unread-refuses (λ f at. orAbsent (Option·map blockAnswer (getElem? (blocksOf f) k))) h q)
+  block-refused k q = sym (unread-refuses (λ f at. orAbsent (Option·map blockAnswer (getElem? (blocksOf f) k))) h q)
 
-  module _ {rows blocks n : ℕ} (q : r ≡ Done rows blocks n) {name : List ℕ} {p : BlockAt} (x : Seeks s 8 t′ rows true name k p) where
+  module _ {a : Totals} (q : r ≡ Done a) {name : List ℕ} {k : ℕ} {p : BlockAt} (x : Seeks s 8 t′ (a .rows) true name k p) where
     is-block : {o : Option Numbered} → seekIn (prototypesOf (was-read h q .file .records)) true name 0 k (blocksOf (was-read h q .file)) ≡ o
         → blockCall (length t) s k ≡ orAbsent (Option·map blockAnswer (Option·map (λ (y : Numbered). y .of) o))
     unfolding blockCall
@@ -157,20 +155,20 @@ module _ (s t : List ℕ) (k : ℕ) {r : Walked} {t′ : List ℕ} (h : ReadFile
         read-answers (λ f at. orAbsent (Option·map blockAnswer (getElem? (blocksOf f) k))) w
         ∙ ap (λ o. orAbsent (Option·map blockAnswer o)) (sym (seek-any (prototypesOf (w .file .records)) name 0 k (blocksOf (w .file))) ∙ ap (Option·map (λ (y : Numbered). y .of)) e)
 
-    pub block-absent : p ≡ NoBlock → blockIs (block.Refused 13 0) ≡ blockCall (length t) s k
+    pub block-absent : p ≡ NoBlock → blockIs (block.Refused (refusedAt absent 0)) ≡ blockCall (length t) s k
     unfolding orRefuse
     block-absent z = sym (is-block (block-missed (was-read h q) x z))
 
     pub block-answers : {b : Block} → p ≡ ABlock b → {v : BlockReply} → BlockAnswered s b v → blockIs v ≡ blockCall (length t) s k
     unfolding orRefuse
-    block-answers z a = let f = block-found (was-read h q) x z in a .answers _ (f .block) (f .parts) ∙ sym (is-block (f .found))
+    block-answers z v = let f = block-found (was-read h q) x z in v .answers _ (f .block) (f .parts) ∙ sym (is-block (f .found))
 
-module _ (s t name : List ℕ) (k : ℕ) {r : Walked} {t′ : List ℕ} (h : ReadFile s t r t′) where
-  pub number-refused : {m o : ℕ} → r ≡ Stopped m o → numberIs (number.Refused m o) ≡ namedBlockCall (length t) s name k
+module _ {s t : List ℕ} {r : Walked} {t′ : List ℕ} (h : ReadFile s t r t′) where
+  pub number-refused : (name : List ℕ) (k : ℕ) {f : Refusal} → r ≡ Stopped f → numberIs (number.Refused f) ≡ namedBlockCall (length t) s name k
   unfolding namedBlockCall
-  number-refused q = sym (unread-refuses (λ f at. orAbsent (getElem? (blocksByPrototypeName name f) k)) h q)
+  number-refused name k q = sym (unread-refuses (λ f at. orAbsent (getElem? (blocksByPrototypeName name f) k)) h q)
 
-  module _ {rows blocks n : ℕ} (q : r ≡ Done rows blocks n) {p : BlockAt} (x : Seeks s 8 t′ rows false name k p) where
+  module _ {a : Totals} (q : r ≡ Done a) {name : List ℕ} {k : ℕ} {p : BlockAt} (x : Seeks s 8 t′ (a .rows) false name k p) where
     is-number : {o : Option Numbered} → seekIn (prototypesOf (was-read h q .file .records)) false name 0 k (blocksOf (was-read h q .file)) ≡ o
         → namedBlockCall (length t) s name k ≡ orAbsent (Option·map (λ (y : Numbered). y .number) o)
     unfolding namedBlockCall blocksByPrototypeName
@@ -179,7 +177,7 @@ module _ (s t name : List ℕ) (k : ℕ) {r : Walked} {t′ : List ℕ} (h : Rea
         read-answers (λ f at. orAbsent (getElem? (blocksByPrototypeName name f) k)) w
         ∙ ap orAbsent (sym (seek-named (prototypesOf (w .file .records)) name 0 k (blocksOf (w .file))) ∙ ap (Option·map (λ (y : Numbered). y .number)) e)
 
-    pub number-absent : p ≡ NoBlock → numberIs (number.Refused 13 0) ≡ namedBlockCall (length t) s name k
+    pub number-absent : p ≡ NoBlock → numberIs (number.Refused (refusedAt absent 0)) ≡ namedBlockCall (length t) s name k
     unfolding orRefuse
     number-absent z = sym (is-number (block-missed (was-read h q) x z))
 

@@ -1,28 +1,32 @@
 -- A prototype by its id: the answer at an offset, and for the last definition of an id.
 use mathlib.Core.Path.{_≡_, sym, ap, ap₂, _∙_, subst}
-use Prim.Native.Nat.{ℕ, _+_, _-_, _≤_}
+use Prim.Native.Nat.{ℕ, _+_, _-_}
 use native.Mathlib.Omega.{arith}
 use mathlib.Core.Option.{Option, Option·map}
 use mathlib.Core.List.{List, []}
 use lib.ListN.{length, drop}
-use Rattle.bsii_format.specs.Reader.{ok}
 use Rattle.bsii_format.specs.Prototypes.{Prototype}
 use Rattle.bsii_format.specs.Calls.{Placed, prototypeAnswer, prototypesIn, placedRecords, prototypeOf, prototypeCall, orAbsent}
+use Rattle.bsii_format.specs.Replies.{absent}
 use Rattle.bsii_format.specs.BlockText.{orRefuse}
-use Rattle.bsii_value.specs.Answers.{endOf, uncheckedStr}
+use Rattle.bsii_format.proofs.Follows.{again}
+use Rattle.bsii_value.specs.Answers.{refusedAt, endOf, uncheckedStr}
 use Rattle.bsii_value.specs.declared.answers.Parsed.{Parsed}
+use Rattle.bsii_value.specs.declared.answers.Refusal.{Refusal}
 use Rattle.bsii_value.specs.declared.answers.Parsed.the-variants.{Next, Fault}
+use Rattle.bsii_value.proofs.Ends.{next≢fault}
 use Rattle.bsii_prototype.specs.Entries.{fieldsWith, uncheckedHead}
 use Rattle.bsii_prototype.specs.Answers.{countOf}
 use Rattle.bsii_prototype.specs.declared.answers.Counted.{Counted}
 use Rattle.bsii_prototype.specs.declared.answers.Counted.the-variants as counted
-use Rattle.bsii_prototype.proofs.Agrees.{fields-agree}
+use Rattle.bsii_prototype.proofs.Unchecked.{fields-follow}
 use Rattle.bsii_prototype.proofs.Beginnings.{head-past}
 use Rattle.bsii_table.specs.Rows.{lookup}
 use Rattle.bsii_table.specs.Table.{foundRow}
 use Rattle.bsii_table.specs.declared.Found.{Found}
 use Rattle.bsii_table.specs.declared.Found.the-variants.{At, Nothing}
 use Rattle.bsii_parse.specs.Walks.{Stands, ReadFile}
+use Rattle.bsii_parse.specs.declared.walk.Totals.{Totals}
 use Rattle.bsii_parse.specs.declared.walk.Walked.{Walked}
 use Rattle.bsii_parse.specs.declared.walk.Walked.the-variants.{Done, Fault as Stopped}
 use Rattle.bsii_again.proofs.Naming.{head-ends, standing}
@@ -34,12 +38,9 @@ use Rattle.bsii_file.proofs.Lookups.{was-read, read-answers, unread-ref
 
 -- ---- at an offset
 
-module _ (s : List ℕ) (o : ℕ) {h : Parsed} (e : h ≡ endOf (uncheckedHead o (drop o s))) where
-  next≢fault : {P : Type 0} {n k i : ℕ} → _≡_ {A = Parsed} (Next n) (Fault k i) → P
-  next≢fault z = let y : _≡_ {A = ℕ} 0 1 = cc in let f : ⊥ = omega arith in absurd f
-
+module _ {s : List ℕ} {o : ℕ} {h : Parsed} (e : h ≡ endOf (uncheckedHead o (drop o s))) where
   -- what was accepted is not refused
-  pub head-fault : {k i : ℕ} → h ≡ Fault k i → (v : PrototypeReply) → PrototypeAt s o v
+  pub head-fault : {f : Refusal} → h ≡ Fault f → (v : PrototypeReply) → PrototypeAt s o v
   head-fault z v = record { answers = λ p x. next≢fault (sym (standing s o e p x) ∙ z) }
 
   module _ {first : ℕ} (z : h ≡ Next first) {l : Counted} (d : l ≡ countOf (fieldsWith uncheckedStr first (drop first s))) where
@@ -47,15 +48,15 @@ module _ (s : List ℕ) (o : ℕ) {h : Parsed} (e : h ≡ endOf (uncheckedHead o
     unfolding countOf
     counts p x =
         let i : first ≡ x .fields = at-is (sym z ∙ standing s o e p x) in
-        (i, d ∙ ap (λ (n : ℕ). countOf (fieldsWith uncheckedStr n (drop n s))) i ∙ ap countOf (fields-agree .reads (x .fields) (drop (x .fields) s) (x .list)))
+        (i, d ∙ ap (λ (n : ℕ). countOf (fieldsWith uncheckedStr n (drop n s))) i ∙ ap countOf (again fields-follow (x .fields) (drop (x .fields) s) (x .list)))
       where
         at-is : {a b : ℕ} → _≡_ {A = Parsed} (Next a) (Next b) → a ≡ b
         at-is y = cc
 
-    pub list-fault : {k i : ℕ} → l ≡ counted.Fault k i → (v : PrototypeReply) → PrototypeAt s o v
+    pub list-fault : {f : Refusal} → l ≡ counted.Fault f → (v : PrototypeReply) → PrototypeAt s o v
     list-fault y v = record { answers = λ p x. fields≢fault (sym (counts p x .1) ∙ y) }
       where
-        fields≢fault : {P : Type 0} {a b k i : ℕ} → _≡_ {A = Counted} (counted.Fields a b) (counted.Fault k i) → P
+        fields≢fault : {P : Type 0} {a b : ℕ} {f : Refusal} → _≡_ {A = Counted} (counted.Fields a b) (counted.Fault f) → P
         fields≢fault y = let q : _≡_ {A = ℕ} 0 1 = cc in let f : ⊥ = omega arith in absurd f
 
     pub prototype-here : {count n : ℕ} → l ≡ counted.Fields count n → PrototypeAt s o (reply.Prototype (o + 13) (first - (o + 13)) count)
@@ -71,8 +72,8 @@ module _ (s : List ℕ) (o : ℕ) {h : Parsed} (e : h ≡ endOf (uncheckedHead o
 
 -- ---- the last definition of an id
 
-module _ (s t : List ℕ) (rows id : ℕ) {r : Found} (f : foundRow r ≡ lookup t rows id) where
-  pub last-absent : r ≡ Nothing → LastPrototype s t rows id (reply.Refused 13 0)
+module _ {s t : List ℕ} {rows id : ℕ} {r : Found} (f : foundRow r ≡ lookup t rows id) where
+  pub last-absent : r ≡ Nothing → LastPrototype s t rows id (reply.Refused (refusedAt absent 0))
   unfolding orRefuse
   last-absent q = record { answers = λ env k. sym (ap (λ (o : Option (Placed Prototype)). orAbsent (Option·map prototypeAnswer o)) (last-nothing k id f q)) }
 
@@ -87,13 +88,13 @@ module _ (s t : List ℕ) (rows id : ℕ) {r : Found} (f : foundRow r ≡ lookup
 
 -- ---- the call
 
-module _ (s t : List ℕ) (id : ℕ) {r : Walked} {t′ : List ℕ} (h : ReadFile s t r t′) where
-  pub call-refused : {k o : ℕ} → r ≡ Stopped k o → prototypeIs (reply.Refused k o) ≡ prototypeCall (length t) s id
+module _ {s t : List ℕ} {r : Walked} {t′ : List ℕ} (h : ReadFile s t r t′) where
+  pub call-refused : (id : ℕ) {f : Refusal} → r ≡ Stopped f → prototypeIs (reply.Refused f) ≡ prototypeCall (length t) s id
   unfolding prototypeCall
-  call-refused q = sym (unread-refuses (λ f at. orAbsent (prototypeOf id f)) h q)
+  call-refused id q = sym (unread-refuses (λ f at. orAbsent (prototypeOf id f)) h q)
 
-  pub call-answers : {rows blocks n : ℕ} → r ≡ Done rows blocks n → {v : PrototypeReply} → LastPrototype s t′ rows id v → prototypeIs v ≡ prototypeCall (length t) s id
+  pub call-answers : {a : Totals} → r ≡ Done a → {id : ℕ} {v : PrototypeReply} → LastPrototype s t′ (a .rows) id v → prototypeIs v ≡ prototypeCall (length t) s id
   unfolding prototypeCall prototypeOf
-  call-answers q l =
+  call-answers q {id} l =
       let w = was-read h q in
       l .answers (prototypesIn (placedRecords (w .file)) []) (w .kept) ∙ sym (read-answers (λ f at. orAbsent (prototypeOf id f)) w)

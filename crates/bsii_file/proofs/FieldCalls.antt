@@ -1,20 +1,22 @@
 -- A field by block number and name.
-use mathlib.Core.Path.{_≡_, refl, sym, ap, ap₂, _∙_, subst}
-use Prim.Native.Nat.{ℕ, _+_, _-_, _≤_, _<_}
+use mathlib.Core.Path.{_≡_, sym, ap, _∙_}
+use Prim.Native.Nat.{ℕ, _+_, _-_, _≤_}
 use native.Mathlib.Omega.{arith}
 use mathlib.Core.Bool.{true}
-use mathlib.Core.Option.{Option, none, some, Option·map}
+use mathlib.Core.Option.{Option, Option·map}
 use mathlib.Core.List.{List, []}
 use lib.ListN.{length, take, drop, getElem?}
-use Rattle.bsii_format.specs.Reader.{ok}
 use Rattle.bsii_format.specs.Prototypes.{Prototype, fieldsParser}
 use Rattle.bsii_format.specs.Blocks.{DataBlock, DataValue, getPrototype, dataValuesParser}
 use Rattle.bsii_format.specs.File.{prototypesOf}
-use Rattle.bsii_format.specs.Calls.{Placed, placed, blocksOf, fieldIndex, atIndex, fieldUnder, fieldIn, FieldAnswer, fieldAnswer, fieldOf, fieldCall, partOf, orAbsent}
+use Rattle.bsii_format.specs.Calls.{Placed, placed, blocksOf, atIndex, fieldUnder, fieldIn, fieldAnswer, fieldOf, fieldCall, partOf, orAbsent}
+use Rattle.bsii_format.specs.Replies.{absent}
 use Rattle.bsii_format.specs.BlockText.{orRefuse, valuesOffset}
-use Rattle.bsii_value.specs.Answers.{endOf}
+use Rattle.bsii_value.specs.Answers.{refusedAt, endOf}
 use Rattle.bsii_value.specs.declared.answers.Parsed.{Parsed}
+use Rattle.bsii_value.specs.declared.answers.Refusal.{Refusal}
 use Rattle.bsii_value.specs.declared.answers.Parsed.the-variants.{Next, Fault}
+use Rattle.bsii_value.proofs.Ends.{next≢fault}
 use Rattle.bsii_prototype.specs.Entries.{uncheckedHead}
 use Rattle.bsii_past.specs.Unchecked.{uncheckedId}
 use Rattle.bsii_past.proofs.Values.{id-same}
@@ -24,6 +26,7 @@ use Rattle.bsii_field.specs.declared.Index.the-variants.{At, Absent}
 use Rattle.bsii_field.specs.declared.Found.{Found}
 use Rattle.bsii_field.specs.declared.Found.the-variants.{Value, NoValue}
 use Rattle.bsii_parse.specs.Walks.{ReadFile}
+use Rattle.bsii_parse.specs.declared.walk.Totals.{Totals}
 use Rattle.bsii_parse.specs.declared.walk.Walked.{Walked}
 use Rattle.bsii_parse.specs.declared.walk.Walked.the-variants.{Done, Fault as Stopped}
 use Rattle.bsii_again.specs.Seek.{Numbered, seekIn, BlockIs, Seeks}
@@ -46,18 +49,15 @@ next-there z = record { is = λ m y. at-is (sym z ∙ y) }
     at-is : {a b : ℕ} → _≡_ {A = Parsed} (Next a) (Next b) → a ≡ b
     at-is e = cc
 
-pub next-nowhere : {e : Parsed} {k o : ℕ} → e ≡ Fault k o → (n : ℕ) → NextOf e n
-next-nowhere z n = record { is = λ m y. no (sym z ∙ y) }
-  where
-    no : {P : Type 0} {k o m : ℕ} → _≡_ {A = Parsed} (Fault k o) (Next m) → P
-    no e = let y : _≡_ {A = ℕ} 0 1 = cc in let f : ⊥ = omega arith in absurd f
+pub next-nowhere : {e : Parsed} {f : Refusal} → e ≡ Fault f → (n : ℕ) → NextOf e n
+next-nowhere z n = record { is = λ m y. next≢fault (sym y ∙ z) }
 
 -- ---- the value in a block
 
 novalue≢value : {P : Type 0} {t a n : ℕ} → _≡_ {A = Found} NoValue (Value t a n) → P
 novalue≢value e = let y : _≡_ {A = ℕ} 0 1 = cc in let f : ⊥ = omega arith in absurd f
 
-module _ (s : List ℕ) (b : Block) (name : List ℕ) {h : Parsed} (e : h ≡ endOf (uncheckedHead (b .last) (drop (b .last) s))) {f : ℕ} (o : NextOf h f) {i : Index} (x : IndexOf s f name i) where
+module _ {s : List ℕ} {b : Block} {name : List ℕ} {h : Parsed} (e : h ≡ endOf (uncheckedHead (b .last) (drop (b .last) s))) {f : ℕ} (o : NextOf h f) {i : Index} (x : IndexOf s f name i) where
   -- what the definitions' own search gives
   under-is : (last : List Prototype) (y : Placed DataBlock) → BlockIs s last b y
       → fieldUnder name y (getPrototype (y .it .prototypeId) last) ≡ atIndex (placed (λ (v : DataValue). length (v .raw)) (valuesOffset (y .offset) (y .it)) (y .it .values)) (indexIs i)
@@ -95,11 +95,11 @@ module _ (s : List ℕ) (b : Block) (name : List ℕ) {h : Parsed} (e : h ≡ en
 field-is : {t a n t′ a′ n′ : ℕ} → _≡_ {A = FieldReply} (Field t a n) (Field t′ a′ n′) → (a ≡ a′) × (n ≡ n′)
 field-is {a = a} {n = n} {a′ = a′} {n′ = n′} e = let i : a ≡ a′ = cc in let j : n ≡ n′ = cc in (i, j)
 
-refused≢field : {P : Type 0} {k o t a n : ℕ} → _≡_ {A = FieldReply} (Refused k o) (Field t a n) → P
+refused≢field : {P : Type 0} {f : Refusal} {t a n : ℕ} → _≡_ {A = FieldReply} (Refused f) (Field t a n) → P
 refused≢field e = let y : _≡_ {A = ℕ} 0 1 = cc in let f : ⊥ = omega arith in absurd f
 
-module _ (s : List ℕ) (b : Block) (name : List ℕ) {r : Found} (h : FieldFound s b name r) where
-  pub placed-absent : r ≡ NoValue → FieldPlaced s b name (Refused 13 0)
+module _ {s : List ℕ} {b : Block} {name : List ℕ} {r : Found} (h : FieldFound s b name r) where
+  pub placed-absent : r ≡ NoValue → FieldPlaced s b name (Refused (refusedAt absent 0))
   unfolding orRefuse
   placed-absent z = record {
     answers = λ last y q. ap (λ o. orAbsent (foundIs s o)) (sym z) ∙ ap orAbsent (h .answers last y q);
@@ -118,12 +118,12 @@ module _ (s : List ℕ) (b : Block) (name : List ℕ) {r : Found} (h : FieldFoun
 
 -- ---- the calls
 
-module _ (s t : List ℕ) (k : ℕ) (name : List ℕ) {r : Walked} {t′ : List ℕ} (h : ReadFile s t r t′) where
-  pub field-refused : {m o : ℕ} → r ≡ Stopped m o → FieldRead (length t) s k name (Refused m o)
+module _ {s t : List ℕ} {k : ℕ} {name : List ℕ} {r : Walked} {t′ : List ℕ} (h : ReadFile s t r t′) where
+  pub field-refused : {f : Refusal} → r ≡ Stopped f → FieldRead (length t) s k name (Refused f)
   unfolding fieldCall
   field-refused q = record { reply = sym (unread-refuses (λ f at. orAbsent (fieldOf k name f)) h q); inside = λ t a n w. refused≢field w }
 
-  module _ {rows blocks n : ℕ} (q : r ≡ Done rows blocks n) {p : BlockAt} (x : Seeks s 8 t′ rows true name k p) where
+  module _ {a : Totals} (q : r ≡ Done a) {p : BlockAt} (x : Seeks s 8 t′ (a .rows) true name k p) where
     is-field : {o : Option Numbered} → seekIn (prototypesOf (was-read h q .file .records)) true name 0 k (blocksOf (was-read h q .file)) ≡ o
         → fieldCall (length t) s k name ≡ orAbsent (Option·map fieldAnswer (fieldIn name (prototypesOf (was-read h q .file .records)) (Option·map (λ (y : Numbered). y .of) o)))
     unfolding fieldCall fieldOf
@@ -133,18 +133,18 @@ module _ (s t : List ℕ) (k : ℕ) (name : List ℕ) {r : Walked} {t′ : List 
         ∙ ap (λ o. orAbsent (Option·map fieldAnswer (fieldIn name (prototypesOf (w .file .records)) o)))
         (sym (seek-any (prototypesOf (w .file .records)) name 0 k (blocksOf (w .file))) ∙ ap (Option·map (λ (y : Numbered). y .of)) e)
 
-    pub field-missing : p ≡ NoBlock → FieldRead (length t) s k name (Refused 13 0)
+    pub field-missing : p ≡ NoBlock → FieldRead (length t) s k name (Refused (refusedAt absent 0))
     unfolding orRefuse fieldIn
     field-missing z = record { reply = sym (is-field (block-missed (was-read h q) x z)); inside = λ t a n w. refused≢field w }
 
     pub field-answers : {b : Block} → p ≡ ABlock b → {v : FieldReply} → FieldPlaced s b name v → FieldRead (length t) s k name v
     unfolding orRefuse fieldIn
-    field-answers z a = let f = block-found (was-read h q) x z in record { reply = a .answers _ (f .block) (f .parts) ∙ sym (is-field (f .found)); inside = a .inside }
+    field-answers z v = let f = block-found (was-read h q) x z in record { reply = v .answers _ (f .block) (f .parts) ∙ sym (is-field (f .found)); inside = v .inside }
 
 -- ---- the part
 
-module _ (words : ℕ) (s : List ℕ) (k : ℕ) (name : List ℕ) {r : FieldReply} (h : FieldRead words s k name r) where
-  pub part-none : {m o : ℕ} → r ≡ Refused m o → [] ≡ partOf (fieldCall words s k name)
+module _ {words : ℕ} {s : List ℕ} {k : ℕ} {name : List ℕ} {r : FieldReply} (h : FieldRead words s k name r) where
+  pub part-none : {f : Refusal} → r ≡ Refused f → [] ≡ partOf (fieldCall words s k name)
   unfolding partOf
   part-none z = ap (λ v. partOf (fieldIs s v)) (sym z) ∙ ap partOf (h .reply)
 

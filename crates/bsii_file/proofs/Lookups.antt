@@ -7,19 +7,22 @@ use mathlib.Core.Option.{Option, none, some, Option·map}
 use mathlib.Core.List.{List, [], _∷_}
 use lib.ListN.{length, drop}
 use lib.Dec.{eqb}
-use Rattle.bsii_format.specs.Replies.{Reply, refusal}
+use Rattle.bsii_format.specs.Replies.{Reply, refuses}
 use Rattle.bsii_format.specs.Reader.{ok}
 use Rattle.bsii_format.specs.Prototypes.{Prototype}
 use Rattle.bsii_format.specs.Blocks.{findBy, getPrototype}
 use Rattle.bsii_format.specs.File.{recordBytes, BsiiFile, parse, prototypesOf}
 use Rattle.bsii_format.specs.Calls.{Placed, ofFile, placedRecords, prototypesIn}
+use Rattle.bsii_value.specs.Answers.{faultIs}
+use Rattle.bsii_value.specs.declared.answers.Refusal.{Refusal}
 use Rattle.bsii_table.specs.Rows.{Row, lookup}
 use Rattle.bsii_table.specs.Table.{foundRow}
 use Rattle.bsii_table.specs.Relation.{Holds}
 use Rattle.bsii_table.specs.declared.Found.{Found}
 use Rattle.bsii_table.specs.declared.Found.the-variants.{At, Nothing}
 use Rattle.bsii_table.proofs.Relation.{found-at, found-nothing}
-use Rattle.bsii_parse.specs.Walks.{Stands, blockCount, bare, Kept, ReadFile, read, unread}
+use Rattle.bsii_parse.specs.Walks.{Stands, totalsOf, bare, Kept, ReadFile, read, unread}
+use Rattle.bsii_parse.specs.declared.walk.Totals.{Totals}
 use Rattle.bsii_parse.specs.declared.walk.Walked.{Walked}
 use Rattle.bsii_parse.specs.declared.walk.Walked.the-variants.{Done, Fault as Stopped}
 use Rattle.bsii_parse.proofs.Tables.{bare-all}
@@ -27,44 +30,34 @@ use Rattle.bsii_file.specs.Lookups.{lastDefinition}
 
 -- ---- the file
 
-done≢stopped : {P : Type 0} {a b n k o : ℕ} → _≡_ {A = Walked} (Done a b n) (Stopped k o) → P
+done≢stopped : {P : Type 0} {a : Totals} {f : Refusal} → _≡_ {A = Walked} (Done a) (Stopped f) → P
 done≢stopped e = let z : _≡_ {A = ℕ} 0 1 = cc in let f : ⊥ = omega arith in absurd f
 
--- the file that was read up to n, its number of blocks, and the table that holds its definitions
-pub record WasRead (s t : List ℕ) (rows blocks n : ℕ) (t′ : List ℕ) : Type 0 where
+-- the file that was read, what was found of it, and the table that holds its definitions
+pub record WasRead (s t : List ℕ) (a : Totals) (t′ : List ℕ) : Type 0 where
   pub file : BsiiFile
-  pub parsed : parse (length t) s ≡ ok file n (drop n s)
-  pub kept : Kept s t′ rows (prototypesIn (placedRecords file) [])
-  pub counted : blocks ≡ blockCount (file .records)
+  pub parsed : parse (length t) s ≡ ok file (a .next) (drop (a .next) s)
+  pub kept : Kept s t′ (a .rows) (prototypesIn (placedRecords file) [])
+  pub counted : a ≡ totalsOf (a .rows) (file .records) (a .next)
 
-pub was-read : {s t : List ℕ} {r : Walked} {t′ : List ℕ} {rows blocks n : ℕ} → ReadFile s t r t′ → r ≡ Done rows blocks n → WasRead s t rows blocks n t′
-was-read {s} {t} {t′ = t′} {rows = rows} {blocks = blocks} {n = n} (read f {rows = a} {n = m} e k l) q =
-    let i : a ≡ rows = cc in
-    let j : m ≡ n = cc in
-    let b : blocks ≡ blockCount (f .records) = cc in
-    record {
-      file = f;
-      parsed = e ∙ ap (λ (x : ℕ). ok f x (drop x s)) j;
-      kept = subst (λ (x : ℕ). Kept s t′ x (prototypesIn (placedRecords f) [])) i k;
-      counted = b;
-    }
+pub was-read : {s t : List ℕ} {r : Walked} {t′ : List ℕ} {a : Totals} → ReadFile s t r t′ → r ≡ Done a → WasRead s t a t′
+was-read {s} {t} {t′ = t′} {a = a} (read f {rows = rows} {n = n} e k l) q =
+    let same : totalsOf rows (f .records) n ≡ a = cc in
+    subst (λ (x : Totals). WasRead s t x t′) same (record { file = f; parsed = e; kept = k; counted = refl })
 was-read (unread e l) q = done≢stopped (sym q)
 
 -- a call's answer is its own function of the file
-pub read-answers : {A : Type 0} {s t : List ℕ} {rows blocks n : ℕ} {t′ : List ℕ} (answer : BsiiFile → ℕ → Reply A) (w : WasRead s t rows blocks n t′)
-    → ofFile answer (parse (length t) s) ≡ answer (w .file) n
+pub read-answers : {A : Type 0} {s t : List ℕ} {a : Totals} {t′ : List ℕ} (answer : BsiiFile → ℕ → Reply A) (w : WasRead s t a t′)
+    → ofFile answer (parse (length t) s) ≡ answer (w .file) (a .next)
 unfolding ofFile
 read-answers answer w = ap (ofFile answer) (w .parsed)
 
 -- or the file's fault, whatever was asked for
-pub unread-refuses : {A : Type 0} {s t : List ℕ} {r : Walked} {t′ : List ℕ} {k o : ℕ} (answer : BsiiFile → ℕ → Reply A) → ReadFile s t r t′ → r ≡ Stopped k o
-    → ofFile answer (parse (length t) s) ≡ refusal k o
+pub unread-refuses : {A : Type 0} {s t : List ℕ} {r : Walked} {t′ : List ℕ} {f : Refusal} (answer : BsiiFile → ℕ → Reply A) → ReadFile s t r t′ → r ≡ Stopped f
+    → ofFile answer (parse (length t) s) ≡ refuses (faultIs f)
 unfolding ofFile
 unread-refuses answer (read f e x l) q = done≢stopped q
-unread-refuses {k = k} {o = o} answer (unread {k = i} {o = p} e l) q =
-    let a : i ≡ k = cc in
-    let b : p ≡ o = cc in
-    ap (ofFile answer) e ∙ rw (a, b)
+unread-refuses {f = f} answer (unread {f = g} e l) q = let same : g ≡ f = cc in ap (ofFile answer) e ∙ ap (λ (x : Refusal). refuses (faultIs x)) same
 
 -- ---- the last definition of an id
 
@@ -89,11 +82,11 @@ file-found id f =
     ∙ bare-found id (prototypesIn (placedRecords f) [])
 
 -- the table holds a file's definitions: what a second walk over the file starts from
-pub holds-last : {s t : List ℕ} {rows blocks n : ℕ} {t′ : List ℕ} (w : WasRead s t rows blocks n t′) → Holds (Stands s) t′ rows (prototypesOf (w .file .records))
+pub holds-last : {s t : List ℕ} {a : Totals} {t′ : List ℕ} (w : WasRead s t a t′) → Holds (Stands s) t′ (a .rows) (prototypesOf (w .file .records))
 unfolding prototypesOf placedRecords
-holds-last {s} {rows = rows} {t′ = t′} w =
+holds-last {s} {a = a} {t′ = t′} w =
     let f = w .file in
-    subst (Holds (Stands s) t′ rows) (bare-all (λ r. length (recordBytes r)) (length (f .header .raw)) (f .records) []) (w .kept .holds)
+    subst (Holds (Stands s) t′ (a .rows)) (bare-all (λ r. length (recordBytes r)) (length (f .header .raw)) (f .records) []) (w .kept .holds)
 
 some≢none : {P : Type 0} {p : Prototype} → _≡_ {A = Option Prototype} (some p) none → P
 some≢none e = let z : _≡_ {A = ℕ} 0 1 = cc in let f : ⊥ = omega arith in absurd f

@@ -7,18 +7,19 @@ use mathlib.Core.List.{List, []}
 use lib.ListN.{length, take, drop}
 use lib.Dec.{eqb}
 use Rattle.bsii_format.specs.Ascii.{ascii}
-use Rattle.bsii_format.specs.Replies.{Fault, invalidHeader, unsupportedVersion}
-use Rattle.bsii_format.specs.Reader.{Result, ok, fault, after, _>>=_, success, fail, _<$>_, consumed, same, tag}
-use Rattle.bsii_format.specs.Numbers.{leU32, number}
-use Rattle.bsii_format.specs.File.{Record, recordBytes, Records, recordsFrom, recordsParser, headerParser, BsiiFile, bsiiFile, bsiiParser, parse, prototypesOf, defineAll}
-use Rattle.bsii_format.specs.Calls.{placed, placedRecords, blocksIn, blocksOf}
-use Rattle.bsii_format.proofs.Readers.{fault≢ok, ok-val, ok-at, ok-rest, after-ok, cond-ok, map-ok, consumed-took}
+use Rattle.bsii_format.specs.Replies.{invalidHeader, unsupportedVersion}
+use Rattle.bsii_format.specs.Reader.{ok, _>>=_, success, fail, _<$>_, consumed, same, tag}
+use Rattle.bsii_format.specs.Numbers.{leU32}
+use Rattle.bsii_format.specs.File.{recordsFrom, recordsParser, headerParser, BsiiFile, bsiiFile, bsiiParser, lengthLimit, parse, prototypesOf}
+use Rattle.bsii_format.specs.Calls.{placedRecords, blocksOf}
+use Rattle.bsii_format.proofs.Readers.{fault≢ok, ok-at, after-ok, cond-ok, map-ok, consumed-took}
 use Rattle.bsii_format.proofs.Parsers.{header-exact}
 use Rattle.bsii_format.proofs.Positions.{moved}
 use Rattle.bsii_format.proofs.File.{parse-ok}
 use Rattle.bsii_prototype.proofs.Names.{number-front}
 use Rattle.bsii_table.proofs.Relation.{holds-entered}
 use Rattle.bsii_parse.specs.Walks.{Stands, recordsAt}
+use Rattle.bsii_parse.specs.declared.walk.Totals.{Totals}
 use Rattle.bsii_again.specs.Seek.{Standing, Readable, blocksFrom}
 use Rattle.bsii_file.proofs.Lookups.{WasRead, holds-last}
 
@@ -42,7 +43,7 @@ header-size s e =
 -- ---- the records
 
 pub record FileParts (words : ℕ) (s : List ℕ) (f : BsiiFile) (n : ℕ) : Type 0 where
-  pub short : length s ≤ 16_777_216
+  pub short : length s ≤ lengthLimit
   pub header : length (f .header .raw) ≡ 8
   pub inside : 8 ≤ length s
   pub reads : recordsAt (words / 3) [] 8 s ≡ ok (record { records = f .records; end = f .end }) n (drop n s)
@@ -70,13 +71,13 @@ file-parts words s {f} {n} e =
 
 -- ---- the second walk
 
-module _ {s t : List ℕ} {rows blocks n : ℕ} {t′ : List ℕ} (w : WasRead s t rows blocks n t′) where
-  pub standing-first : Standing s (length t / 3) rows (prototypesOf (w .file .records)) t′ 8 [] (w .file .records)
+module _ {s t : List ℕ} {a : Totals} {t′ : List ℕ} (w : WasRead s t a t′) where
+  pub standing-first : Standing s (length t / 3) (a .rows) (prototypesOf (w .file .records)) t′ 8 [] (w .file .records)
   unfolding prototypesOf
   standing-first = let p = file-parts (length t) s (w .parsed) in
-      record { end = w .file .end; n = n; reads = p .reads; entered = holds-entered (Stands s) (holds-last w); lasts = refl }
+      record { end = w .file .end; n = a .next; reads = p .reads; entered = holds-entered (Stands s) (holds-last w); lasts = refl }
 
-  pub readable : Readable s 8 t′ rows
+  pub readable : Readable s 8 t′ (a .rows)
   readable = let p = file-parts (length t) s (w .parsed) in
       record { short = p .short; inside = p .inside; rooms = length t / 3; last = prototypesOf (w .file .records); rest = w .file .records; standing = standing-first }
 

@@ -2,8 +2,9 @@
 use Prim.Native.Nat.{ℕ}
 use mathlib.Core.List.{List}
 use lib.ListN.{take, drop}
-use Rattle.bsii_format.specs.Replies.{Reply, gives, refusal}
+use Rattle.bsii_format.specs.Replies.{Reply, gives, refuses}
 use Rattle.bsii_format.specs.Calls.{PrototypeAnswer, BlockAnswer, FieldAnswer}
+use Rattle.bsii_value.specs.Answers.{faultIs}
 use Rattle.bsii_file.specs.declared.prototypes.PrototypeReply.{PrototypeReply}
 use Rattle.bsii_file.specs.declared.prototypes.PrototypeReply.the-variants.{Prototype, Refused}
 use Rattle.bsii_file.specs.declared.blocks.BlockReply.{BlockReply}
@@ -15,17 +16,17 @@ use Rattle.bsii_file.specs.declared.fields.FieldReply.the-variants as fi
 
 abbrev pub prototypeIs : PrototypeReply → Reply PrototypeAnswer
 prototypeIs (Prototype name size fields) = gives (record { name = record { offset = name; size = size }; fields = fields })
-prototypeIs (Refused number offset) = refusal number offset
+prototypeIs (Refused f) = refuses (faultIs f)
 
 abbrev pub blockIs : BlockReply → Reply BlockAnswer
 blockIs (block.Block prototype id size) = gives (record { prototypeId = prototype; id = record { offset = id; size = size } })
-blockIs (block.Refused number offset) = refusal number offset
+blockIs (block.Refused f) = refuses (faultIs f)
 
 abbrev pub numberIs : NumberReply → Reply ℕ
 numberIs (number.Number n) = gives n
-numberIs (number.Refused number offset) = refusal number offset
+numberIs (number.Refused f) = refuses (faultIs f)
 
 -- the part's bytes are those of the file at its place
 abbrev pub fieldIs : List ℕ → FieldReply → Reply FieldAnswer
 fieldIs s (field.Field t at size) = gives (record { typeId = t; part = record { offset = at; size = size }; bytes = take size (drop at s) })
-fieldIs s (field.Refused number offset) = refusal number offset
+fieldIs s (field.Refused f) = refuses (faultIs f)

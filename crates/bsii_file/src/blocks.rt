@@ -8,7 +8,10 @@ use bsii_parse::reading::bsii_parser;
 use bsii_parse::walk::Walked;
 use bsii_past::id_past;
 use bsii_table::clear;
+use bsii_value::answers::ABSENT;
 use bsii_value::answers::Parsed;
+use bsii_value::answers::Refusal;
+use bsii_value::answers::refused;
 ghost use mathlib.Core.Path.{_≡_};
 ghost use lib.ListN.{length};
 ghost use Rattle.bsii_format.specs.Calls.{blockCall, namedBlockCall, tableAfter};
@@ -22,15 +25,12 @@ pub enum BlockReply {
         id: usize,
         id_size: usize,
     },
-    Refused {
-        number: u32,
-        offset: usize,
-    },
+    Refused(Refusal),
 }
 
 pub enum NumberReply {
     Number(usize),
-    Refused { number: u32, offset: usize },
+    Refused(Refusal),
 }
 
 // A block that was found.
@@ -39,18 +39,12 @@ fn block_found(s: &[u8], b: Block) -> BlockReply
 {
     let kind = kind_at(s, b.at);
     match kind {
-        Kind::Ends => BlockReply::Refused {
-            number: 13,
-            offset: 0,
-        },
-        Kind::Defines(_) => BlockReply::Refused {
-            number: 13,
-            offset: 0,
-        },
+        Kind::Ends => BlockReply::Refused(refused(ABSENT, 0)),
+        Kind::Defines(_) => BlockReply::Refused(refused(ABSENT, 0)),
         Kind::Carries { id, next } => {
             let end = id_past(s, next);
             match end {
-                Parsed::Fault { number, offset } => BlockReply::Refused { number, offset },
+                Parsed::Fault(f) => BlockReply::Refused(f),
                 Parsed::Next(behind) => BlockReply::Block {
                     prototype_id: id,
                     id: next,
@@ -67,18 +61,11 @@ fn read_block(file: &[u8], table: &mut [u32], k: usize) -> BlockReply
 {
     let walked = bsii_parser(file, table);
     match walked {
-        Walked::Fault { number, offset } => return BlockReply::Refused { number, offset },
-        Walked::Done {
-            rows,
-            blocks: _,
-            next: _,
-        } => {
-            let place = seek(file, 8, table, rows, true, file, k);
+        Walked::Fault(f) => return BlockReply::Refused(f),
+        Walked::Done(t) => {
+            let place = seek(file, 8, table, t.rows, true, file, k);
             match place {
-                BlockAt::NoBlock => return BlockReply::Refused {
-                    number: 13,
-                    offset: 0,
-                },
+                BlockAt::NoBlock => return BlockReply::Refused(refused(ABSENT, 0)),
                 BlockAt::Block(b) => return block_found(file, b),
             }
         }
@@ -99,18 +86,11 @@ fn read_named(file: &[u8], table: &mut [u32], name: &[u8], n: usize) -> NumberRe
 {
     let walked = bsii_parser(file, table);
     match walked {
-        Walked::Fault { number, offset } => return NumberReply::Refused { number, offset },
-        Walked::Done {
-            rows,
-            blocks: _,
-            next: _,
-        } => {
-            let place = seek(file, 8, table, rows, false, name, n);
+        Walked::Fault(f) => return NumberReply::Refused(f),
+        Walked::Done(t) => {
+            let place = seek(file, 8, table, t.rows, false, name, n);
             match place {
-                BlockAt::NoBlock => return NumberReply::Refused {
-                    number: 13,
-                    offset: 0,
-                },
+                BlockAt::NoBlock => return NumberReply::Refused(refused(ABSENT, 0)),
                 BlockAt::Block(b) => return NumberReply::Number(b.number),
             }
         }

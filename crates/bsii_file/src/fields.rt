@@ -11,7 +11,10 @@ use bsii_parse::walk::Walked;
 use bsii_past::id_past;
 use bsii_prototype::past::fields_at;
 use bsii_table::clear;
+use bsii_value::answers::ABSENT;
 use bsii_value::answers::Parsed;
+use bsii_value::answers::Refusal;
+use bsii_value::answers::refused;
 ghost use mathlib.Core.Path.{_≡_};
 ghost use lib.ListN.{length};
 ghost use Rattle.bsii_format.specs.Calls.{fieldCall, partOf, tableAfter};
@@ -25,10 +28,7 @@ pub enum FieldReply {
         part: usize,
         part_size: usize,
     },
-    Refused {
-        number: u32,
-        offset: usize,
-    },
+    Refused(Refusal),
 }
 
 // Where something ends that was accepted before.
@@ -37,7 +37,7 @@ fn next_of(end: Parsed) -> usize
 {
     match end {
         Parsed::Next(next) => next,
-        Parsed::Fault { number: _, offset } => offset,
+        Parsed::Fault(_) => 0,
     }
 }
 
@@ -62,10 +62,7 @@ fn placed(s: &[u8], b: Block, name: &[u8]) -> FieldReply
 {
     let found = field_found(s, b, name);
     match found {
-        Found::NoValue => FieldReply::Refused {
-            number: 13,
-            offset: 0,
-        },
+        Found::NoValue => FieldReply::Refused(refused(ABSENT, 0)),
         Found::Value { type_id, at, next } => FieldReply::Field {
             type_id,
             part: at,
@@ -80,18 +77,11 @@ fn read_field(file: &[u8], table: &mut [u32], k: usize, name: &[u8]) -> FieldRep
 {
     let walked = bsii_parser(file, table);
     match walked {
-        Walked::Fault { number, offset } => return FieldReply::Refused { number, offset },
-        Walked::Done {
-            rows,
-            blocks: _,
-            next: _,
-        } => {
-            let place = seek(file, 8, table, rows, true, name, k);
+        Walked::Fault(f) => return FieldReply::Refused(f),
+        Walked::Done(t) => {
+            let place = seek(file, 8, table, t.rows, true, name, k);
             match place {
-                BlockAt::NoBlock => return FieldReply::Refused {
-                    number: 13,
-                    offset: 0,
-                },
+                BlockAt::NoBlock => return FieldReply::Refused(refused(ABSENT, 0)),
                 BlockAt::Block(b) => return placed(file, b, name),
             }
         }
@@ -115,12 +105,7 @@ pub fn field_part<'a>(file: &'a [u8], table: &mut [u32], k: usize, name: &[u8]) 
     let reply = read_field(file, table, k, name);
     clear(table);
     match reply {
-        FieldReply::Refused {
-            number: _,
-            offset: _,
-        } => {
-            return &file[0..0];
-        }
+        FieldReply::Refused(_) => return &file[0..0],
         FieldReply::Field {
             type_id: _,
             part,

@@ -7,7 +7,10 @@ use bsii_prototype::past::fields_past;
 use bsii_table::Found;
 use bsii_table::clear;
 use bsii_table::find;
+use bsii_value::answers::ABSENT;
 use bsii_value::answers::Parsed;
+use bsii_value::answers::Refusal;
+use bsii_value::answers::refused;
 use bsii_value::numbers::size;
 ghost use mathlib.Core.Path.{_≡_};
 ghost use lib.ListN.{length};
@@ -23,10 +26,7 @@ pub enum PrototypeReply {
         name_size: usize,
         fields: usize,
     },
-    Refused {
-        number: u32,
-        offset: usize,
-    },
+    Refused(Refusal),
 }
 
 // The prototype record at `offset`: its name stands behind a u32 zero, the byte 1, the u32 id and the name's u32 length.
@@ -35,12 +35,12 @@ fn prototype_at(s: &[u8], offset: usize) -> PrototypeReply
 {
     let head = fields_at(s, offset);
     match head {
-        Parsed::Fault { number, offset } => PrototypeReply::Refused { number, offset },
+        Parsed::Fault(f) => PrototypeReply::Refused(f),
         Parsed::Next(first) => {
             let name = offset + 13;
             let list = fields_past(s, first);
             match list {
-                Counted::Fault { number, offset } => PrototypeReply::Refused { number, offset },
+                Counted::Fault(f) => PrototypeReply::Refused(f),
                 Counted::Fields { count, next: _ } => PrototypeReply::Prototype {
                     name,
                     name_size: first - name,
@@ -58,10 +58,7 @@ fn last_prototype(file: &[u8], table: &[u32], rows: usize, id: u32) -> Prototype
 {
     let found = find(table, rows, id);
     match found {
-        Found::Nothing => PrototypeReply::Refused {
-            number: 13,
-            offset: 0,
-        },
+        Found::Nothing => PrototypeReply::Refused(refused(ABSENT, 0)),
         Found::At { in_force: _, last } => prototype_at(file, size(last)),
     }
 }
@@ -72,12 +69,8 @@ fn read_prototype(file: &[u8], table: &mut [u32], id: u32) -> PrototypeReply
 {
     let walked = bsii_parser(file, table);
     match walked {
-        Walked::Fault { number, offset } => return PrototypeReply::Refused { number, offset },
-        Walked::Done {
-            rows,
-            blocks: _,
-            next: _,
-        } => return last_prototype(file, table, rows, id),
+        Walked::Fault(f) => return PrototypeReply::Refused(f),
+        Walked::Done(t) => return last_prototype(file, table, t.rows, id),
     }
 }
 

@@ -4,8 +4,12 @@ use mathlib.Core.Path.{_≡_, refl, sym, ap, _∙_}
 use mathlib.Core.Bool.{Bool, true, false, not, cond, _&&_, Bool·beq}
 use native.Mathlib.Omega.{arith}
 use lib.Dec.{ltb}
-use lib.IntN.{ℤ, pos, negℤ}
-use lib.Ieee.{Float, nan, inf, fin, Format, binary32, prec, emax, low, odd, units, round, sum, add, sub, neg, ofBits, toBits, ofInt, isNan}
+use lib.Signed.{mag}
+use lib.IntN.{ℤ, pos, negℤ, _-ℤ_, _*ℤ_}
+use mir.Syntax.{w32}
+use mir.Val.{SFits, toZ, ofZ}
+use mir.Facts.{toZ-pos, toZ-ofZ}
+use lib.Ieee.{Float, nan, inf, fin, Format, binary32, prec, emax, low, odd, units, round, sum, add, ofBits, toBits, ofInt, isNan}
 use lib.Ieee.Exact.{HasValue}
 use lib.Ieee.Back.{round-whole}
 use borrow.Author.Tests.{lt-ltb, le-ltb, ltb-true, ltb-false}
@@ -24,39 +28,41 @@ offset-above : (k : ℕ) → 2048 ≤ k → sectorOffset k ≡ pos (512 * (k - 2
 unfolding sectorOffset
 offset-above k h = rw (le-ltb k 2048 h)
 
--- ---- rounding is the same on both sides of zero
+mag-neg : (n : ℕ) → mag (negℤ (pos n)) ≤ n
+mag-neg zero = omega arith
+mag-neg (suc n) = omega arith
 
-neg-odd : (d : ℕ) (s : Bool) (q k l : ℕ) → neg (odd d s q k l) ≡ odd d (not s) q k l
-unfolding neg odd
-neg-odd d s zero k l = refl
-neg-odd d s (suc q) k l = refl
+offset-small : (k : ℕ) → k < 4096 → SFits w32 (sectorOffset k)
+offset-small k h = go (ltb k 2048) refl
+  where
+    go : (t : Bool) → ltb k 2048 ≡ t → SFits w32 (sectorOffset k)
+    go true e = rw (offset-below k (ltb-true k 2048 e)) (record { sfits = omega (arith, mag-neg (512 * (2048 - k))) })
+    go false e = rw (offset-above k (ltb-false k 2048 e)) (record { sfits = omega arith })
 
-neg-cond : (b s : Bool) (x y : Float) → neg x ≡ y → neg (cond b x (inf s)) ≡ cond b y (inf (not s))
-unfolding neg
-neg-cond true s x y e = e
-neg-cond false s x y e = refl
+-- the i32 in which the offset is computed holds it
+module _ (k : ℕ) (h : k < 4096) where
+  abbrev difference : ℤ
+  difference = toZ w32 k -ℤ pos 2048
 
-neg-units : (f : Format) (s : Bool) (q k : ℕ) → neg (units f s q k) ≡ units f (not s) q k
-unfolding units
-neg-units f s q k = neg-cond (ltb (q * 2 ^ k) (2 ^ (low f + suc (emax f)))) s _ _ (neg-odd (suc (prec f)) s q k (low f))
+  pub difference-fits : SFits w32 difference
+  difference-fits = rw (toZ-pos w32 {n = k} (omega arith)) (go (ltb k 2048) refl)
+    where
+      go : (t : Bool) → ltb k 2048 ≡ t → SFits w32 (pos k -ℤ pos 2048)
+      go true e = rw e (record { sfits = omega arith })
+      go false e = rw e (record { sfits = omega arith })
 
-neg-round : (f : Format) (s : Bool) (a c : ℕ) → neg (round f s a c) ≡ round f (not s) a c
-unfolding round
-neg-round f s a c = neg-units f s _ _
+  pub offset-is : pos 512 *ℤ toZ w32 (ofZ w32 difference) ≡ sectorOffset k
+  unfolding sectorOffset
+  offset-is = ap (λ (z : ℤ). pos 512 *ℤ z) (toZ-ofZ difference-fits ∙ ap (λ (z : ℤ). z -ℤ pos 2048) (toZ-pos w32 {n = k} (omega arith)))
+
+  pub offset-fits : SFits w32 (pos 512 *ℤ toZ w32 (ofZ w32 difference))
+  offset-fits = rw offset-is (offset-small k h)
 
 -- zero is left out: as an integer it has no sign
 ofInt-neg : (f : Format) (n : ℕ) → 0 < n → ofInt f (negℤ (pos n)) ≡ round f true n 1
 unfolding ofInt
 ofInt-neg f zero h = absurd (omega arith)
 ofInt-neg f (suc n) h = refl
-
-pub sum-below : (x : Float) (k : ℕ) → k < 2048 → sub binary32 x (ofInt binary32 (pos (512 * (2048 - k)))) ≡ add binary32 x (ofInt binary32 (sectorOffset k))
-unfolding sub ofInt
-sum-below x k h =
-    ap (add binary32 x) (neg-round binary32 false (512 * (2048 - k)) 1 ∙ sym (ofInt-neg binary32 (512 * (2048 - k)) (omega arith)) ∙ ap (ofInt binary32) (sym (offset-below k h)))
-
-pub sum-above : (x : Float) (k : ℕ) → 2048 ≤ k → add binary32 x (ofInt binary32 (pos (512 * (k - 2048)))) ≡ add binary32 x (ofInt binary32 (sectorOffset k))
-sum-above x k h = ap (λ (z : ℤ). add binary32 x (ofInt binary32 z)) (sym (offset-above k h))
 
 -- ---- NaN
 

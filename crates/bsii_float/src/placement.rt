@@ -60,15 +60,12 @@ pub fn sectors_of(bits: u32) -> Sectors
     Sectors { x: low, z: high }
 }
 
-// f + 512 × (k − 2048), rounded once. An offset of zero is added, since a difference with zero would keep -0.
+// f + 512 × (k − 2048), rounded once.
 pub fn sector_sum(f: f32, k: u32) -> f32
     requires { ⌜ k < 4096 ⌝ }
     ensures { λ r. ⌜ r ≡ add binary32 f (ofInt binary32 (sectorOffset k)) ⌝ }
 {
-    if k < 2048 {
-        return f - std::num::nearest_u32_to_f32(512 * (2048 - k));
-    }
-    f + std::num::nearest_u32_to_f32(512 * (k - 2048))
+    f + std::num::nearest_i32_to_f32(512 * (k as i32 - 2048))
 }
 
 // The bits with bit 22 set, which are a sum's where its float is a NaN.

@@ -1,6 +1,7 @@
 -- The laws of the definitions.
 pub mod Readers
 pub mod Positions
+pub mod Follows
 pub mod Parsers
 pub mod Records
 pub mod File

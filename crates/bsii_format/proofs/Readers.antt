@@ -41,6 +41,10 @@ ok-at e = cc
 pub ok-rest : {A : Type 0} {v w : A} {at at′ : ℕ} {r r′ : List ℕ} → _≡_ {A = Result A} (ok v at r) (ok w at′ r′) → r ≡ r′
 ok-rest e = cc
 
+-- where a result ends doesn't hang on its value
+pub at-value : {A B : Type 0} (u : B) {v w : A} {i j : ℕ} {r t : List ℕ} → _≡_ {A = Result A} (ok v i r) (ok w j t) → _≡_ {A = Result B} (ok u i r) (ok u j t)
+at-value u e = ap₂ (λ (i : ℕ) (r : List ℕ). ok u i r) (ok-at e) (ok-rest e)
+
 pub fault-is : {A : Type 0} {f g : Fault} → _≡_ {A = Result A} (fault f) (fault g) → f ≡ g
 fault-is e = cc
 

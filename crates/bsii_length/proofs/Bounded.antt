@@ -11,7 +11,7 @@ use Rattle.bsii_format.specs.Replies.{gives}
 use Rattle.bsii_format.specs.Reader.{Result, ok, fault, _<$>_}
 use Rattle.bsii_format.specs.Prototypes.{Prototype}
 use Rattle.bsii_format.specs.Blocks.{getPrototype}
-use Rattle.bsii_format.specs.File.{Record, prototype, block, recordBytes, prototypesOf, recordsParser, headerParser, BsiiFile, bsiiFile, bsiiParser, parse}
+use Rattle.bsii_format.specs.File.{Record, prototype, block, recordBytes, prototypesOf, recordsParser, headerParser, BsiiFile, bsiiFile, bsiiParser, lengthLimit, parse}
 use Rattle.bsii_format.specs.Text.{valueText}
 use Rattle.bsii_format.specs.BlockText.{joined, closing, fileOpening, blockText, recordsText, fileText}
 use Rattle.bsii_format.specs.Calls.{ofFile, textOf}
@@ -85,5 +85,5 @@ text-size words s t h e = go (parse words s) refl e
         unfold ofFile in omega (arith, ap answered e, file-size f (x .holds .0) (x .holds .1), x .holds .2, x .long)
     go (fault x) p e = unfold ofFile in omega (arith, ap answered e)
 
-pub text-bounded : (words : ℕ) (s t : List ℕ) → ((i : ℕ) → getD s i 0 < 256) → length s ≤ 16_777_216 → textOf words s ≡ gives t → length t < 0x4000_0000_0000_0000
+pub text-bounded : (words : ℕ) (s t : List ℕ) → ((i : ℕ) → getD s i 0 < 256) → length s ≤ lengthLimit → textOf words s ≡ gives t → length t < 0x4000_0000_0000_0000
 text-bounded words s t h l e = omega (arith, text-size words s t h e)

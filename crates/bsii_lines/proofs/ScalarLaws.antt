@@ -23,8 +23,8 @@ use Rattle.bsii_value.specs.declared.types.Numeric.the-variants.{Float, FloatVe
 use Rattle.bsii_value.proofs.types.Numeric.{the-type}
 use Rattle.bsii_value.proofs.Keys.{every, keyed}
 use Rattle.bsii_prototype.proofs.Names.{checked, named}
-use Rattle.bsii_float.specs.NumbersAt.{numberAt}
-use Rattle.bsii_float.proofs.NumbersAt.{number-is, numbers-are, first-number}
+use Rattle.bsii_value.specs.NumbersAt.{numberAt}
+use Rattle.bsii_value.proofs.NumbersAt.{number-is, numbers-are, first-number}
 use Rattle.bsii_definition.specs.Enums.{StringOf}
 use Rattle.bsii_definition.specs.declared.enums.EnumString.{EnumString}
 use Rattle.bsii_definition.specs.declared.enums.EnumString.the-variants.{Text, Absent}

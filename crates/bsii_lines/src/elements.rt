@@ -2,9 +2,9 @@
 use bsii_definition::enums::EnumString;
 use bsii_definition::enums::enum_string;
 use bsii_definition::pairs::Definition;
-use bsii_float::numbers::u32_at;
-use bsii_float::numbers::u64_at;
 use bsii_numeric::numeric::write_numeric;
+use bsii_value::at::u32_at;
+use bsii_value::at::u64_at;
 use bsii_value::types::Kind;
 use bsii_value::types::Numeric;
 use bsii_write::ids::write_id;

@@ -1,21 +1,19 @@
 -- The reading walk as a whole: what holds at each turn of its loop, and what follows at its end.
-use mathlib.Core.Path.{_≡_, refl, sym, ap, ap₂, _∙_, subst}
-use Prim.Native.Nat.{ℕ, zero, suc, _+_, _-_, _/_, _≤_, _<_}
-use native.Mathlib.Nat.{add-zero, add-assoc}
+use mathlib.Core.Path.{_≡_, refl, sym, ap, _∙_, subst}
+use Prim.Native.Nat.{ℕ, _+_, _-_, _/_, _≤_, _<_}
+use native.Mathlib.Nat.{add-zero}
 use native.Mathlib.Omega.{arith}
-use mathlib.Core.List.{List, [], _∷_, _++_, append-assoc, append-nil}
+use mathlib.Core.List.{List, [], _∷_, _++_, append-nil}
 use lib.ListN.{length, drop, length-append}
-use Rattle.bsii_format.specs.Replies.{Fault}
-use Rattle.bsii_format.specs.Reader.{Result, ok, fault, faultAt}
+use Rattle.bsii_format.specs.Reader.{Result, ok, fault}
 use Rattle.bsii_format.specs.Prototypes.{Prototype}
-use Rattle.bsii_format.specs.File.{Record, prototype, block, recordBytes, recordsBytes, Records, recordsFrom}
+use Rattle.bsii_format.specs.File.{Record, prototype, block, recordBytes, recordsBytes, Records, lengthLimit}
 use Rattle.bsii_format.specs.Calls.{Placed, placed, consPrototype, prototypesIn}
-use Rattle.bsii_table.specs.Rows.{Rows}
+use Rattle.bsii_value.specs.declared.answers.Refusal.{Refusal}
 use Rattle.bsii_parse.specs.Walks.{blockCount, behind, recordsAt, bare, Kept, Ready, Steps, passed, ended, refused, Walks, done, stopped}
 use Rattle.bsii_parse.specs.declared.walk.Progress.{Progress}
 use Rattle.bsii_parse.specs.declared.walk.Step.{Step}
 use Rattle.bsii_parse.specs.declared.walk.Step.the-variants.{Go, End, Refused}
-use Rattle.bsii_parse.specs.declared.walk.Walked.{Walked}
 use Rattle.bsii_parse.specs.declared.walk.Walked.the-variants.{Done, Fault as Stopped}
 use Rattle.bsii_parse.proofs.Records.{behind-behind, blockCount-append}
 use Rattle.bsii_parse.proofs.Tables.{kept-none}
@@ -69,16 +67,16 @@ along-start s start t h = record {
   rest = behind-none (recordsAt (length t / 3) [] start s);
 }
 
-pub along-ready : (s : List ℕ) (start : ℕ) (t₀ : List ℕ) (p : Progress) (t : List ℕ) → length s ≤ 16_777_216 → Along s start t₀ p t → Ready s p t
-along-ready s start t₀ p t h a = record { short = h; inside = a .inside; counted = a .counted; rows = a .kept .holds .valid }
+pub along-ready : {s : List ℕ} {start : ℕ} {t₀ : List ℕ} {p : Progress} {t : List ℕ} → length s ≤ lengthLimit → Along s start t₀ p t → Ready s p t
+along-ready h a = record { short = h; inside = a .inside; counted = a .counted; rows = a .kept .holds .valid }
 
 go≢end : {P : Type 0} {q : Progress} {n : ℕ} → _≡_ {A = Step} (Go q) (End n) → P
 go≢end e = let z : _≡_ {A = ℕ} 0 1 = cc in let f : ⊥ = omega arith in absurd f
 
-go≢refused : {P : Type 0} {q : Progress} {k o : ℕ} → _≡_ {A = Step} (Go q) (Refused k o) → P
+go≢refused : {P : Type 0} {q : Progress} {f : Refusal} → _≡_ {A = Step} (Go q) (Refused f) → P
 go≢refused e = let z : _≡_ {A = ℕ} 0 1 = cc in let f : ⊥ = omega arith in absurd f
 
-end≢refused : {P : Type 0} {n k o : ℕ} → _≡_ {A = Step} (End n) (Refused k o) → P
+end≢refused : {P : Type 0} {n : ℕ} {f : Refusal} → _≡_ {A = Step} (End n) (Refused f) → P
 end≢refused e = let z : _≡_ {A = ℕ} 0 1 = cc in let f : ⊥ = omega arith in absurd f
 
 go-inj : {p q : Progress} → _≡_ {A = Step} (Go p) (Go q) → p ≡ q
@@ -89,60 +87,57 @@ pub record Further (s : List ℕ) (start : ℕ) (t₀ : List ℕ) (p q : Progres
   pub on : p .at < q .at
   pub along : Along s start t₀ q t
 
-pub along-step : (s : List ℕ) (start : ℕ) (t₀ : List ℕ) (p : Progress) (t : List ℕ) (a : Along s start t₀ p t) (r : Step) (t′ : List ℕ) → Steps s p t (defsFrom start (a .so)) r t′
-    → (q : Progress) → r ≡ Go q → Further s start t₀ p q t′
-unfolding blockCount
-along-step s start t₀ p t a r t′ (passed i {n = n} {rows = rows} e on inside place kept size) q z =
-    let rooms : length t / 3 ≡ length t₀ / 3 = ap (λ m. m / 3) (a .size) in
-    let defs : defsFrom start (a .so ++ (i ∷ [])) ≡ consPrototype (p .at) i (defsFrom start (a .so)) =
-    defs-snoc start (a .so) i [] ∙ ap (λ m. consPrototype m i (defsFrom start (a .so))) (sym (a .place)) in
-    subst (λ w. Further s start t₀ p w t′) (go-inj z) (record {
-      on = on;
-      along = record {
-        so = a .so ++ (i ∷ []);
-        place = place ∙ rw bytes-snoc (omega (arith, a .place));
-        inside = inside;
-        counted = more-blocks i (p .blocks) (a .counted) on;
-        blocks = ap (λ m. m + blockCount (i ∷ [])) (a .blocks) ∙ sym (blockCount-append (a .so) (i ∷ []));
-        size = size ∙ a .size;
-        kept = subst (λ w. Kept s t′ rows w) (sym defs) kept;
-        rest = a .rest
-            ∙ ap (behind (a .so)) (ap (λ m. recordsAt m (bare (defsFrom start (a .so))) (p .at) s) (sym rooms) ∙ e ∙ ap (λ m. behind (i ∷ []) (recordsAt m (bare (consPrototype (p .at) i (defsFrom start (a .so)))) n s)) rooms)
-            ∙ behind-behind (a .so) (i ∷ []) (recordsAt (length t₀ / 3) (bare (consPrototype (p .at) i (defsFrom start (a .so)))) n s)
-            ∙ ap (λ w. behind (a .so ++ (i ∷ [])) (recordsAt (length t₀ / 3) (bare w) n s)) (sym defs);
-      };
-    })
-  where
-    more-blocks : (i : Record) (b : ℕ) {at n : ℕ} → b ≤ at → at < n → b + blockCount (i ∷ []) ≤ n
-    more-blocks (prototype x) b h k = unfold blockCount in omega arith
-    more-blocks (block x) b h k = unfold blockCount in omega arith
-along-step s start t₀ p t a r t′ (ended e) q z = go≢end (sym z)
-along-step s start t₀ p t a r t′ (refused e l) q z = go≢refused (sym z)
+module _ {s : List ℕ} {start : ℕ} {t₀ : List ℕ} {p : Progress} {t : List ℕ} (a : Along s start t₀ p t) where
+  rooms : length t / 3 ≡ length t₀ / 3
+  rooms = ap (λ m. m / 3) (a .size)
 
-pub along-end : (s : List ℕ) (start : ℕ) (t₀ : List ℕ) (p : Progress) (t : List ℕ) (a : Along s start t₀ p t) (r : Step) (t′ : List ℕ) → Steps s p t (defsFrom start (a .so)) r t′
-    → (n : ℕ) → r ≡ End n → Walks s start t₀ (Done (p .rows) (p .blocks) n) t′
-along-end s start t₀ p t a r t′ (passed i e on inside place kept size) n z = go≢end z
-along-end s start t₀ p t a r t′ (refused e l) n z = end≢refused (sym z)
-along-end s start t₀ p t a r t′ (ended {l = l} {n = m} e) n z =
-    let rooms : length t / 3 ≡ length t₀ / 3 = ap (λ m. m / 3) (a .size) in
-    let here : m ≡ n = cc in
-    let q : Records = record { records = a .so; end = l } in
-    let all : recordsAt (length t₀ / 3) [] start s ≡ ok q m (drop m s) =
-    a .rest ∙ ap (behind (a .so)) (ap (λ k. recordsAt k (bare (defsFrom start (a .so))) (p .at) s) (sym rooms) ∙ e) ∙ last l m in
-    subst (λ k. Walks s start t₀ (Done (p .rows) (p .blocks) k) t) here
-    (subst (λ k. Walks s start t₀ (Done (p .rows) k m) t) (sym (a .blocks)) (done q all (a .kept) (a .size)))
-  where
-    last : (l : List ℕ) (m : ℕ) → behind (a .so) (ok (record { records = []; end = l }) m (drop m s)) ≡ ok (record { records = a .so; end = l }) m (drop m s)
-    last l m = unfold behind in ap (λ w. ok (record { records = w; end = l }) m (drop m s)) (append-nil (a .so))
+  -- the records from `start` on, by what the rest is read as
+  from-here : {q : Result Records} → recordsAt (length t / 3) (bare (defsFrom start (a .so))) (p .at) s ≡ q → recordsAt (length t₀ / 3) [] start s ≡ behind (a .so) q
+  from-here e = a .rest ∙ ap (behind (a .so)) (ap (λ m. recordsAt m (bare (defsFrom start (a .so))) (p .at) s) (sym rooms) ∙ e)
 
-pub along-stop : (s : List ℕ) (start : ℕ) (t₀ : List ℕ) (p : Progress) (t : List ℕ) (a : Along s start t₀ p t) (r : Step) (t′ : List ℕ) → Steps s p t (defsFrom start (a .so)) r t′
-    → (k o : ℕ) → r ≡ Refused k o → Walks s start t₀ (Stopped k o) t′
-unfolding behind
-along-stop s start t₀ p t a r t′ (passed i e on inside place kept size) k o z = go≢refused z
-along-stop s start t₀ p t a r t′ (ended e) k o z = end≢refused z
-along-stop s start t₀ p t a r t′ (refused {k = x} {o = y} e l) k o z =
-    let rooms : length t / 3 ≡ length t₀ / 3 = ap (λ m. m / 3) (a .size) in
-    let n : x ≡ k = cc in
-    let m : y ≡ o = cc in
-    subst (λ w. Walks s start t₀ (Stopped k w) t′) m (subst (λ w. Walks s start t₀ (Stopped w y) t′) n
-    (stopped (a .rest ∙ ap (behind (a .so)) (ap (λ k. recordsAt k (bare (defsFrom start (a .so))) (p .at) s) (sym rooms) ∙ e)) (l ∙ a .size)))
+  pub along-step : {r : Step} {t′ : List ℕ} → Steps s p t (defsFrom start (a .so)) r t′ → {q : Progress} → r ≡ Go q → Further s start t₀ p q t′
+  unfolding blockCount
+  along-step {t′ = t′} (passed i {n = n} {rows = rows} e on inside place kept size) z =
+      let defs : defsFrom start (a .so ++ (i ∷ [])) ≡ consPrototype (p .at) i (defsFrom start (a .so)) =
+      defs-snoc start (a .so) i [] ∙ ap (λ m. consPrototype m i (defsFrom start (a .so))) (sym (a .place)) in
+      subst (λ w. Further s start t₀ p w t′) (go-inj z) (record {
+        on = on;
+        along = record {
+          so = a .so ++ (i ∷ []);
+          place = place ∙ rw bytes-snoc (omega (arith, a .place));
+          inside = inside;
+          counted = more-blocks i (p .blocks) (a .counted) on;
+          blocks = ap (λ m. m + blockCount (i ∷ [])) (a .blocks) ∙ sym (blockCount-append (a .so) (i ∷ []));
+          size = size ∙ a .size;
+          kept = subst (λ w. Kept s t′ rows w) (sym defs) kept;
+          rest = from-here (e ∙ ap (λ m. behind (i ∷ []) (recordsAt m (bare (consPrototype (p .at) i (defsFrom start (a .so)))) n s)) rooms)
+              ∙ behind-behind (a .so) (i ∷ []) (recordsAt (length t₀ / 3) (bare (consPrototype (p .at) i (defsFrom start (a .so)))) n s)
+              ∙ ap (λ w. behind (a .so ++ (i ∷ [])) (recordsAt (length t₀ / 3) (bare w) n s)) (sym defs);
+        };
+      })
+    where
+      more-blocks : (i : Record) (b : ℕ) {at n : ℕ} → b ≤ at → at < n → b + blockCount (i ∷ []) ≤ n
+      more-blocks (prototype x) b h k = unfold blockCount in omega arith
+      more-blocks (block x) b h k = unfold blockCount in omega arith
+  along-step (ended e) z = go≢end (sym z)
+  along-step (refused e l) z = go≢refused (sym z)
+
+  pub along-end : {r : Step} {t′ : List ℕ} → Steps s p t (defsFrom start (a .so)) r t′ → {n : ℕ} → r ≡ End n
+      → Walks s start t₀ (Done (record { rows = p .rows; blocks = p .blocks; next = n })) t′
+  along-end (passed i e on inside place kept size) z = go≢end z
+  along-end (refused e l) z = end≢refused (sym z)
+  along-end (ended {l = l} {n = m} e) {n} z =
+      let here : m ≡ n = cc in
+      let q : Records = record { records = a .so; end = l } in
+      let all : recordsAt (length t₀ / 3) [] start s ≡ ok q m (drop m s) = from-here e ∙ last l m in
+      subst (λ k. Walks s start t₀ (Done (record { rows = p .rows; blocks = p .blocks; next = k })) t) here
+      (subst (λ k. Walks s start t₀ (Done (record { rows = p .rows; blocks = k; next = m })) t) (sym (a .blocks)) (done q all (a .kept) (a .size)))
+    where
+      last : (l : List ℕ) (m : ℕ) → behind (a .so) (ok (record { records = []; end = l }) m (drop m s)) ≡ ok (record { records = a .so; end = l }) m (drop m s)
+      last l m = unfold behind in ap (λ w. ok (record { records = w; end = l }) m (drop m s)) (append-nil (a .so))
+
+  pub along-stop : {r : Step} {t′ : List ℕ} → Steps s p t (defsFrom start (a .so)) r t′ → {f : Refusal} → r ≡ Refused f → Walks s start t₀ (Stopped f) t′
+  unfolding behind
+  along-stop (passed i e on inside place kept size) z = go≢refused z
+  along-stop (ended e) z = end≢refused z
+  along-stop {t′ = t′} (refused {f = x} e l) {f} z = let same : x ≡ f = cc in subst (λ w. Walks s start t₀ (Stopped w) t′) same (stopped (from-here e) (l ∙ a .size))

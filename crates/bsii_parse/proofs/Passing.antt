@@ -1,31 +1,29 @@
 -- The steps of the reading walk, case by case: what the code found at a record, and what the records from there on are.
 use mathlib.Core.Path.{_≡_, refl, sym, ap, _∙_, subst}
-use Prim.Native.Nat.{ℕ, _+_, _-_, _/_, _≤_, _<_}
+use Prim.Native.Nat.{ℕ, _+_, _-_, _/_}
 use native.Mathlib.Nat.{add-zero}
 use native.Mathlib.Omega.{arith}
-use mathlib.Core.Bool.{true, false}
-use mathlib.Core.Option.{Option, none, some}
-use mathlib.Core.List.{List, [], _∷_, _++_}
-use lib.ListN.{length, take, drop}
-use Rattle.bsii_format.specs.Replies.{Fault as Refusal, malformed}
-use Rattle.bsii_format.specs.Reader.{Result, ok, fault, faultAt, after, _>>=_, _<$>_, bytes, Consumed, consumed}
-use Rattle.bsii_format.specs.Numbers.{number}
+use mathlib.Core.Bool.{true}
+use mathlib.Core.List.{List, [], _∷_}
+use lib.ListN.{length, drop}
+use Rattle.bsii_format.specs.Replies.{undefinedPrototype, tableFull}
+use Rattle.bsii_format.specs.Reader.{Result, ok, fault, _>>=_, Consumed}
 use Rattle.bsii_format.specs.Strings.{idParser}
-use Rattle.bsii_format.specs.Prototypes.{ValuePrototype, Prototype, Fields, fieldsFrom, fieldsParser}
-use Rattle.bsii_format.specs.Blocks.{DataValue, DataBlock, getPrototype, dataValuesParser}
-use Rattle.bsii_format.specs.File.{Record, prototype, block, Head, ending, defining, carrying, headParser, Step as RecordStep, end, more, recordParser, recordBytes, define, hasRoom}
+use Rattle.bsii_format.specs.Prototypes.{ValuePrototype, Prototype, Fields, fieldsParser}
+use Rattle.bsii_format.specs.Blocks.{DataValue, dataValuesParser}
+use Rattle.bsii_format.specs.File.{Record, prototype, block, ending, defining, carrying, headParser, more, recordParser, hasRoom}
 use Rattle.bsii_format.specs.Calls.{Placed, consPrototype}
 use Rattle.bsii_format.proofs.Readers.{Exact, bind-exact}
 use Rattle.bsii_format.proofs.Parsers.{id-exact}
-use Rattle.bsii_format.proofs.Records.{GoodTaken, stepBytes, record-good, GoodList, fields-good, fields-fits, GoodRow, values-good, values-fits}
-use Rattle.bsii_format.proofs.Positions.{Moved, moved, moved-on, ended}
-use Rattle.bsii_value.specs.Answers.{endOf}
+use Rattle.bsii_format.proofs.Records.{stepBytes, record-good, fields-good, fields-fits, values-good, values-fits}
+use Rattle.bsii_format.proofs.Positions.{moved, moved-on}
+use Rattle.bsii_value.specs.Answers.{faultIs, refusalIs, refusedAt}
+use Rattle.bsii_value.specs.declared.answers.Refusal.{Refusal}
 use Rattle.bsii_value.specs.declared.answers.Parsed.{Parsed}
 use Rattle.bsii_value.specs.declared.answers.Parsed.the-variants.{Next, Fault}
 use Rattle.bsii_value.proofs.Ends.{next-ended, fault-ended}
 use Rattle.bsii_table.specs.Rows.{lookup}
-use Rattle.bsii_table.specs.Table.{foundRow, Defines, Puts, PutsBoth, NoRoom}
-use Rattle.bsii_table.specs.Relation.{Holds}
+use Rattle.bsii_table.specs.Table.{foundRow, Defines}
 use Rattle.bsii_table.specs.declared.Found.{Found}
 use Rattle.bsii_table.specs.declared.Found.the-variants.{At, Nothing}
 use Rattle.bsii_table.specs.declared.Defined.{Defined}
@@ -35,7 +33,7 @@ use Rattle.bsii_prototype.specs.Answers.{countOf, headIs}
 use Rattle.bsii_prototype.specs.declared.answers.Counted.the-variants.{Fields as Counted-Fields, Fault as Counted-Fault}
 use Rattle.bsii_prototype.specs.declared.answers.Head.{Head as HeadAnswer}
 use Rattle.bsii_prototype.specs.declared.answers.Head.the-variants.{End as HeadEnd, Prototype as HeadPrototype, Block as HeadBlock, BadHead}
-use Rattle.bsii_parse.specs.Walks.{Stands, StandingEnd, blockCount, behind, recordsAt, bare, Kept, Ready, Steps, passed, ended as atEnd, refused, Stepped, Defining, Carrying}
+use Rattle.bsii_parse.specs.Walks.{Stands, StandingEnd, blockCount, behind, recordsAt, bare, Kept, Steps, passed, ended as atEnd, refused, Stepped, Defining, Carrying}
 use Rattle.bsii_parse.specs.declared.walk.Progress.{Progress}
 use Rattle.bsii_parse.specs.declared.walk.Step.{Step}
 use Rattle.bsii_parse.specs.declared.walk.Step.the-variants.{Go, End, Refused}
@@ -64,10 +62,10 @@ block-exact fs = bind-exact _ id-exact (λ i. values-exact fs)
           (_, record { front = g .front; place = g .place; fits = values-fits (g .good) });
     }
 
-module _ (s : List ℕ) (p : Progress) (t : List ℕ) (env : List (Placed Prototype)) where
+module _ {s : List ℕ} {p : Progress} {t : List ℕ} {env : List (Placed Prototype)} where
   -- ---- any record
 
-  step-fault : {f : Refusal} {t′ : List ℕ} → recordParser (bare env) (p .at) (drop (p .at) s) ≡ fault f → length t′ ≡ length t → Steps s p t env (Refused (f .number) (f .offset)) t′
+  step-fault : {f : Refusal} {t′ : List ℕ} → recordParser (bare env) (p .at) (drop (p .at) s) ≡ fault (faultIs f) → length t′ ≡ length t → Steps s p t env (Refused f) t′
   step-fault e l = refused (records-fault (length t / 3) (bare env) (p .at) s e) l
 
   step-passed : (i : Record) {n rows : ℕ} {t′ : List ℕ} → recordParser (bare env) (p .at) (drop (p .at) s) ≡ ok (more i) n (drop n s) → hasRoom (length t / 3) (bare env) i ≡ true
@@ -82,7 +80,7 @@ module _ (s : List ℕ) (p : Progress) (t : List ℕ) (env : List (Placed Protot
 
   -- ---- by the head
 
-  pub step-head-fault : {k o : ℕ} → headParser (p .at) (drop (p .at) s) ≡ faultAt k o → Steps s p t env (Refused k o) t
+  pub step-head-fault : {f : Refusal} → headParser (p .at) (drop (p .at) s) ≡ fault (faultIs f) → Steps s p t env (Refused f) t
   step-head-fault e = step-fault (record-fault (bare env) (p .at) (drop (p .at) s) e) refl
 
   pub step-end : {n : ℕ} → headParser (p .at) (drop (p .at) s) ≡ ok ending n (drop n s) → Steps s p t env (End n) t
@@ -91,38 +89,37 @@ module _ (s : List ℕ) (p : Progress) (t : List ℕ) (env : List (Placed Protot
   -- ---- a prototype
 
   module _ {id fields : ℕ} {name : List ℕ} (h : headParser (p .at) (drop (p .at) s) ≡ ok (defining id name) fields (drop fields s)) where
-    pub prototype-fault : {k o : ℕ} → fieldsParser fields (drop fields s) ≡ faultAt k o → Steps s p t env (Refused k o) t
+    pub prototype-fault : {f : Refusal} → fieldsParser fields (drop fields s) ≡ fault (faultIs f) → Steps s p t env (Refused f) t
     prototype-fault e = step-fault (record-fields-fault (bare env) (p .at) (drop (p .at) s) h e) refl
 
-    one : Fields → Prototype
-    one l = prototypeOf (bare env) (p .at) (drop (p .at) s) id name fields l
-
     pub prototype-full : {l : Fields} {n : ℕ} {d : Defined} {t′ : List ℕ} → fieldsParser fields (drop fields s) ≡ ok l n (drop n s) → Kept s t (p .rows) env → d ≡ Full
-        → Defines t (p .rows) id (p .at) d t′ → Steps s p t env (Refused 10 (p .at)) t′
-    unfolding prototypeOf one
+        → Defines t (p .rows) id (p .at) d t′ → Steps s p t env (Refused (refusedAt tableFull (p .at))) t′
+    unfolding prototypeOf
     prototype-full {l} {n} e k f d =
         let x = is-full f d in
-        refused (records-full (length t / 3) (bare env) (p .at) s (record-prototype (bare env) (p .at) (drop (p .at) s) h e) (define-full (Stands s) (k .holds) (one l) refl f d)) (ap length (x .same))
+        let one = prototypeOf (bare env) (p .at) (drop (p .at) s) id name fields l in
+        refused (records-full (length t / 3) (bare env) (p .at) s (record-prototype (bare env) (p .at) (drop (p .at) s) h e) (define-full (Stands s) (k .holds) one refl f d)) (ap length (x .same))
 
     pub prototype-passed : {l : Fields} {n rows : ℕ} {d : Defined} {t′ : List ℕ} → fieldsParser fields (drop fields s) ≡ ok l n (drop n s) → Kept s t (p .rows) env → d ≡ Rows rows
         → Defines t (p .rows) id (p .at) d t′ → Steps s p t env (Go (record { at = n; rows = rows; blocks = p .blocks })) t′
-    unfolding prototypeOf one blockCount consPrototype
+    unfolding prototypeOf blockCount consPrototype
     prototype-passed {l} {n} {rows} {d} {t′} e k f w =
         let x = is-put f w in
-        let stands : Stands s (p .at) (one l) = record { fields = fields; next = n; head = h; list = e } in
+        let one = prototypeOf (bare env) (p .at) (drop (p .at) s) id name fields l in
+        let stands : Stands s (p .at) one = record { fields = fields; next = n; head = h; list = e } in
         subst (λ b. Steps s p t env (Go (record { at = n; rows = rows; blocks = b })) t′) (add-zero (p .blocks))
-        (step-passed (prototype (one l)) (record-prototype (bare env) (p .at) (drop (p .at) s) h e) (define-room (Stands s) (k .holds) (one l) refl f w)
-        (record { holds = define-holds (Stands s) (k .holds) (one l) refl stands f w; offsets = offsets-put t (p .rows) t′ rows env (one l) (p .at) x (k .offsets) })
+        (step-passed (prototype one) (record-prototype (bare env) (p .at) (drop (p .at) s) h e) (define-room (Stands s) (k .holds) one refl f w)
+        (record { holds = define-holds (Stands s) (k .holds) one refl stands f w; offsets = offsets-put t (p .rows) t′ rows env one (p .at) x (k .offsets) })
         (x .puts .size))
 
   -- ---- a block
 
   module _ {id at : ℕ} (h : headParser (p .at) (drop (p .at) s) ≡ ok (carrying id) at (drop at s)) (k : Kept s t (p .rows) env) where
-    pub block-undefined : {r : Found} → r ≡ Nothing → foundRow r ≡ lookup t (p .rows) id → Steps s p t env (Refused 6 (p .at)) t
+    pub block-undefined : {r : Found} → r ≡ Nothing → foundRow r ≡ lookup t (p .rows) id → Steps s p t env (Refused (refusedAt undefinedPrototype (p .at))) t
     block-undefined e f = step-fault (record-undefined (bare env) (p .at) (drop (p .at) s) h (found-nothing (Stands s) (k .holds) id e f)) refl
 
     module _ {r : Found} {a b : ℕ} (e : r ≡ At a b) (f : foundRow r ≡ lookup t (p .rows) id) {q : Parsed} (w : StandingEnd s a at q) where
-      pub block-fault : {m o : ℕ} → q ≡ Fault m o → Steps s p t env (Refused m o) t
+      pub block-fault : {x : Refusal} → q ≡ Fault x → Steps s p t env (Refused x) t
       block-fault z =
           let x = found-at (Stands s) (k .holds) id e f in
           step-fault (record-block-fault (bare env) (p .at) (drop (p .at) s) h (x .1) (fault-ended _ (sym z ∙ w .ends (x .0) (x .2)))) refl
@@ -136,47 +133,47 @@ module _ (s : List ℕ) (p : Progress) (t : List ℕ) (env : List (Placed Protot
 
 -- ---- the same for the code's answers
 
-module _ (s : List ℕ) (p : Progress) (t : List ℕ) (id fields : ℕ) where
-  counted-fault : {k o : ℕ} (q : Result Fields) → Counted-Fault k o ≡ countOf q → q ≡ faultAt k o
-  unfolding countOf
-  counted-fault (ok l n r) e = let z : _≡_ {A = ℕ} 0 1 = cc in let f : ⊥ = omega arith in absurd f
-  counted-fault {k} {o} (fault f) e = let a : k ≡ f .number = cc in let b : o ≡ f .offset = cc in rw (a, b)
+counted-fault : {f : Refusal} (q : Result Fields) → Counted-Fault f ≡ countOf q → q ≡ fault (faultIs f)
+unfolding countOf
+counted-fault (ok l n r) e = let z : _≡_ {A = ℕ} 0 1 = cc in let f : ⊥ = omega arith in absurd f
+counted-fault {f} (fault x) e = let a : refusalIs x ≡ f = cc in ap (λ (f : Refusal). fault (faultIs f)) a
 
-  counted-is : {c n : ℕ} → Counted-Fields c n ≡ countOf (fieldsParser fields (drop fields s)) → (l : Fields) × (fieldsParser fields (drop fields s) ≡ ok l n (drop n s))
-  unfolding countOf
-  counted-is {c} {n} e = go (fieldsParser fields (drop fields s)) refl e
-    where
-      go : (q : Result Fields) → fieldsParser fields (drop fields s) ≡ q → Counted-Fields c n ≡ countOf q → (l : Fields) × (q ≡ ok l n (drop n s))
-      go (ok l m r) h z = let i : n ≡ m = cc in (l, rw (i, ← moved fields-exact s fields h .rest))
-      go (fault f) h z = let y : _≡_ {A = ℕ} 0 1 = cc in let x : ⊥ = omega arith in absurd x
+counted-is : (s : List ℕ) (fields : ℕ) {c n : ℕ} → Counted-Fields c n ≡ countOf (fieldsParser fields (drop fields s)) → (l : Fields) × (fieldsParser fields (drop fields s) ≡ ok l n (drop n s))
+unfolding countOf
+counted-is s fields {c} {n} e = go (fieldsParser fields (drop fields s)) refl e
+  where
+    go : (q : Result Fields) → fieldsParser fields (drop fields s) ≡ q → Counted-Fields c n ≡ countOf q → (l : Fields) × (q ≡ ok l n (drop n s))
+    go (ok l m r) h z = let i : n ≡ m = cc in (l, rw (i, ← moved fields-exact s fields h .rest))
+    go (fault f) h z = let y : _≡_ {A = ℕ} 0 1 = cc in let x : ⊥ = omega arith in absurd x
 
-  pub defining-fault : {k o : ℕ} → Counted-Fault k o ≡ countOf (fieldsParser fields (drop fields s)) → Defining s p t id fields (Refused k o) t
-  defining-fault e = record { steps = λ env k name h. prototype-fault s p t env h (counted-fault (fieldsParser fields (drop fields s)) e) }
+module _ {s : List ℕ} {p : Progress} {t : List ℕ} {id fields : ℕ} where
+  pub defining-fault : {f : Refusal} → Counted-Fault f ≡ countOf (fieldsParser fields (drop fields s)) → Defining s p t id fields (Refused f) t
+  defining-fault e = record { steps = λ env k name h. prototype-fault h (counted-fault (fieldsParser fields (drop fields s)) e) }
 
   module _ {c n : ℕ} (e : Counted-Fields c n ≡ countOf (fieldsParser fields (drop fields s))) {o : ℕ} (w : o ≡ p .at) {d : Defined} {t′ : List ℕ} (x : Defines t (p .rows) id o d t′) where
-    pub defining-full : d ≡ Full → Defining s p t id fields (Refused 10 (p .at)) t′
-    defining-full f = record { steps = λ env k name h. prototype-full s p t env h (counted-is e .1) k f (subst (λ z. Defines t (p .rows) id z d t′) w x) }
+    pub defining-full : d ≡ Full → Defining s p t id fields (Refused (refusedAt tableFull (p .at))) t′
+    defining-full f = record { steps = λ env k name h. prototype-full h (counted-is s fields e .1) k f (subst (λ z. Defines t (p .rows) id z d t′) w x) }
 
     pub defining-passed : {rows : ℕ} → d ≡ Rows rows → Defining s p t id fields (Go (record { at = n; rows = rows; blocks = p .blocks })) t′
-    defining-passed f = record { steps = λ env k name h. prototype-passed s p t env h (counted-is e .1) k f (subst (λ z. Defines t (p .rows) id z d t′) w x) }
+    defining-passed f = record { steps = λ env k name h. prototype-passed h (counted-is s fields e .1) k f (subst (λ z. Defines t (p .rows) id z d t′) w x) }
 
-module _ (s : List ℕ) (p : Progress) (t : List ℕ) (id at : ℕ) {r : Found} (f : foundRow r ≡ lookup t (p .rows) id) where
-  pub carrying-undefined : r ≡ Nothing → Carrying s p t id at (Refused 6 (p .at))
-  carrying-undefined e = record { steps = λ env k h. block-undefined s p t env h k e f }
+module _ {s : List ℕ} {p : Progress} {t : List ℕ} {id at : ℕ} {r : Found} (f : foundRow r ≡ lookup t (p .rows) id) where
+  pub carrying-undefined : r ≡ Nothing → Carrying s p t id at (Refused (refusedAt undefinedPrototype (p .at)))
+  carrying-undefined e = record { steps = λ env k h. block-undefined h k e f }
 
   module _ {a b : ℕ} (e : r ≡ At a b) {z : ℕ} (i : z ≡ a) {q : Parsed} (w : StandingEnd s z at q) where
-    pub carrying-fault : {m o : ℕ} → q ≡ Fault m o → Carrying s p t id at (Refused m o)
-    carrying-fault y = record { steps = λ env k h. block-fault s p t env h k e f (subst (λ x. StandingEnd s x at q) i w) y }
+    pub carrying-fault : {x : Refusal} → q ≡ Fault x → Carrying s p t id at (Refused x)
+    carrying-fault y = record { steps = λ env k h. block-fault h k e f (subst (λ x. StandingEnd s x at q) i w) y }
 
     pub carrying-passed : {n : ℕ} → q ≡ Next n → Carrying s p t id at (Go (record { at = n; rows = p .rows; blocks = p .blocks + 1 }))
-    carrying-passed y = record { steps = λ env k h. block-passed s p t env h k e f (subst (λ x. StandingEnd s x at q) i w) y }
+    carrying-passed y = record { steps = λ env k h. block-passed h k e f (subst (λ x. StandingEnd s x at q) i w) y }
 
-module _ (s : List ℕ) (p : Progress) (t : List ℕ) {h : HeadAnswer} (e : headIs s h ≡ headParser (p .at) (drop (p .at) s)) where
+module _ {s : List ℕ} {p : Progress} {t : List ℕ} {h : HeadAnswer} (e : headIs s h ≡ headParser (p .at) (drop (p .at) s)) where
   pub stepped-end : {n : ℕ} → h ≡ HeadEnd n → Stepped s p t (End n) t
-  stepped-end z = record { steps = λ env k. step-end s p t env (sym e ∙ ap (headIs s) z) }
+  stepped-end z = record { steps = λ env k. step-end (sym e ∙ ap (headIs s) z) }
 
-  pub stepped-bad : {k o : ℕ} → h ≡ BadHead k o → Stepped s p t (Refused k o) t
-  stepped-bad z = record { steps = λ env k. step-head-fault s p t env (sym e ∙ ap (headIs s) z) }
+  pub stepped-bad : {f : Refusal} → h ≡ BadHead f → Stepped s p t (Refused f) t
+  stepped-bad z = record { steps = λ env k. step-head-fault (sym e ∙ ap (headIs s) z) }
 
   pub stepped-defining : {id name next : ℕ} {r : Step} {t′ : List ℕ} → h ≡ HeadPrototype id name next → Defining s p t id next r t′ → Stepped s p t r t′
   stepped-defining z d = record { steps = λ env k. d .steps env k _ (sym e ∙ ap (headIs s) z) }

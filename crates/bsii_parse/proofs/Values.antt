@@ -1,26 +1,24 @@
 -- A block's values under its definitions, one after the other: what a turn of the loop over them keeps.
-use mathlib.Core.Path.{_≡_, refl, sym, ap, _∙_, subst}
-use Prim.Native.Nat.{ℕ, _+_, _-_, _≤_, _<_}
-use native.Mathlib.Omega.{arith}
+use mathlib.Core.Path.{_≡_, refl, sym, ap, _∙_}
+use Prim.Native.Nat.{ℕ, _+_, _-_, _<_}
 use mathlib.Core.List.{List, [], _∷_}
-use lib.ListN.{length, take, drop}
-use Rattle.bsii_format.specs.Replies.{Fault as Refusal}
-use Rattle.bsii_format.specs.Reader.{Result, ok, fault, faultAt, after, _>>=_, success, _<$>_, Consumed, with, consumed}
+use lib.ListN.{take, drop}
+use Rattle.bsii_format.specs.Reader.{ok, fault, after, _>>=_, success, _<$>_, Consumed, with, consumed}
 use Rattle.bsii_format.specs.Strings.{idParser}
-use Rattle.bsii_format.specs.Values.{Value, valueParser}
+use Rattle.bsii_format.specs.Values.{valueParser}
 use Rattle.bsii_format.specs.Prototypes.{ValuePrototype, Prototype, Fields, consField, fieldsParser}
-use Rattle.bsii_format.specs.Blocks.{DataValue, dataValue, dataValueParser, dataValuesParser}
+use Rattle.bsii_format.specs.Blocks.{dataValue, dataValueParser, dataValuesParser}
 use Rattle.bsii_format.proofs.Parsers.{value-exact, id-exact}
 use Rattle.bsii_format.proofs.Positions.{ended, ended-after, ended-bind, ended-map, ended-consumed}
-use Rattle.bsii_value.specs.Answers.{endOf, uncheckedStr}
+use Rattle.bsii_value.specs.Answers.{faultIs, endOf, uncheckedStr}
+use Rattle.bsii_value.specs.declared.answers.Refusal.{Refusal}
 use Rattle.bsii_value.specs.declared.answers.Parsed.{Parsed}
 use Rattle.bsii_value.specs.declared.answers.Parsed.the-variants.{Next, Fault}
-use Rattle.bsii_value.proofs.Ends.{end-ended, alike, next-ended, fault-ended}
+use Rattle.bsii_value.proofs.Ends.{end-ended, alike, next≢fault, next-ended, fault-ended}
 use Rattle.bsii_prototype.specs.Entries.{entryWith, uncheckedHead}
 use Rattle.bsii_prototype.specs.Answers.{entryOf}
-use Rattle.bsii_prototype.specs.declared.answers.Entry.{Entry}
 use Rattle.bsii_prototype.specs.declared.answers.Entry.the-variants.{Field, Last, Bad}
-use Rattle.bsii_prototype.proofs.Turns.{FieldTurn, turn-field, turn-last, turn-bad}
+use Rattle.bsii_prototype.proofs.Turns.{turn-field, turn-last, turn-bad}
 use Rattle.bsii_prototype.proofs.Beginnings.{head-next}
 use Rattle.bsii_parse.specs.Walks.{Stands, ValuesEnd, BlockEnd, StandingEnd}
 
@@ -43,11 +41,11 @@ module _ (f : Consumed ValuePrototype) (fs : List (Consumed ValuePrototype)) (s 
       ∙ ended-after {B = Unit {0}} (valueParser (f .value .typeId) at (drop at s)) (ok tt e (drop e s)) (λ v. dataValuesParser fs) (λ v. dataValuesParser fs)
       (next-ended (value-exact (f .value .typeId)) s at h) (λ a b i r. refl)))
 
-  value-fault : {k o : ℕ} → Fault k o ≡ endOf (valueParser (f .value .typeId) at (drop at s)) → Fault k o ≡ endOf (dataValuesParser (f ∷ fs) at (drop at s))
+  value-fault : {x : Refusal} → Fault x ≡ endOf (valueParser (f .value .typeId) at (drop at s)) → Fault x ≡ endOf (dataValuesParser (f ∷ fs) at (drop at s))
   unfolding _>>=_ after endOf ended
-  value-fault {k} {o} h =
+  value-fault {x} h =
       sym (end-ended (dataValuesParser (f ∷ fs) at (drop at s)) ∙ ap endOf (values-bind f fs at (drop at s)
-      ∙ ended-after {B = Unit {0}} (valueParser (f .value .typeId) at (drop at s)) (faultAt k o) (λ v. dataValuesParser fs) (λ v. dataValuesParser fs)
+      ∙ ended-after {B = Unit {0}} (valueParser (f .value .typeId) at (drop at s)) (fault (faultIs x)) (λ v. dataValuesParser fs) (λ v. dataValuesParser fs)
       (fault-ended (valueParser (f .value .typeId) at (drop at s)) h) (λ a b i r. refl)))
 
 values-none : (at : ℕ) (s : List ℕ) → Next at ≡ endOf (dataValuesParser [] at s)
@@ -60,10 +58,10 @@ pub record InStep (s : List ℕ) (fields start field at : ℕ) : Type 0 where
   pub rest : (l : Fields) (n : ℕ) (t : List ℕ) → fieldsParser fields (drop fields s) ≡ ok l n t
       → (k : Fields) × (fieldsParser field (drop field s) ≡ ok k n t) × (endOf (dataValuesParser (k .fields) at (drop at s)) ≡ endOf (dataValuesParser (l .fields) start (drop start s)))
 
-pub step-start : (s : List ℕ) (fields start : ℕ) → InStep s fields start fields start
-step-start s fields start = record { rest = λ l n t e. (l, e, refl) }
+pub step-start : {s : List ℕ} {fields start : ℕ} → InStep s fields start fields start
+step-start = record { rest = λ l n t e. (l, e, refl) }
 
-module _ (s : List ℕ) (fields start field at : ℕ) (i : InStep s fields start field at) where
+module _ {s : List ℕ} {fields start field at : ℕ} (i : InStep s fields start field at) where
   pub step-last : {n : ℕ} → Last n ≡ entryOf (field + 8) (entryWith uncheckedStr field (drop field s)) → ValuesEnd s fields start (Next at)
   step-last e = record {
     ends = λ l n t h.
@@ -71,13 +69,13 @@ module _ (s : List ℕ) (fields start field at : ℕ) (i : InStep s fields start
         values-none at (drop at s) ∙ ap (λ fs. endOf (dataValuesParser fs at (drop at s))) (sym (turn-last s field (k .1) e .0)) ∙ k .2;
   }
 
-  pub step-bad : {k o : ℕ} → Bad k o ≡ entryOf (field + 8) (entryWith uncheckedStr field (drop field s)) → (r : Parsed) → ValuesEnd s fields start r
+  pub step-bad : {f : Refusal} → Bad f ≡ entryOf (field + 8) (entryWith uncheckedStr field (drop field s)) → (r : Parsed) → ValuesEnd s fields start r
   step-bad e r = record { ends = λ l n t h. turn-bad s field (i .rest l n t h .1) e }
 
   module _ {type a b next : ℕ} (e : Field type a b next ≡ entryOf (field + 8) (entryWith uncheckedStr field (drop field s))) where
-    pub step-fault : {k o : ℕ} → Fault k o ≡ endOf (valueParser type at (drop at s)) → ValuesEnd s fields start (Fault k o)
+    pub step-fault : {f : Refusal} → Fault f ≡ endOf (valueParser type at (drop at s)) → ValuesEnd s fields start (Fault f)
     unfolding consField
-    step-fault {k} {o} v = record {
+    step-fault v = record {
       ends = λ l n t h.
           let x = i .rest l n t h in
           let y = turn-field s field (x .1) e in
@@ -100,13 +98,13 @@ module _ (s : List ℕ) (fields start field at : ℕ) (i : InStep s fields start
 
 -- ---- a block: its id in front of its values
 
-module _ (s : List ℕ) (fields at : ℕ) where
-  pub block-id-fault : {k o : ℕ} → Fault k o ≡ endOf (idParser at (drop at s)) → BlockEnd s fields at (Fault k o)
+module _ {s : List ℕ} {fields at : ℕ} where
+  pub block-id-fault : {f : Refusal} → Fault f ≡ endOf (idParser at (drop at s)) → BlockEnd s fields at (Fault f)
   unfolding _>>=_ after endOf ended
-  block-id-fault {k} {o} e = record {
+  block-id-fault {f} e = record {
     ends = λ l n t h.
         sym (end-ended ((idParser >>= (λ i. dataValuesParser (l .fields))) at (drop at s))
-        ∙ ap endOf (ended-after {B = Unit {0}} (idParser at (drop at s)) (faultAt k o) (λ i. dataValuesParser (l .fields)) (λ i. dataValuesParser (l .fields)) (fault-ended (idParser at (drop at s)) e) (λ a b i r. refl)));
+        ∙ ap endOf (ended-after {B = Unit {0}} (idParser at (drop at s)) (fault (faultIs f)) (λ i. dataValuesParser (l .fields)) (λ i. dataValuesParser (l .fields)) (fault-ended (idParser at (drop at s)) e) (λ a b i r. refl)));
   }
 
   pub block-values : {next : ℕ} {r : Parsed} → Next next ≡ endOf (idParser at (drop at s)) → ValuesEnd s fields next r → BlockEnd s fields at r
@@ -123,11 +121,8 @@ module _ (s : List ℕ) (fields at : ℕ) where
 standing-next : (s : List ℕ) (o : ℕ) (p : Prototype) (h : Stands s o p) {r : Parsed} → r ≡ endOf (uncheckedHead o (drop o s)) → r ≡ Next (h .fields)
 standing-next s o p h e = e ∙ head-next o (drop o s) (h .head)
 
-module _ (s : List ℕ) (o at : ℕ) {r : Parsed} (e : r ≡ endOf (uncheckedHead o (drop o s))) where
-  next≢fault : {P : Type 0} {n k q : ℕ} → _≡_ {A = Parsed} (Next n) (Fault k q) → P
-  next≢fault z = let y : _≡_ {A = ℕ} 0 1 = cc in let f : ⊥ = omega arith in absurd f
-
-  pub standing-fault : {k q : ℕ} → r ≡ Fault k q → (v : Parsed) → StandingEnd s o at v
+module _ {s : List ℕ} {o at : ℕ} {r : Parsed} (e : r ≡ endOf (uncheckedHead o (drop o s))) where
+  pub standing-fault : {f : Refusal} → r ≡ Fault f → (v : Parsed) → StandingEnd s o at v
   standing-fault z v = record { ends = λ p h. next≢fault (sym (standing-next s o p h e) ∙ z) }
 
   pub standing-block : {first : ℕ} {v : Parsed} → r ≡ Next first → BlockEnd s first at v → StandingEnd s o at v

@@ -2,21 +2,21 @@
 use mathlib.Core.Path.{_≡_, refl, sym, ap, ap₂, _∙_, subst}
 use Prim.Native.Nat.{ℕ, suc, _+_, _-_, _/_, _≤_, _<_}
 use native.Mathlib.Omega.{arith}
-use mathlib.Core.Bool.{true, false}
-use mathlib.Core.List.{List, [], _∷_, _++_}
+use mathlib.Core.List.{List, [], _∷_}
 use lib.ListN.{length, take, drop}
 use lib.Seq.{length-take-le}
 use lib.Dec.{T, leb, leb→le}
-use Rattle.bsii_format.specs.Replies.{Fault, Reply, gives, refuses, refusal, inputLong}
-use Rattle.bsii_format.specs.Reader.{Result, ok, fault, faultAt, after, _>>=_, success, _<$>_, Consumed, with, consumed, same, tag}
-use Rattle.bsii_format.specs.Prototypes.{Prototype}
-use Rattle.bsii_format.specs.File.{Record, prototype, block, recordBytes, Records, recordsFrom, recordsParser, headerParser, BsiiFile, bsiiFile, bsiiParser, lengthLimit, parse, defineAll, prototypesOf, distinctIds}
-use Rattle.bsii_format.specs.Calls.{Placed, placed, placedRecords, consBlock, blocksIn, blocksOf, prototypesIn, ofFile, Reading as ReadingOf, readingOf, readingCall}
+use Rattle.bsii_format.specs.Replies.{gives, invalidHeader, inputLong}
+use Rattle.bsii_format.specs.Reader.{ok, fault, faultAt, after, _>>=_, success, _<$>_, Consumed, with, consumed, same, tag}
+use Rattle.bsii_format.specs.File.{Record, prototype, block, recordBytes, recordsParser, headerParser, bsiiFile, bsiiParser, lengthLimit, parse, defineAll, prototypesOf, distinctIds}
+use Rattle.bsii_format.specs.Calls.{placed, placedRecords, consBlock, blocksIn, blocksOf, prototypesIn, ofFile, Reading as ReadingOf, readingOf, readingCall}
 use Rattle.bsii_format.proofs.Readers.{is-false}
 use Rattle.bsii_format.proofs.Parsers.{header-exact}
 use Rattle.bsii_format.proofs.Positions.{moved-on}
 use Rattle.bsii_format.proofs.File.{parse-short}
-use Rattle.bsii_parse.specs.Walks.{blockCount, recordsAt, bare, Kept, Walks, done, stopped, ReadFile, read, unread}
+use Rattle.bsii_value.specs.Answers.{faultIs, refusedAt}
+use Rattle.bsii_value.specs.declared.answers.Refusal.{Refusal}
+use Rattle.bsii_parse.specs.Walks.{blockCount, recordsAt, Kept, Walks, done, stopped, ReadFile, read, unread}
 use Rattle.bsii_parse.specs.Answers.{readingIs}
 use Rattle.bsii_parse.specs.declared.walk.Walked.{Walked}
 use Rattle.bsii_parse.specs.declared.walk.Walked.the-variants.{Done, Fault as Stopped}
@@ -26,22 +26,22 @@ use Rattle.bsii_parse.proofs.Tables.{bare-all}
 
 -- ---- in front of the records
 
-pub file-long : (s t : List ℕ) → 16_777_216 < length s → ReadFile s t (Stopped 12 0) t
+pub file-long : (s t : List ℕ) → lengthLimit < length s → ReadFile s t (Stopped (refusedAt inputLong 0)) t
 unfolding parse
 file-long s t h =
-    let l : T (leb (length s) lengthLimit) → ⊥ = λ k. let z : length s ≤ 16_777_216 = leb→le (length s) lengthLimit k in omega arith in
-    let e : parse (length t) s ≡ faultAt 12 0 = rw (is-false (leb (length s) lengthLimit) l) in
+    let l : T (leb (length s) lengthLimit) → ⊥ = λ k. let z : length s ≤ lengthLimit = leb→le (length s) lengthLimit k in omega arith in
+    let e : parse (length t) s ≡ faultAt inputLong 0 = rw (is-false (leb (length s) lengthLimit) l) in
     unread e refl
 
-header-empty : headerParser 0 [] ≡ faultAt 1 0
+header-empty : headerParser 0 [] ≡ faultAt invalidHeader 0
 unfolding headerParser _>>=_ after tag same
 header-empty = refl
 
-module _ (s t : List ℕ) (short : length s ≤ 16_777_216) where
-  pub header-fault : {k o : ℕ} → headerParser 0 s ≡ faultAt k o → ReadFile s t (Stopped k o) t
+module _ (s t : List ℕ) (short : length s ≤ lengthLimit) where
+  pub header-fault : {f : Refusal} → headerParser 0 s ≡ fault (faultIs f) → ReadFile s t (Stopped f) t
   unfolding bsiiParser _>>=_ after consumed
-  header-fault {k} {o} e =
-      let z : parse (length t) s ≡ faultAt k o = parse-short (length t) s short ∙ rw e in
+  header-fault {f} e =
+      let z : parse (length t) s ≡ fault (faultIs f) = parse-short (length t) s short ∙ rw e in
       unread z refl
 
   module _ {v : ℕ} (h : headerParser 0 s ≡ ok v 8 (drop 8 s)) where
@@ -62,8 +62,8 @@ module _ (s t : List ℕ) (short : length s ≤ 16_777_216) where
         let is : parse (length t) s ≡ ok (bsiiFile header q) n (drop n s) = parse-is ∙ rw e in
         let start : 8 ≡ length (take 8 s) = sym (length-take-le 8 s header-long) in
         read (bsiiFile header q) is (subst (λ m. Kept s t′ rows (prototypesIn (placed (λ r. length (recordBytes r)) m (q .records)) [])) start k) l
-    file-walked (stopped {k = k} {o = o} e l) =
-        let z : parse (length t) s ≡ faultAt k o = parse-is ∙ rw e in
+    file-walked (stopped {f = f} e l) =
+        let z : parse (length t) s ≡ fault (faultIs f) = parse-is ∙ rw e in
         unread z l
 
 -- ---- the answer
@@ -76,12 +76,12 @@ blocks-counted size at (block b ∷ l) = ap suc (blocks-counted size (at + size 
 
 -- what the reading call makes of the walk's answer
 unfoldable pub reported : Walked → Reading
-reported (Done rows blocks next) = Read rows blocks next
-reported (Stopped number offset) = Refused number offset
+reported (Done t) = Read (t .rows) (t .blocks) (t .next)
+reported (Stopped f) = Refused f
 
-pub read-answer : (s t : List ℕ) {r : Walked} {t′ : List ℕ} → ReadFile s t r t′ → readingIs (reported r) ≡ readingCall (length t) s
+pub read-answer : {s t : List ℕ} {r : Walked} {t′ : List ℕ} → ReadFile s t r t′ → readingIs (reported r) ≡ readingCall (length t) s
 unfolding readingCall ofFile readingOf blocksOf placedRecords prototypesOf reported
-read-answer s t (read f {rows = rows} {n = n} e k l) =
+read-answer (read f {rows = rows} {n = n} e k l) =
     let rowsAre : rows ≡ distinctIds (defineAll (f .records) []) =
     k .holds .count ∙ ap distinctIds (bare-all (λ r. length (recordBytes r)) (length (f .header .raw)) (f .records) []) in
     let blocksAre = blocks-counted (λ r. length (recordBytes r)) (length (f .header .raw)) (f .records) in
@@ -89,9 +89,9 @@ read-answer s t (read f {rows = rows} {n = n} e k l) =
   where
     made : ℕ → ℕ → ReadingOf
     made a b = record { prototypes = a; blocks = b; next = n }
-read-answer s t (unread e l) = rw e
+read-answer (unread e l) = rw e
 
 -- the table keeps its length, so that it is cleared whole
-pub read-size : (s t : List ℕ) {r : Walked} {t′ : List ℕ} → ReadFile s t r t′ → length t′ ≡ length t
-read-size s t (read f e k l) = l
-read-size s t (unread e l) = l
+pub read-size : {s t : List ℕ} {r : Walked} {t′ : List ℕ} → ReadFile s t r t′ → length t′ ≡ length t
+read-size (read f e k l) = l
+read-size (unread e l) = l

@@ -1,23 +1,24 @@
 -- What the walks over a file's records know of it.
 use mathlib.Core.Path.{_≡_}
 use Prim.Native.Nat.{ℕ, suc, _+_, _/_, _≤_, _<_}
-use mathlib.Core.Option.{Option, Option·map}
+use mathlib.Core.Option.{Option·map}
 use mathlib.Core.List.{List, [], _∷_, _++_, map}
 use lib.ListN.{length, drop}
-use Rattle.bsii_format.specs.Replies.{Fault}
-use Rattle.bsii_format.specs.Reader.{Result, ok, fault, faultAt, _>>=_}
+use Rattle.bsii_format.specs.Reader.{Result, ok, fault, _>>=_}
 use Rattle.bsii_format.specs.Strings.{idParser}
 use Rattle.bsii_format.specs.Prototypes.{Prototype, Fields, fieldsParser}
 use Rattle.bsii_format.specs.Blocks.{dataValuesParser, findBy}
-use Rattle.bsii_format.specs.File.{Record, prototype, block, defining, carrying, headParser, recordBytes, Records, recordsFrom, BsiiFile, parse}
+use Rattle.bsii_format.specs.File.{Record, prototype, block, defining, carrying, headParser, recordBytes, Records, recordsFrom, BsiiFile, lengthLimit, parse}
 use Rattle.bsii_format.specs.Calls.{Placed, placed, placedRecords, consPrototype, prototypesIn}
-use Rattle.bsii_value.specs.Answers.{endOf}
+use Rattle.bsii_value.specs.Answers.{faultIs, endOf}
+use Rattle.bsii_value.specs.declared.answers.Refusal.{Refusal}
 use Rattle.bsii_value.specs.declared.answers.Parsed.{Parsed}
 use Rattle.bsii_table.specs.Rows.{Row, lookup, Rows}
 use Rattle.bsii_table.specs.Relation.{Holds}
 use Rattle.bsii_parse.specs.declared.walk.Progress.{Progress}
 use Rattle.bsii_parse.specs.declared.walk.Step.{Step}
 use Rattle.bsii_parse.specs.declared.walk.Step.the-variants.{Go, End, Refused}
+use Rattle.bsii_parse.specs.declared.walk.Totals.{Totals}
 use Rattle.bsii_parse.specs.declared.walk.Walked.{Walked}
 use Rattle.bsii_parse.specs.declared.walk.Walked.the-variants.{Done, Fault as Stopped}
 
@@ -75,7 +76,7 @@ pub record Kept (s t : List ℕ) (rows : ℕ) (env : List (Placed Prototype)) : 
 
 -- what it needs: the file within the length limit, a position in it, the table's rows
 pub record Ready (s : List ℕ) (p : Progress) (t : List ℕ) : Type 0 where
-  pub short : length s ≤ 16_777_216
+  pub short : length s ≤ lengthLimit
   pub inside : p .at ≤ length s
   pub counted : p .blocks ≤ p .at
   pub rows : Rows t (p .rows)
@@ -88,7 +89,7 @@ pub data Steps (s : List ℕ) (p : Progress) (t : List ℕ) (env : List (Placed 
       → p .at < n → n ≤ length s → n ≡ p .at + length (recordBytes i) → Kept s t′ rows (consPrototype (p .at) i env) → length t′ ≡ length t
       → Steps s p t env (Go (record { at = n; rows = rows; blocks = p .blocks + blockCount (i ∷ []) })) t′
   ended : {l : List ℕ} {n : ℕ} → recordsAt (length t / 3) (bare env) (p .at) s ≡ ok (record { records = []; end = l }) n (drop n s) → Steps s p t env (End n) t
-  refused : {k o : ℕ} {t′ : List ℕ} → recordsAt (length t / 3) (bare env) (p .at) s ≡ faultAt k o → length t′ ≡ length t → Steps s p t env (Refused k o) t′
+  refused : {f : Refusal} {t′ : List ℕ} → recordsAt (length t / 3) (bare env) (p .at) s ≡ fault (faultIs f) → length t′ ≡ length t → Steps s p t env (Refused f) t′
 
 pub record Stepped (s : List ℕ) (p : Progress) (t : List ℕ) (r : Step) (t′ : List ℕ) : Type 0 where
   pub steps : (env : List (Placed Prototype)) → Kept s t (p .rows) env → Steps s p t env r t′
@@ -103,13 +104,17 @@ pub record Carrying (s : List ℕ) (p : Progress) (t : List ℕ) (id at : ℕ) (
 
 -- ---- the whole walk from `start` on, and the whole file: the table holds the definitions of what was read
 
+-- what the walk has found of records that end at n
+abbrev pub totalsOf : ℕ → List Record → ℕ → Totals
+totalsOf rows l n = record { rows = rows; blocks = blockCount l; next = n }
+
 pub data Walks (s : List ℕ) (start : ℕ) (t : List ℕ) : Walked → List ℕ → Type 0 where
   done : (q : Records) {rows n : ℕ} {t′ : List ℕ} → recordsAt (length t / 3) [] start s ≡ ok q n (drop n s)
       → Kept s t′ rows (prototypesIn (placed (λ r. length (recordBytes r)) start (q .records)) []) → length t′ ≡ length t
-      → Walks s start t (Done rows (blockCount (q .records)) n) t′
-  stopped : {k o : ℕ} {t′ : List ℕ} → recordsAt (length t / 3) [] start s ≡ faultAt k o → length t′ ≡ length t → Walks s start t (Stopped k o) t′
+      → Walks s start t (Done (totalsOf rows (q .records) n)) t′
+  stopped : {f : Refusal} {t′ : List ℕ} → recordsAt (length t / 3) [] start s ≡ fault (faultIs f) → length t′ ≡ length t → Walks s start t (Stopped f) t′
 
 pub data ReadFile (s : List ℕ) (t : List ℕ) : Walked → List ℕ → Type 0 where
   read : (f : BsiiFile) {rows n : ℕ} {t′ : List ℕ} → parse (length t) s ≡ ok f n (drop n s) → Kept s t′ rows (prototypesIn (placedRecords f) [])
-      → length t′ ≡ length t → ReadFile s t (Done rows (blockCount (f .records)) n) t′
-  unread : {k o : ℕ} {t′ : List ℕ} → parse (length t) s ≡ faultAt k o → length t′ ≡ length t → ReadFile s t (Stopped k o) t′
+      → length t′ ≡ length t → ReadFile s t (Done (totalsOf rows (f .records) n)) t′
+  unread : {f : Refusal} {t′ : List ℕ} → parse (length t) s ≡ fault (faultIs f) → length t′ ≡ length t → ReadFile s t (Stopped f) t′

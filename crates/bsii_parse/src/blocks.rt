@@ -17,7 +17,7 @@ pub fn values_parser(s: &[u8], fields: usize, start: usize) -> Parsed
         let entry = value_prototype_past(s, field);
         match entry {
             Entry::Last(_) => return Parsed::Next(at),
-            Entry::Bad { number, offset } => return Parsed::Fault { number, offset },
+            Entry::Bad(f) => return Parsed::Fault(f),
             Entry::Field {
                 type_id,
                 name: _,
@@ -26,7 +26,7 @@ pub fn values_parser(s: &[u8], fields: usize, start: usize) -> Parsed
             } => {
                 let value = value_parser(s, at, type_id);
                 match value {
-                    Parsed::Fault { number, offset } => return Parsed::Fault { number, offset },
+                    Parsed::Fault(f) => return Parsed::Fault(f),
                     Parsed::Next(end) => {
                         at = end;
                         field = next;
@@ -43,7 +43,7 @@ pub fn data_block_parser(s: &[u8], fields: usize, at: usize) -> Parsed
 {
     let id = id_parser(s, at);
     match id {
-        Parsed::Fault { number, offset } => Parsed::Fault { number, offset },
+        Parsed::Fault(f) => Parsed::Fault(f),
         Parsed::Next(next) => values_parser(s, fields, next),
     }
 }

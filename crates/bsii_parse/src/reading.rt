@@ -4,6 +4,10 @@ use crate::walk::walk;
 use bsii_prototype::answers::Header;
 use bsii_prototype::heads::header_parser;
 use bsii_table::clear;
+use bsii_value::answers::INPUT_LONG;
+use bsii_value::answers::LENGTH_LIMIT;
+use bsii_value::answers::Refusal;
+use bsii_value::answers::refused;
 ghost use mathlib.Core.Path.{_≡_};
 ghost use lib.ListN.{length};
 ghost use Rattle.bsii_format.specs.Calls.{readingCall, tableAfter};
@@ -17,25 +21,19 @@ pub enum Reading {
         blocks: usize,
         next: usize,
     },
-    Refused {
-        number: u32,
-        offset: usize,
-    },
+    Refused(Refusal),
 }
 
 // The file, with the last definition of each id left in the table for a look-up: the caller clears it.
 pub fn bsii_parser(file: &[u8], table: &mut [u32]) -> Walked
     ensures { λ r. ⌜ ReadFile (now (file .entry)) (now (table .entry)) r (now (table .exit)) ⌝ }
 {
-    if 16_777_216 < file.len() {
-        return Walked::Fault {
-            number: 12,
-            offset: 0,
-        };
+    if LENGTH_LIMIT < file.len() {
+        return Walked::Fault(refused(INPUT_LONG, 0));
     }
     let header = header_parser(file);
     match header {
-        Header::BadHeader { number, offset } => return Walked::Fault { number, offset },
+        Header::BadHeader(f) => return Walked::Fault(f),
         Header::Version(_) => return walk(file, 8, table),
     }
 }
@@ -47,11 +45,11 @@ pub fn parse(file: &[u8], table: &mut [u32]) -> Reading
     let walked = bsii_parser(file, table);
     clear(table);
     match walked {
-        Walked::Done { rows, blocks, next } => Reading::Read {
-            prototypes: rows,
-            blocks,
-            next,
+        Walked::Done(t) => Reading::Read {
+            prototypes: t.rows,
+            blocks: t.blocks,
+            next: t.next,
         },
-        Walked::Fault { number, offset } => Reading::Refused { number, offset },
+        Walked::Fault(f) => Reading::Refused(f),
     }
 }

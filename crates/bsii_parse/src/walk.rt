@@ -10,12 +10,16 @@ use bsii_table::Found;
 use bsii_table::define;
 use bsii_table::find;
 use bsii_value::answers::Parsed;
+use bsii_value::answers::Refusal;
+use bsii_value::answers::TABLE_FULL;
+use bsii_value::answers::UNDEFINED_PROTOTYPE;
+use bsii_value::answers::refused;
 use bsii_value::numbers::size;
 ghost use Prim.Native.Nat.{_≤_};
 ghost use lib.ListN.{length};
 ghost use mathlib.Core.Path.{_≡_};
 ghost use lib.ListN.{drop};
-ghost use Rattle.bsii_format.specs.Reader.{ok};
+ghost use Rattle.bsii_format.specs.File.{lengthLimit};
 ghost use Rattle.bsii_parse.specs.Walks.{Ready, Defining, Carrying, Stepped, Walks, StandingEnd};
 
 // How far the walk is: the next record's offset, the table's rows, and the blocks so far.
@@ -28,24 +32,24 @@ pub struct Progress {
 pub enum Step {
     Go(Progress),
     End(usize),
-    Refused { number: u32, offset: usize },
+    Refused(Refusal),
+}
+
+// What the whole walk has found: the table's rows, the blocks, and the offset behind the end record.
+pub struct Totals {
+    pub rows: usize,
+    pub blocks: usize,
+    pub next: usize,
 }
 
 pub enum Walked {
-    Done {
-        rows: usize,
-        blocks: usize,
-        next: usize,
-    },
-    Fault {
-        number: u32,
-        offset: usize,
-    },
+    Done(Totals),
+    Fault(Refusal),
 }
 
-// A file's offsets fit the table's words, since a file has at most 16,777,216 bytes.
+// A file's offsets fit the table's words, by the length limit.
 fn word(x: usize) -> u32
-    requires { ⌜ x ≤ 16_777_216 ⌝ }
+    requires { ⌜ x ≤ lengthLimit ⌝ }
     ensures { λ r. ⌜ r ≡ x ⌝ }
 {
     x as u32
@@ -61,14 +65,11 @@ fn prototype_step(s: &[u8], p: Progress, table: &mut [u32], id: u32, fields: usi
     let blocks = p.blocks;
     let list = fields_parser(s, fields);
     match list {
-        Counted::Fault { number, offset } => return Step::Refused { number, offset },
+        Counted::Fault(f) => return Step::Refused(f),
         Counted::Fields { count: _, next } => {
             let defined = define(table, rows, id, word(at));
             match defined {
-                Defined::Full => return Step::Refused {
-                    number: 10,
-                    offset: at,
-                },
+                Defined::Full => return Step::Refused(refused(TABLE_FULL, at)),
                 Defined::Rows(held) => return Step::Go(Progress {
                     at: next,
                     rows: held,
@@ -85,7 +86,7 @@ pub fn block_parser(s: &[u8], prototype: usize, at: usize) -> Parsed
 {
     let fields = fields_at(s, prototype);
     match fields {
-        Parsed::Fault { number, offset } => Parsed::Fault { number, offset },
+        Parsed::Fault(f) => Parsed::Fault(f),
         Parsed::Next(first) => data_block_parser(s, first, at),
     }
 }
@@ -99,14 +100,11 @@ fn block_step(s: &[u8], p: Progress, table: &[u32], id: u32, id_at: usize) -> St
     let rows = p.rows;
     let found = find(table, rows, id);
     match found {
-        Found::Nothing => return Step::Refused {
-            number: 6,
-            offset: at,
-        },
+        Found::Nothing => return Step::Refused(refused(UNDEFINED_PROTOTYPE, at)),
         Found::At { in_force, last: _ } => {
             let parsed = block_parser(s, size(in_force), id_at);
             match parsed {
-                Parsed::Fault { number, offset } => return Step::Refused { number, offset },
+                Parsed::Fault(f) => return Step::Refused(f),
                 Parsed::Next(next) => return Step::Go(Progress {
                     at: next,
                     rows,
@@ -124,7 +122,7 @@ pub fn record_step(s: &[u8], p: Progress, table: &mut [u32]) -> Step
     let head = head_parser(s, p.at);
     match head {
         Head::End(next) => return Step::End(next),
-        Head::BadHead { number, offset } => return Step::Refused { number, offset },
+        Head::BadHead(f) => return Step::Refused(f),
         Head::Prototype { id, name: _, next } => return prototype_step(s, p, table, id, next),
         Head::Block { id, next } => return block_step(s, p, table, id, next),
     }
@@ -132,7 +130,7 @@ pub fn record_step(s: &[u8], p: Progress, table: &mut [u32]) -> Step
 
 // The records from `start` on, with an empty table.
 pub fn walk(s: &[u8], start: usize, table: &mut [u32]) -> Walked
-    requires { ⌜ (length (now s) ≤ 16_777_216) × (start ≤ length (now s)) ⌝ }
+    requires { ⌜ (length (now s) ≤ lengthLimit) × (start ≤ length (now s)) ⌝ }
     ensures { λ r. ⌜ Walks (now (s .entry)) start (now (table .entry)) r (now (table .exit)) ⌝ }
 {
     let mut p = Progress {
@@ -143,12 +141,12 @@ pub fn walk(s: &[u8], start: usize, table: &mut [u32]) -> Walked
     loop {
         let step = record_step(s, p, table);
         match step {
-            Step::End(next) => return Walked::Done {
+            Step::End(next) => return Walked::Done(Totals {
                 rows: p.rows,
                 blocks: p.blocks,
                 next,
-            },
-            Step::Refused { number, offset } => return Walked::Fault { number, offset },
+            }),
+            Step::Refused(f) => return Walked::Fault(f),
             Step::Go(further) => {
                 p = further;
             }

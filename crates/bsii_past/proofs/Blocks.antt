@@ -6,18 +6,18 @@ use lib.ListN.{drop}
 use Rattle.bsii_format.specs.Reader.{ok, Consumed, success, _>>=_}
 use Rattle.bsii_format.specs.Prototypes.{ValuePrototype}
 use Rattle.bsii_format.specs.Blocks.{DataValue, dataValue, dataValueParser, dataValuesParser}
-use Rattle.bsii_format.proofs.Readers.{after-ok, ok-val, ok-at, ok-rest}
+use Rattle.bsii_format.proofs.Readers.{after-ok, ok-val, ok-at, ok-rest, at-value}
 use Rattle.bsii_format.proofs.Parsers.{dataValue-exact}
 use Rattle.bsii_format.proofs.Positions.{moved}
+use Rattle.bsii_format.proofs.Follows.{Follows, Any, map-follows, consumed-follows}
 use Rattle.bsii_value.specs.Answers.{endOf}
 use Rattle.bsii_value.specs.declared.answers.Parsed.the-variants.{Next}
 use Rattle.bsii_past.specs.Unchecked.{uncheckedValue}
-use Rattle.bsii_past.proofs.Follows.{at-value, Follows, next, map-follows, consumed-follows}
-use Rattle.bsii_past.proofs.Values.{value-follows}
+use Rattle.bsii_past.proofs.Values.{next, value-follows}
 
-pub data-value-follows : (t : ℕ) → Follows (dataValueParser t) (uncheckedValue t)
+pub data-value-follows : (t : ℕ) → Follows Any (dataValueParser t) (uncheckedValue t)
 unfolding dataValueParser
-data-value-follows t = map-follows (dataValue t) (consumed-follows (value-follows t))
+data-value-follows t = map-follows (consumed-follows (value-follows t)) (dataValue t)
 
 pub data-value-same : (t at : ℕ) (s : List ℕ) {v : DataValue} {n : ℕ} {r : List ℕ} → dataValueParser t at s ≡ ok v n r → endOf (uncheckedValue t at s) ≡ Next n
 data-value-same t = next (data-value-follows t)

@@ -1,23 +1,18 @@
 -- The unchecked readers are exact too: what they pass they took from the front of the bytes.
 use Prim.Native.Nat.{ℕ}
 use mathlib.Core.Option.{Option, none, some}
-use mathlib.Core.List.{List}
 use lib.Dec.{eqb}
 use Rattle.bsii_format.specs.Replies.{unlistedType}
 use Rattle.bsii_format.specs.Reader.{Reader}
 use Rattle.bsii_format.specs.Types.{width, arity, Kind, numbers, string, encodedString, id, Shape, one, many, shapeOf}
-use Rattle.bsii_format.proofs.Readers.{Exact, bind-exact, fail-exact, map-exact, repeat-exact, cond-exact, bytes-exact}
+use Rattle.bsii_format.proofs.Readers.{Exact, bind-exact, fail-exact, map-exact, repeat-exact, cond-exact}
 use Rattle.bsii_format.proofs.Parsers.{number-exact}
-use Rattle.bsii_value.specs.Answers.{uncheckedStr}
+use Rattle.bsii_value.proofs.Unchecked.{unchecked-str-exact}
 use Rattle.bsii_past.specs.Unchecked.{skip, uncheckedId, uncheckedElement, uncheckedArray, uncheckedShape, uncheckedValue}
 
 skip-exact : {A : Type 0} {R : Reader A} → Exact A R → Exact (Unit {0}) (skip R)
 unfolding skip
 skip-exact h = map-exact _ h
-
-pub unchecked-str-exact : Exact (List ℕ) uncheckedStr
-unfolding uncheckedStr
-unchecked-str-exact = bind-exact _ (number-exact 4) bytes-exact
 
 pub unchecked-id-exact : Exact (Unit {0}) uncheckedId
 unfolding uncheckedId

@@ -5,6 +5,8 @@
 // (proofs/Values).
 use bsii_value::answers::Num;
 use bsii_value::answers::Parsed;
+use bsii_value::answers::UNLISTED_TYPE;
+use bsii_value::answers::refused;
 use bsii_value::numbers::le_u8;
 use bsii_value::numbers::le_u32;
 use bsii_value::numbers::size;
@@ -18,8 +20,9 @@ use bsii_value::values::numbers_past;
 use bsii_value::values::numeric_past;
 ghost use mathlib.Core.Path.{_≡_};
 ghost use lib.ListN.{drop};
+ghost use Rattle.bsii_format.specs.Replies.{unlistedType};
 ghost use Rattle.bsii_format.specs.Reader.{repeat};
-ghost use Rattle.bsii_value.specs.Answers.{endOf};
+ghost use Rattle.bsii_value.specs.Answers.{refusedAt, endOf};
 ghost use Rattle.bsii_value.specs.Kinds.{kindIs};
 ghost use Rattle.bsii_past.specs.Unchecked.{uncheckedId, uncheckedElement, uncheckedArray, uncheckedValue};
 
@@ -28,7 +31,7 @@ pub fn id_past(s: &[u8], at: usize) -> Parsed
 {
     let count = le_u8(s, at);
     match count {
-        Num::Short(offset) => Parsed::Fault { number: 3, offset },
+        Num::Short(f) => Parsed::Fault(f),
         Num::Got(n, next) => {
             if n == 0xff {
                 return numbers_past(s, next, 1, 8);
@@ -62,9 +65,7 @@ fn walk_past(s: &[u8], start: usize, count: u32, kind: Kind) -> Parsed
             Parsed::Next(next) => {
                 at = next;
             }
-            Parsed::Fault { number, offset } => {
-                return Parsed::Fault { number, offset };
-            }
+            Parsed::Fault(f) => return Parsed::Fault(f),
         }
         left -= 1;
     }
@@ -87,16 +88,16 @@ pub fn array_past(s: &[u8], at: usize, kind: Kind) -> Parsed
 {
     let count = le_u32(s, at);
     match count {
-        Num::Short(offset) => Parsed::Fault { number: 3, offset },
+        Num::Short(f) => Parsed::Fault(f),
         Num::Got(n, next) => elements_past(s, next, n, kind),
     }
 }
 
 // A type that is not listed has no length that could be guessed.
 fn unlisted(offset: usize) -> Parsed
-    ensures { λ r. ⌜ r ≡ Parsed.Fault 7 offset ⌝ }
+    ensures { λ r. ⌜ r ≡ Parsed.Fault (refusedAt unlistedType offset) ⌝ }
 {
-    Parsed::Fault { number: 7, offset }
+    Parsed::Fault(refused(UNLISTED_TYPE, offset))
 }
 
 pub fn value_past(s: &[u8], at: usize, type_id: u32) -> Parsed

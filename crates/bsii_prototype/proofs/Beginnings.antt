@@ -17,10 +17,11 @@ use Rattle.bsii_format.specs.Strings.{strParser}
 use Rattle.bsii_format.specs.File.{Head, ending, defining, carrying, markParser, headParser, headerParser}
 use Rattle.bsii_format.proofs.Readers.{after-ok, cond-ok, ok-at, ok-rest}
 use Rattle.bsii_format.proofs.Positions.{bytes-at, bytes-short, bind-ok, bind-fault, verify-ok, verify-not, verify-fault}
+use Rattle.bsii_format.proofs.Follows.{again}
 use Rattle.bsii_value.specs.Answers.{uncheckedStr, endOf}
 use Rattle.bsii_value.specs.declared.answers.Parsed.the-variants.{Next}
+use Rattle.bsii_value.proofs.Unchecked.{str-follows}
 use Rattle.bsii_prototype.specs.Entries.{markedParser, uncheckedHead}
-use Rattle.bsii_prototype.proofs.Agrees.{str-agrees}
 use Rattle.bsii_prototype.proofs.Names.{Front, bytes-front, number-front, bytes-join}
 
 -- ---- equal bytes
@@ -155,7 +156,7 @@ module _ (at : ℕ) (s : List ℕ) {id : ℕ} {name : List ℕ} {next : ℕ} {re
       let five = bytes-front 5 at s (bytes-join 4 1 at s f g) in
       let nine = bytes-join 5 4 at s five (number-front 4 j u (p .3) .1) in
       let v : q .0 ≡ name = cc in
-      bind-ok (bytes 9) (λ h. uncheckedStr) nine ∙ str-agrees .reads (p .1) (p .2) (q .3) ∙ ap₂ (λ (i : ℕ) (l : List ℕ). ok (q .0) i l) (ok-at (q .4)) (ok-rest (q .4)) ∙ ap (λ (l : List ℕ). ok l next rest) v
+      bind-ok (bytes 9) (λ h. uncheckedStr) nine ∙ again str-follows (p .1) (p .2) (q .3) ∙ ap₂ (λ (i : ℕ) (l : List ℕ). ok (q .0) i l) (ok-at (q .4)) (ok-rest (q .4)) ∙ ap (λ (l : List ℕ). ok l next rest) v
 
   past-zero : {k i : ℕ} {t : List ℕ} → number 4 at s ≡ ok k i t → (b : Bool) → cond b markedParser (success (carrying k)) i t ≡ ok (defining id name) next rest
       → uncheckedHead at s ≡ ok name next rest

@@ -8,16 +8,16 @@ use mathlib.Core.List.{List, []}
 use lib.ListN.{length, drop}
 use lib.Dec.{eqb}
 use borrow.Author.Tests.{eq-eqb, ne-eqb}
-use Rattle.bsii_format.specs.Replies.{Fault as Refusal, malformed}
+use Rattle.bsii_format.specs.Replies.{Fault as Refused, malformed}
 use Rattle.bsii_format.specs.Reader.{Result, ok, fault, faultAt, Reader, after, _>>=_, success, _<$>_, bytes, repeat}
 use Rattle.bsii_format.specs.Numbers.{number}
 use Rattle.bsii_format.specs.Prototypes.{EnumValue, ValuePrototype}
 use Rattle.bsii_format.proofs.Readers.{Exact, bind-exact, success-exact, cond-exact, repeat-exact}
 use Rattle.bsii_format.proofs.Parsers.{number-exact}
 use Rattle.bsii_format.proofs.Positions.{bind-ok, bind-fault, ended-map}
-use Rattle.bsii_value.specs.Answers.{endOf}
-use Rattle.bsii_value.proofs.Ends.{alike}
-use Rattle.bsii_value.specs.declared.answers.Parsed.{Parsed}
+use Rattle.bsii_value.specs.Answers.{faultIs, refusalIs, endOf}
+use Rattle.bsii_value.proofs.Ends.{alike, next≢fault, fault-at}
+use Rattle.bsii_value.specs.declared.answers.Refusal.{Refusal}
 use Rattle.bsii_value.specs.declared.answers.Parsed.the-variants.{Next, Fault}
 use Rattle.bsii_prototype.proofs.Names.{Text, named, number-front}
 use Rattle.bsii_prototype.specs.Entries.{enumValueWith, enumValuesWith, definitionWith, entryWith}
@@ -27,26 +27,18 @@ use Rattle.bsii_prototype.specs.declared.answers.Entry.the-variants.{Fie
 
 -- ---- from an answer back to the result
 
-next≢fault : {P : Type 0} {n k p : ℕ} → _≡_ {A = Parsed} (Next n) (Fault k p) → P
-next≢fault e = let z : _≡_ {A = ℕ} 0 1 = cc in let f : ⊥ = omega arith in absurd f
-
 pub next-is : {A : Type 0} (q : Result A) {n : ℕ} → Next n ≡ endOf q → (v : A) × (r : List ℕ) × (q ≡ ok v n r)
 unfolding endOf
 next-is (ok a i r) {n} e = let j : n ≡ i = cc in (a, r, ap (λ (k : ℕ). ok a k r) (sym j))
 next-is (fault f) e = next≢fault e
 
-pub fault-is : {A : Type 0} (q : Result A) {k p : ℕ} → Fault k p ≡ endOf q → q ≡ faultAt k p
-unfolding endOf
-fault-is (ok a i r) e = next≢fault (sym e)
-fault-is (fault f) {k} {p} e = let a : k ≡ f .number = cc in let b : p ≡ f .offset = cc in rw (a, b)
-
 pub field≢last : {P : Type 0} {t a b n m : ℕ} → _≡_ {A = Entry} (Field t a b n) (Last m) → P
 field≢last e = let z : _≡_ {A = ℕ} 0 1 = cc in let f : ⊥ = omega arith in absurd f
 
-pub field≢bad : {P : Type 0} {t a b n k p : ℕ} → _≡_ {A = Entry} (Field t a b n) (Bad k p) → P
+pub field≢bad : {P : Type 0} {t a b n : ℕ} {f : Refusal} → _≡_ {A = Entry} (Field t a b n) (Bad f) → P
 field≢bad e = let z : _≡_ {A = ℕ} 0 1 = cc in let f : ⊥ = omega arith in absurd f
 
-pub last≢bad : {P : Type 0} {m k p : ℕ} → _≡_ {A = Entry} (Last m) (Bad k p) → P
+pub last≢bad : {P : Type 0} {m : ℕ} {f : Refusal} → _≡_ {A = Entry} (Last m) (Bad f) → P
 last≢bad e = let z : _≡_ {A = ℕ} 0 1 = cc in let f : ⊥ = omega arith in absurd f
 
 pub record FieldIs (name : ℕ) (q : Result (Option ValuePrototype)) (t a b n : ℕ) : Type 0 where
@@ -71,16 +63,16 @@ last-is name (ok none i r) {n} e = let j : n ≡ i = cc in (r, ap (λ (k : ℕ).
 last-is name (ok (some d) i r) e = field≢last (sym e)
 last-is name (fault f) e = last≢bad e
 
-pub bad-is : (name : ℕ) (q : Result (Option ValuePrototype)) {k p : ℕ} → Bad k p ≡ entryOf name q → q ≡ faultAt k p
+pub bad-is : (name : ℕ) (q : Result (Option ValuePrototype)) {f : Refusal} → Bad f ≡ entryOf name q → q ≡ fault (faultIs f)
 unfolding entryOf
 bad-is name (ok none i r) e = last≢bad (sym e)
 bad-is name (ok (some d) i r) e = field≢bad (sym e)
-bad-is name (fault f) {k} {p} e = let a : k ≡ f .number = cc in let b : p ≡ f .offset = cc in rw (a, b)
+bad-is name (fault x) {f} e = let a : refusalIs x ≡ f = cc in ap (λ (f : Refusal). fault (faultIs f)) a
 
 -- ---- the parts of an entry
 
 module _ (S : Reader (List ℕ)) (at : ℕ) (s : List ℕ) where
-  pub pair-short : {x : Refusal} → number 4 at s ≡ fault x → enumValueWith S at s ≡ fault x
+  pub pair-short : {x : Refused} → number 4 at s ≡ fault x → enumValueWith S at s ≡ fault x
   unfolding enumValueWith
   pair-short e = bind-fault (number 4) _ e
 
@@ -100,18 +92,18 @@ module _ (S : Reader (List ℕ)) (at : ℕ) (s : List ℕ) where
     unfolding enumValuesWith
     list-reads = rw (eq-eqb t 0x37 h)
 
-    pub list-short : {x : Refusal} → number 4 at s ≡ fault x → enumValuesWith S t at s ≡ fault x
+    pub list-short : {x : Refused} → number 4 at s ≡ fault x → enumValuesWith S t at s ≡ fault x
     list-short e = list-reads ∙ bind-fault (number 4) (λ n. repeat n (enumValueWith S)) e
 
     pub list-more : {k n : ℕ} {r : List ℕ} → number 4 at s ≡ ok k n r → enumValuesWith S t at s ≡ repeat k (enumValueWith S) n r
     list-more e = list-reads ∙ bind-ok (number 4) (λ n. repeat n (enumValueWith S)) e
 
-  pub definition-cut : (t : ℕ) {x : Refusal} → S at s ≡ fault x → definitionWith S t at s ≡ fault x
+  pub definition-cut : (t : ℕ) {x : Refused} → S at s ≡ fault x → definitionWith S t at s ≡ fault x
   unfolding definitionWith
   definition-cut t e = bind-fault S _ e
 
   module _ (t : ℕ) {v : List ℕ} {n : ℕ} {r : List ℕ} (e : S at s ≡ ok v n r) where
-    pub definition-bad : {x : Refusal} → enumValuesWith S t n r ≡ fault x → definitionWith S t at s ≡ fault x
+    pub definition-bad : {x : Refused} → enumValuesWith S t n r ≡ fault x → definitionWith S t at s ≡ fault x
     unfolding definitionWith
     definition-bad h = bind-ok S _ e ∙ bind-fault (enumValuesWith S t) _ h
 
@@ -120,7 +112,7 @@ module _ (S : Reader (List ℕ)) (at : ℕ) (s : List ℕ) where
     unfolding definitionWith success
     definition-whole h = bind-ok S _ e ∙ bind-ok (enumValuesWith S t) _ h
 
-  pub entry-short : {x : Refusal} → number 4 at s ≡ fault x → entryWith S at s ≡ fault x
+  pub entry-short : {x : Refused} → number 4 at s ≡ fault x → entryWith S at s ≡ fault x
   unfolding entryWith
   entry-short e = bind-fault (number 4) _ e
 
@@ -161,9 +153,9 @@ module _ {S : Reader (List ℕ)} (x : Exact (List ℕ) S) where
 -- ---- the answers of the code
 
 module _ {S : Reader (List ℕ)} (x : Text S) (s : List ℕ) (at t : ℕ) where
-  pub name-bad : {k p : ℕ} → Fault k p ≡ endOf (S at (drop at s)) → Bad k p ≡ entryOf (at + 4) (definitionWith S t at (drop at s))
+  pub name-bad : {f : Refusal} → Fault f ≡ endOf (S at (drop at s)) → Bad f ≡ entryOf (at + 4) (definitionWith S t at (drop at s))
   unfolding entryOf
-  name-bad e = sym (ap (entryOf (at + 4)) (definition-cut S at (drop at s) t (fault-is (S at (drop at s)) e)))
+  name-bad e = sym (ap (entryOf (at + 4)) (definition-cut S at (drop at s) t (fault-at (S at (drop at s)) e)))
 
   module _ {m : ℕ} (e : Next m ≡ endOf (S at (drop at s))) where
     string : (v : List ℕ) × (S at (drop at s) ≡ ok v m (drop m s))
@@ -172,9 +164,9 @@ module _ {S : Reader (List ℕ)} (x : Text S) (s : List ℕ) (at t : ℕ) where
     pub name-fits : at + 4 ≤ length s
     name-fits = let n = named x s at (string .1) in omega (arith, n .end, n .inside)
 
-    pub list-bad : {k p : ℕ} → Fault k p ≡ endOf (enumValuesWith S t m (drop m s)) → Bad k p ≡ entryOf (at + 4) (definitionWith S t at (drop at s))
+    pub list-bad : {f : Refusal} → Fault f ≡ endOf (enumValuesWith S t m (drop m s)) → Bad f ≡ entryOf (at + 4) (definitionWith S t at (drop at s))
     unfolding entryOf
-    list-bad h = sym (ap (entryOf (at + 4)) (definition-bad S at (drop at s) t (string .1) (fault-is (enumValuesWith S t m (drop m s)) h)))
+    list-bad h = sym (ap (entryOf (at + 4)) (definition-bad S at (drop at s) t (string .1) (fault-at (enumValuesWith S t m (drop m s)) h)))
 
     pub field-whole : {n : ℕ} → Next n ≡ endOf (enumValuesWith S t m (drop m s)) → Field t (at + 4) m n ≡ entryOf (at + 4) (definitionWith S t at (drop at s))
     unfolding entryOf

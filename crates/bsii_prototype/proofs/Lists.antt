@@ -7,11 +7,13 @@ use native.Mathlib.Omega.{arith}
 use mathlib.Core.Option.{Option, none, some}
 use mathlib.Core.List.{List, [], _∷_}
 use lib.ListN.{length, take, drop, length-append}
-use Rattle.bsii_format.specs.Replies.{Fault as Refusal, malformed}
+use Rattle.bsii_format.specs.Replies.{Fault as Refused, malformed}
 use Rattle.bsii_format.specs.Reader.{Result, ok, fault, faultAt, Reader, after, _>>=_, success, fail, _<$>_, Consumed, with, consumed}
 use Rattle.bsii_format.specs.Prototypes.{ValuePrototype, Fields as FieldList, consField, fieldsThen}
 use Rattle.bsii_format.proofs.Readers.{Exact, consumed-took, takes}
 use Rattle.bsii_format.proofs.Positions.{moved, moved-on}
+use Rattle.bsii_value.specs.Answers.{refusalIs}
+use Rattle.bsii_value.specs.declared.answers.Refusal.{Refusal}
 use Rattle.bsii_prototype.specs.Entries.{entryWith, fieldsFromWith, fieldsWith}
 use Rattle.bsii_prototype.specs.declared.answers.Counted.{Counted}
 use Rattle.bsii_prototype.specs.declared.answers.Counted.the-variants.{Fields, Fault}
@@ -34,7 +36,7 @@ pub consumed-ok : {A : Type 0} (R : Reader A) {at : ℕ} {s : List ℕ} {a : A} 
 unfolding consumed after
 consumed-ok R e = rw e
 
-consumed-fault : {A : Type 0} (R : Reader A) {at : ℕ} {s : List ℕ} {x : Refusal} → R at s ≡ fault x → consumed R at s ≡ fault x
+consumed-fault : {A : Type 0} (R : Reader A) {at : ℕ} {s : List ℕ} {x : Refused} → R at s ≡ fault x → consumed R at s ≡ fault x
 unfolding consumed after
 consumed-fault R e = rw e
 
@@ -84,7 +86,7 @@ module _ (S : Reader (List ℕ)) (x : Exact (List ℕ) S) where
     unfolding after fieldsThen
     fields-more e = fields-unfold at s ∙ ap (λ q. after q (λ e. fieldsThen (fieldsWith S) (e .value) (e .raw))) (consumed-ok (entryWith S) e)
 
-    pub fields-bad : {f : Refusal} → entryWith S at s ≡ fault f → fieldsWith S at s ≡ fault f
+    pub fields-bad : {f : Refused} → entryWith S at s ≡ fault f → fieldsWith S at s ≡ fault f
     unfolding after
     fields-bad e = fields-unfold at s ∙ ap (λ q. after q (λ e. fieldsThen (fieldsWith S) (e .value) (e .raw))) (consumed-fault (entryWith S) e)
 
@@ -93,7 +95,7 @@ module _ (S : Reader (List ℕ)) (x : Exact (List ℕ) S) where
 -- the answer, with k definitions in front
 unfoldable pub countFrom : ℕ → Result FieldList → Counted
 countFrom k (ok l n r) = Fields (k + length (l .fields)) n
-countFrom k (fault f) = Fault (f .number) (f .offset)
+countFrom k (fault f) = Fault (refusalIs f)
 
 pub count-zero : (q : Result FieldList) → countFrom 0 q ≡ countOf q
 unfolding countFrom countOf
@@ -130,6 +132,6 @@ module _ (S : Reader (List ℕ)) (x : Exact (List ℕ) S) (s : List ℕ) (at : �
       let z : k ≡ k + 0 = omega arith in
       ap (λ (m : ℕ). Fields m n) z ∙ sym (ap (countFrom k) (fields-last S x at (drop at s) (f .1)))
 
-  pub count-bad : (k : ℕ) {m p : ℕ} → Bad m p ≡ entryOf (at + 8) (entryWith S at (drop at s)) → Fault m p ≡ countFrom k (fieldsWith S at (drop at s))
+  pub count-bad : (k : ℕ) {f : Refusal} → Bad f ≡ entryOf (at + 8) (entryWith S at (drop at s)) → Fault f ≡ countFrom k (fieldsWith S at (drop at s))
   unfolding countFrom
   count-bad k e = sym (ap (countFrom k) (fields-bad S x at (drop at s) (bad-is (at + 8) (entryWith S at (drop at s)) e)))

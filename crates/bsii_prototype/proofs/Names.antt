@@ -9,11 +9,12 @@ use lib.Dec.{leb, leb→le, le→leb}
 use Rattle.bsii_format.specs.Reader.{ok, Reader, _>>=_, bytes}
 use Rattle.bsii_format.specs.Numbers.{littleEndian, number}
 use Rattle.bsii_format.specs.Strings.{strParser}
-use Rattle.bsii_format.proofs.Readers.{Exact, after-ok, cond-ok, map-ok, is-true, ok-val, ok-at, ok-rest, bind-exact, bytes-exact}
+use Rattle.bsii_format.proofs.Readers.{Exact, after-ok, cond-ok, map-ok, is-true, ok-val, ok-at, ok-rest}
 use Rattle.bsii_format.proofs.Parsers.{number-exact, str-exact}
 use Rattle.bsii_format.proofs.Positions.{moved}
+use Rattle.bsii_format.proofs.Follows.{Follows, Same, again, itself}
 use Rattle.bsii_value.specs.Answers.{uncheckedStr}
-use Rattle.bsii_prototype.proofs.Agrees.{Agrees, itself, str-agrees}
+use Rattle.bsii_value.proofs.Unchecked.{str-follows, unchecked-str-exact}
 
 pub record Front (w at : ℕ) (s : List ℕ) (v : List ℕ) (n : ℕ) (r : List ℕ) : Type 0 where
   pub whole : w ≤ length s
@@ -46,14 +47,13 @@ bytes-join m w at s {n = n} {t = t} {r = r} f g =
 
 pub record Text (S : Reader (List ℕ)) : Type 0 where
   pub exact : Exact (List ℕ) S
-  pub agrees : Agrees (List ℕ) S uncheckedStr
+  pub follows : Follows Same S uncheckedStr
 
 pub checked : Text strParser
-checked = record { exact = str-exact; agrees = str-agrees }
+checked = record { exact = str-exact; follows = str-follows }
 
 pub unchecked : Text uncheckedStr
-unfolding uncheckedStr
-unchecked = record { exact = bind-exact _ (number-exact 4) (λ n. bytes-exact n); agrees = itself uncheckedStr }
+unchecked = record { exact = unchecked-str-exact; follows = itself uncheckedStr }
 
 -- the string v, read at `at`, lies from at + 4 to n
 pub record Named (s : List ℕ) (at : ℕ) (v : List ℕ) (n : ℕ) (r : List ℕ) : Type 0 where
@@ -82,4 +82,4 @@ unchecked-named s at {v} {n} {r} e =
     }
 
 pub named : {S : Reader (List ℕ)} → Text S → (s : List ℕ) (at : ℕ) {v : List ℕ} {n : ℕ} {r : List ℕ} → S at (drop at s) ≡ ok v n r → Named s at v n r
-named t s at e = unchecked-named s at (t .agrees .reads at (drop at s) e)
+named t s at e = unchecked-named s at (again (t .follows) at (drop at s) e)

@@ -15,11 +15,13 @@ use Rattle.bsii_format.specs.Prototypes.{EnumValue, ValuePrototype, enumValuesP
 use Rattle.bsii_format.proofs.Readers.{after-ok, fault≢ok, ok-val, ok-at, ok-rest, map-ok}
 use Rattle.bsii_format.proofs.Parsers.{number-exact, str-exact, valuePrototype-exact}
 use Rattle.bsii_format.proofs.Positions.{moved, moved-on}
+use Rattle.bsii_format.proofs.Follows.{again}
 use Rattle.bsii_value.specs.Answers.{uncheckedStr}
+use Rattle.bsii_value.specs.declared.answers.Refusal.{Refusal}
 use Rattle.bsii_prototype.specs.Entries.{enumValuesWith, definitionWith, entryWith, fieldsWith}
 use Rattle.bsii_prototype.specs.Answers.{entryOf, countOf}
 use Rattle.bsii_prototype.specs.declared.answers.Entry.the-variants.{Field, Last, Bad}
-use Rattle.bsii_prototype.proofs.Agrees.{entry-agrees, fields-agree, checked-entry, checked-enum-values, checked-fields}
+use Rattle.bsii_prototype.proofs.Unchecked.{entry-follows, fields-follow, checked-entry, checked-enum-values, checked-fields}
 use Rattle.bsii_prototype.proofs.Names.{named, checked, number-front}
 use Rattle.bsii_prototype.proofs.Entries.{field≢last, field≢bad, last≢bad, entry-none}
 use Rattle.bsii_prototype.proofs.Lists.{fields-last, fields-more, fields-bad}
@@ -129,7 +131,7 @@ pub record FieldTurn (s : List ℕ) (at t a b next : ℕ) (l : Fields) (n : ℕ)
 module _ (s : List ℕ) (at : ℕ) {l : Fields} {n : ℕ} {r : List ℕ} (read : fieldsParser at (drop at s) ≡ ok l n r) where
   unchecked-entry : {o : Option ValuePrototype} {i : ℕ} {q : List ℕ} → valuePrototypeParser at (drop at s) ≡ ok o i q
       → entryOf (at + 8) (entryWith uncheckedStr at (drop at s)) ≡ entryOf (at + 8) (ok o i q)
-  unchecked-entry e = ap (entryOf (at + 8)) (entry-agrees .reads at (drop at s) e)
+  unchecked-entry e = ap (entryOf (at + 8)) (again entry-follows at (drop at s) e)
 
   pub turn-field : {t a b next : ℕ} → Field t a b next ≡ entryOf (at + 8) (entryWith uncheckedStr at (drop at s)) → FieldTurn s at t a b next l n r
   unfolding entryOf consField
@@ -168,7 +170,7 @@ module _ (s : List ℕ) (at : ℕ) {l : Fields} {n : ℕ} {r : List ℕ} (read :
       go (step d i m f g h) = field≢last (sym (e ∙ unchecked-entry f))
 
   -- what was accepted is not refused
-  pub turn-bad : {P : Type 0} {k p : ℕ} → Bad k p ≡ entryOf (at + 8) (entryWith uncheckedStr at (drop at s)) → P
+  pub turn-bad : {P : Type 0} {f : Refusal} → Bad f ≡ entryOf (at + 8) (entryWith uncheckedStr at (drop at s)) → P
   unfolding entryOf
   turn-bad {P} e = go (turn s at read)
     where
@@ -180,7 +182,7 @@ module _ (s : List ℕ) (at : ℕ) {l : Fields} {n : ℕ} {r : List ℕ} (read :
 
 pub entry-again : (s : List ℕ) (at : ℕ) {o : Option ValuePrototype} {n : ℕ} {r : List ℕ} → valuePrototypeParser at (drop at s) ≡ ok o n r
     → entryOf (at + 8) (entryWith uncheckedStr at (drop at s)) ≡ entryOf (at + 8) (valuePrototypeParser at (drop at s))
-entry-again s at e = ap (entryOf (at + 8)) (entry-agrees .reads at (drop at s) e ∙ sym e)
+entry-again s at e = ap (entryOf (at + 8)) (again entry-follows at (drop at s) e ∙ sym e)
 
 pub fields-again : (at : ℕ) (s : List ℕ) {l : Fields} {n : ℕ} {r : List ℕ} → fieldsParser at s ≡ ok l n r → countOf (fieldsWith uncheckedStr at s) ≡ countOf (fieldsParser at s)
-fields-again at s e = ap countOf (fields-agree .reads at s e ∙ sym e)
+fields-again at s e = ap countOf (again fields-follow at s e ∙ sym e)

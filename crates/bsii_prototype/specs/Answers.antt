@@ -3,9 +3,10 @@ use Prim.Native.Nat.{ℕ, _+_, _-_}
 use mathlib.Core.Option.{Option, none, some}
 use mathlib.Core.List.{List}
 use lib.ListN.{length, take, drop}
-use Rattle.bsii_format.specs.Reader.{Result, ok, fault, faultAt}
+use Rattle.bsii_format.specs.Reader.{Result, ok, fault}
 use Rattle.bsii_format.specs.Prototypes.{ValuePrototype, Fields as FieldList}
 use Rattle.bsii_format.specs.File.{Head as Heading, ending, defining, carrying}
+use Rattle.bsii_value.specs.Answers.{faultIs, refusalIs}
 use Rattle.bsii_prototype.specs.declared.answers.Entry.{Entry}
 use Rattle.bsii_prototype.specs.declared.answers.Entry.the-variants.{Field, Last, Bad}
 use Rattle.bsii_prototype.specs.declared.answers.Counted.{Counted}
@@ -19,19 +20,19 @@ use Rattle.bsii_prototype.specs.declared.answers.Header.the-variants.{Ve
 unfoldable pub entryOf : ℕ → Result (Option ValuePrototype) → Entry
 entryOf name (ok none n r) = Last n
 entryOf name (ok (some d) n r) = Field (d .typeId) name (name + length (d .name)) n
-entryOf name (fault f) = Bad (f .number) (f .offset)
+entryOf name (fault f) = Bad (refusalIs f)
 
 unfoldable pub countOf : Result FieldList → Counted
 countOf (ok l n r) = Fields (length (l .fields)) n
-countOf (fault f) = Fault (f .number) (f .offset)
+countOf (fault f) = Fault (refusalIs f)
 
 -- a position of the file stands for the bytes from there on
 abbrev pub headIs : List ℕ → Head → Result Heading
 headIs s (End next) = ok ending next (drop next s)
 headIs s (Prototype id name next) = ok (defining id (take (next - name) (drop name s))) next (drop next s)
 headIs s (Block id next) = ok (carrying id) next (drop next s)
-headIs s (BadHead n at) = faultAt n at
+headIs s (BadHead f) = fault (faultIs f)
 
 abbrev pub headerIs : List ℕ → Header → Result ℕ
 headerIs s (Version v) = ok v 8 (drop 8 s)
-headerIs s (BadHeader n at) = faultAt n at
+headerIs s (BadHeader f) = fault (faultIs f)

@@ -1,4 +1,5 @@
 // What the readers answer: specs/Answers says what each case means.
+use bsii_value::answers::Refusal;
 
 // An entry of a list of field definitions. The name's bytes lie from name to name_end, where an enum list follows.
 pub enum Entry {
@@ -9,16 +10,13 @@ pub enum Entry {
         next: usize,
     },
     Last(usize),
-    Bad {
-        number: u32,
-        offset: usize,
-    },
+    Bad(Refusal),
 }
 
 // A whole list of field definitions: how many, and the position behind its end.
 pub enum Counted {
     Fields { count: usize, next: usize },
-    Fault { number: u32, offset: usize },
+    Fault(Refusal),
 }
 
 // How a record begins. A prototype's name lies from name to next, where its field definitions start.
@@ -26,11 +24,11 @@ pub enum Head {
     End(usize),
     Prototype { id: u32, name: usize, next: usize },
     Block { id: u32, next: usize },
-    BadHead { number: u32, offset: usize },
+    BadHead(Refusal),
 }
 
 // The records of a file start at 8.
 pub enum Header {
     Version(u32),
-    BadHeader { number: u32, offset: usize },
+    BadHeader(Refusal),
 }

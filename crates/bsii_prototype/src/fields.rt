@@ -22,8 +22,7 @@ fn str_end(s: &[u8], at: usize) -> Parsed
     let string = str_parser(s, at);
     match string {
         Str::Text { start: _, next } => Parsed::Next(next),
-        Str::Cut(offset) => Parsed::Fault { number: 3, offset },
-        Str::NotUtf8(offset) => Parsed::Fault { number: 4, offset },
+        Str::Refused(f) => Parsed::Fault(f),
     }
 }
 
@@ -32,7 +31,7 @@ pub fn enum_value_parser(s: &[u8], at: usize) -> Parsed
 {
     let value = le_u32(s, at);
     match value {
-        Num::Short(offset) => Parsed::Fault { number: 3, offset },
+        Num::Short(f) => Parsed::Fault(f),
         Num::Got(_, next) => str_end(s, next),
     }
 }
@@ -48,9 +47,7 @@ fn enum_list(s: &[u8], start: usize, count: u32) -> Parsed
             Parsed::Next(next) => {
                 at = next;
             }
-            Parsed::Fault { number, offset } => {
-                return Parsed::Fault { number, offset };
-            }
+            Parsed::Fault(f) => return Parsed::Fault(f),
         }
         left -= 1;
     }
@@ -66,7 +63,7 @@ pub fn enum_values_parser(s: &[u8], at: usize, type_id: u32) -> Parsed
     }
     let count = le_u32(s, at);
     match count {
-        Num::Short(offset) => Parsed::Fault { number: 3, offset },
+        Num::Short(f) => Parsed::Fault(f),
         Num::Got(n, next) => enum_list(s, next, n),
     }
 }
@@ -77,11 +74,11 @@ fn definition_parser(s: &[u8], at: usize, type_id: u32) -> Entry
 {
     let string = str_end(s, at);
     match string {
-        Parsed::Fault { number, offset } => Entry::Bad { number, offset },
+        Parsed::Fault(f) => Entry::Bad(f),
         Parsed::Next(name_end) => {
             let list = enum_values_parser(s, name_end, type_id);
             match list {
-                Parsed::Fault { number, offset } => Entry::Bad { number, offset },
+                Parsed::Fault(f) => Entry::Bad(f),
                 Parsed::Next(next) => Entry::Field {
                     type_id,
                     name: at + 4,
@@ -98,7 +95,7 @@ pub fn value_prototype_parser(s: &[u8], at: usize) -> Entry
 {
     let number = le_u32(s, at);
     match number {
-        Num::Short(offset) => Entry::Bad { number: 3, offset },
+        Num::Short(f) => Entry::Bad(f),
         Num::Got(type_id, next) => {
             if type_id == 0 {
                 return Entry::Last(next);
@@ -126,12 +123,8 @@ pub fn fields_parser(s: &[u8], start: usize) -> Counted
                 at = next;
                 count += 1;
             }
-            Entry::Last(next) => {
-                return Counted::Fields { count, next };
-            }
-            Entry::Bad { number, offset } => {
-                return Counted::Fault { number, offset };
-            }
+            Entry::Last(next) => return Counted::Fields { count, next },
+            Entry::Bad(f) => return Counted::Fault(f),
         }
     }
 }

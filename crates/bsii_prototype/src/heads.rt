@@ -1,8 +1,12 @@
 // The header of a file, and the heads of records.
 use crate::answers::Head;
 use crate::answers::Header;
+use bsii_value::answers::INVALID_HEADER;
+use bsii_value::answers::MALFORMED;
 use bsii_value::answers::Num;
 use bsii_value::answers::Str;
+use bsii_value::answers::UNSUPPORTED_VERSION;
+use bsii_value::answers::refused;
 use bsii_value::numbers::le_u8;
 use bsii_value::numbers::le_u32;
 use bsii_value::strings::str_parser;
@@ -34,17 +38,14 @@ pub fn header_parser(s: &[u8]) -> Header
     ensures { λ r. ⌜ headerIs (now (s .entry)) r ≡ headerParser 0 (now (s .entry)) ⌝ }
 {
     if !tag(s, b"BSII") {
-        return Header::BadHeader {
-            number: 1,
-            offset: 0,
-        };
+        return Header::BadHeader(refused(INVALID_HEADER, 0));
     }
     let version = le_u32(s, 4);
     match version {
-        Num::Short(offset) => Header::BadHeader { number: 3, offset },
-        Num::Got(v, offset) => {
+        Num::Short(f) => Header::BadHeader(f),
+        Num::Got(v, next) => {
             if v == 1 {
-                return Header::BadHeader { number: 2, offset };
+                return Header::BadHeader(refused(UNSUPPORTED_VERSION, next));
             }
             Header::Version(v)
         }
@@ -57,7 +58,7 @@ fn defining_parser(s: &[u8], at: usize) -> Head
 {
     let number = le_u32(s, at);
     match number {
-        Num::Short(offset) => Head::BadHead { number: 3, offset },
+        Num::Short(f) => Head::BadHead(f),
         Num::Got(id, behind) => {
             let string = str_parser(s, behind);
             match string {
@@ -66,8 +67,7 @@ fn defining_parser(s: &[u8], at: usize) -> Head
                     name: start,
                     next,
                 },
-                Str::Cut(offset) => Head::BadHead { number: 3, offset },
-                Str::NotUtf8(offset) => Head::BadHead { number: 4, offset },
+                Str::Refused(f) => Head::BadHead(f),
             }
         }
     }
@@ -79,7 +79,7 @@ fn marked_parser(s: &[u8], at: usize) -> Head
 {
     let mark = le_u8(s, at);
     match mark {
-        Num::Short(offset) => Head::BadHead { number: 3, offset },
+        Num::Short(f) => Head::BadHead(f),
         Num::Got(m, next) => {
             if m == 0 {
                 return Head::End(next);
@@ -87,10 +87,7 @@ fn marked_parser(s: &[u8], at: usize) -> Head
             if m == 1 {
                 return defining_parser(s, next);
             }
-            Head::BadHead {
-                number: 3,
-                offset: at,
-            }
+            Head::BadHead(refused(MALFORMED, at))
         }
     }
 }
@@ -100,7 +97,7 @@ pub fn head_parser(s: &[u8], at: usize) -> Head
 {
     let number = le_u32(s, at);
     match number {
-        Num::Short(offset) => Head::BadHead { number: 3, offset },
+        Num::Short(f) => Head::BadHead(f),
         Num::Got(n, next) => {
             if n == 0 {
                 return marked_parser(s, next);

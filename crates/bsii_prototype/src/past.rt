@@ -1,8 +1,10 @@
 // Field definitions that were accepted before: their strings are not checked again.
 use crate::answers::Counted;
 use crate::answers::Entry;
+use bsii_value::answers::MALFORMED;
 use bsii_value::answers::Num;
 use bsii_value::answers::Parsed;
+use bsii_value::answers::refused;
 use bsii_value::numbers::le_u32;
 use bsii_value::numbers::left;
 use bsii_value::strings::str_past;
@@ -19,7 +21,7 @@ pub fn enum_value_past(s: &[u8], at: usize) -> Parsed
 {
     let value = le_u32(s, at);
     match value {
-        Num::Short(offset) => Parsed::Fault { number: 3, offset },
+        Num::Short(f) => Parsed::Fault(f),
         Num::Got(_, next) => str_past(s, next),
     }
 }
@@ -35,9 +37,7 @@ fn enum_list_past(s: &[u8], start: usize, count: u32) -> Parsed
             Parsed::Next(next) => {
                 at = next;
             }
-            Parsed::Fault { number, offset } => {
-                return Parsed::Fault { number, offset };
-            }
+            Parsed::Fault(f) => return Parsed::Fault(f),
         }
         left -= 1;
     }
@@ -52,7 +52,7 @@ pub fn enum_values_past(s: &[u8], at: usize, type_id: u32) -> Parsed
     }
     let count = le_u32(s, at);
     match count {
-        Num::Short(offset) => Parsed::Fault { number: 3, offset },
+        Num::Short(f) => Parsed::Fault(f),
         Num::Got(n, next) => enum_list_past(s, next, n),
     }
 }
@@ -62,11 +62,11 @@ fn definition_past(s: &[u8], at: usize, type_id: u32) -> Entry
 {
     let string = str_past(s, at);
     match string {
-        Parsed::Fault { number, offset } => Entry::Bad { number, offset },
+        Parsed::Fault(f) => Entry::Bad(f),
         Parsed::Next(name_end) => {
             let list = enum_values_past(s, name_end, type_id);
             match list {
-                Parsed::Fault { number, offset } => Entry::Bad { number, offset },
+                Parsed::Fault(f) => Entry::Bad(f),
                 Parsed::Next(next) => Entry::Field {
                     type_id,
                     name: at + 4,
@@ -83,7 +83,7 @@ pub fn value_prototype_past(s: &[u8], at: usize) -> Entry
 {
     let number = le_u32(s, at);
     match number {
-        Num::Short(offset) => Entry::Bad { number: 3, offset },
+        Num::Short(f) => Entry::Bad(f),
         Num::Got(type_id, next) => {
             if type_id == 0 {
                 return Entry::Last(next);
@@ -110,12 +110,8 @@ pub fn fields_past(s: &[u8], start: usize) -> Counted
                 at = next;
                 count += 1;
             }
-            Entry::Last(next) => {
-                return Counted::Fields { count, next };
-            }
-            Entry::Bad { number, offset } => {
-                return Counted::Fault { number, offset };
-            }
+            Entry::Last(next) => return Counted::Fields { count, next },
+            Entry::Bad(f) => return Counted::Fault(f),
         }
     }
 }
@@ -125,7 +121,7 @@ pub fn fields_at(s: &[u8], offset: usize) -> Parsed
     ensures { λ r. ⌜ r ≡ endOf (uncheckedHead offset (drop offset (now (s .entry)))) ⌝ }
 {
     if left(s, offset) < 9 {
-        return Parsed::Fault { number: 3, offset };
+        return Parsed::Fault(refused(MALFORMED, offset));
     }
     str_past(s, offset + 9)
 }

@@ -5,8 +5,10 @@ pub mod Keys
 pub mod Sequences
 pub mod Ends
 pub mod Texts
+pub mod Unchecked
 pub mod Base38
 pub mod Words
 pub mod TypeTable
 pub mod NumberRows
+pub mod NumbersAt
 pub mod Elements

@@ -10,7 +10,7 @@ use Rattle.bsii_format.specs.Reader.{ok, faultAt, repeat}
 use Rattle.bsii_format.specs.Numbers.{number}
 use Rattle.bsii_format.proofs.Positions.{numbers-at, numbers-short}
 use Rattle.bsii_value.specs.Answers.{endOf}
-use Rattle.bsii_value.specs.declared.answers.Parsed.the-variants.{Next, Fault}
+use Rattle.bsii_value.specs.declared.answers.Parsed.the-variants.{Next}
 use Rattle.bsii_value.proofs.Ends.{answer}
 
 -- as many as fit are no longer than what is left
@@ -32,8 +32,7 @@ module _ (s : List ℕ) (at n w : ℕ) where
       let k : at ≡ at + n * w = omega arith in
       ap Next k ∙ row-whole (omega arith)
 
-  pub row-short : (l : ℕ) → l ≡ length s - at → 0 < w → l / w < n → Fault 3 (at + l / w * w) ≡ endOf (repeat n (number w) at (drop at s))
-  unfolding endOf
-  row-short l e p h =
-      ap (λ (l : ℕ). Fault 3 (at + l / w * w)) e
+  pub row-short : {l : ℕ} → l ≡ length s - at → 0 < w → l / w < n → endOf {A = Unit {0}} (faultAt malformed (at + l / w * w)) ≡ endOf (repeat n (number w) at (drop at s))
+  row-short e p h =
+      ap (λ (l : ℕ). endOf {A = Unit {0}} (faultAt malformed (at + l / w * w))) e
       ∙ answer (repeat n (number w) at (drop at s)) (faultAt malformed (at + (length s - at) / w * w)) (numbers-short n w s at p (rw e at h))

@@ -1,6 +1,8 @@
 // Little-endian numbers.
+use crate::answers::MALFORMED;
 use crate::answers::Num;
 use crate::answers::Num64;
+use crate::answers::refused;
 ghost use mathlib.Core.Path.{_≡_};
 ghost use Prim.Native.Nat.{_+_, _-_, _≤_, _<_};
 ghost use lib.ListN.{length, take, drop};
@@ -37,18 +39,9 @@ pub fn le_u8(s: &[u8], at: usize) -> Num
     ensures { λ r. ⌜ numOf (now (s .entry)) r ≡ number 1 at (drop at (now (s .entry))) ⌝ }
 {
     if left(s, at) < 1 {
-        return Num::Short(at);
+        return Num::Short(refused(MALFORMED, at));
     }
     Num::Got(wide(s[at]), at + 1)
-}
-
-pub fn le_u16(s: &[u8], at: usize) -> Num
-    ensures { λ r. ⌜ numOf (now (s .entry)) r ≡ number 2 at (drop at (now (s .entry))) ⌝ }
-{
-    if left(s, at) < 2 {
-        return Num::Short(at);
-    }
-    Num::Got(wide(s[at]) + wide(s[at + 1]) * 0x100, at + 2)
 }
 
 // Four bytes that are there.
@@ -67,7 +60,7 @@ pub fn le_u32(s: &[u8], at: usize) -> Num
     ensures { λ r. ⌜ numOf (now (s .entry)) r ≡ number 4 at (drop at (now (s .entry))) ⌝ }
 {
     if left(s, at) < 4 {
-        return Num::Short(at);
+        return Num::Short(refused(MALFORMED, at));
     }
     Num::Got(quad(s, at), at + 4)
 }
@@ -76,7 +69,7 @@ pub fn le_u64(s: &[u8], at: usize) -> Num64
     ensures { λ r. ⌜ numOf64 (now (s .entry)) r ≡ number 8 at (drop at (now (s .entry))) ⌝ }
 {
     if left(s, at) < 8 {
-        return Num64::Short64(at);
+        return Num64::Short64(refused(MALFORMED, at));
     }
     let low = wide64(quad(s, at));
     let high = wide64(quad(s, at + 4));

@@ -1,9 +1,13 @@
 // Strings, encoded words and ids.
+use crate::answers::MALFORMED;
+use crate::answers::NOT_UTF8;
 use crate::answers::Num;
 use crate::answers::Num64;
 use crate::answers::Parsed;
 use crate::answers::Str;
 use crate::answers::Word;
+use crate::answers::ZERO_DIGIT;
+use crate::answers::refused;
 use crate::numbers::le_u8;
 use crate::numbers::le_u32;
 use crate::numbers::le_u64;
@@ -23,17 +27,17 @@ pub fn str_parser(s: &[u8], at: usize) -> Str
 {
     let length = le_u32(s, at);
     match length {
-        Num::Short(offset) => Str::Cut(offset),
+        Num::Short(f) => Str::Refused(f),
         Num::Got(n, start) => {
             let count = size(n);
             if left(s, start) < count {
-                return Str::Cut(start);
+                return Str::Refused(refused(MALFORMED, start));
             }
             let next = start + count;
             if is_utf8(&s[start..next]) {
                 Str::Text { start, next }
             } else {
-                Str::NotUtf8(start)
+                Str::Refused(refused(NOT_UTF8, start))
             }
         }
     }
@@ -45,8 +49,7 @@ pub(crate) fn str_end(s: &[u8], at: usize) -> Parsed
     let text = str_parser(s, at);
     match text {
         Str::Text { start: _, next } => Parsed::Next(next),
-        Str::Cut(offset) => Parsed::Fault { number: 3, offset },
-        Str::NotUtf8(offset) => Parsed::Fault { number: 4, offset },
+        Str::Refused(f) => Parsed::Fault(f),
     }
 }
 
@@ -56,14 +59,11 @@ pub fn str_past(s: &[u8], at: usize) -> Parsed
 {
     let length = le_u32(s, at);
     match length {
-        Num::Short(offset) => Parsed::Fault { number: 3, offset },
+        Num::Short(f) => Parsed::Fault(f),
         Num::Got(n, start) => {
             let count = size(n);
             if left(s, start) < count {
-                return Parsed::Fault {
-                    number: 3,
-                    offset: start,
-                };
+                return Parsed::Fault(refused(MALFORMED, start));
             }
             Parsed::Next(start + count)
         }
@@ -103,13 +103,13 @@ pub fn encoded_str_parser(s: &[u8], at: usize) -> Word
 {
     let word = le_u64(s, at);
     match word {
-        Num64::Short64(offset) => Word::CutWord(offset),
+        Num64::Short64(f) => Word::Refused(f),
         Num64::Got64(n, next) => {
             let low = n % 0x8000_0000_0000_0000;
             if spelled(low) {
                 Word::Low63(low, next)
             } else {
-                Word::ZeroDigit(at)
+                Word::Refused(refused(ZERO_DIGIT, at))
             }
         }
     }
@@ -121,8 +121,7 @@ pub(crate) fn word_past(s: &[u8], at: usize) -> Parsed
     let word = encoded_str_parser(s, at);
     match word {
         Word::Low63(_, next) => Parsed::Next(next),
-        Word::CutWord(offset) => Parsed::Fault { number: 3, offset },
-        Word::ZeroDigit(offset) => Parsed::Fault { number: 5, offset },
+        Word::Refused(f) => Parsed::Fault(f),
     }
 }
 
@@ -137,9 +136,7 @@ fn words_past(s: &[u8], start: usize, count: u32) -> Parsed
             Parsed::Next(next) => {
                 at = next;
             }
-            Parsed::Fault { number, offset } => {
-                return Parsed::Fault { number, offset };
-            }
+            Parsed::Fault(f) => return Parsed::Fault(f),
         }
         left -= 1;
     }
@@ -150,10 +147,7 @@ fn u64_past(s: &[u8], at: usize) -> Parsed
     ensures { λ r. ⌜ r ≡ endOf (number 8 at (drop at (now (s .entry)))) ⌝ }
 {
     if left(s, at) < 8 {
-        return Parsed::Fault {
-            number: 3,
-            offset: at,
-        };
+        return Parsed::Fault(refused(MALFORMED, at));
     }
     Parsed::Next(at + 8)
 }
@@ -163,7 +157,7 @@ pub fn id_parser(s: &[u8], at: usize) -> Parsed
 {
     let count = le_u8(s, at);
     match count {
-        Num::Short(offset) => Parsed::Fault { number: 3, offset },
+        Num::Short(f) => Parsed::Fault(f),
         Num::Got(n, next) => {
             if n == 0xff {
                 return u64_past(s, next);

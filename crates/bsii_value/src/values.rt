@@ -1,6 +1,9 @@
 // Values by type.
+use crate::answers::MALFORMED;
 use crate::answers::Num;
 use crate::answers::Parsed;
+use crate::answers::UNLISTED_TYPE;
+use crate::answers::refused;
 use crate::numbers::le_u32;
 use crate::numbers::left;
 use crate::numbers::size;
@@ -34,10 +37,7 @@ pub fn numbers_past(s: &[u8], at: usize, count: usize, width: usize) -> Parsed
     }
     let whole = left(s, at) / width;
     if whole < count {
-        return Parsed::Fault {
-            number: 3,
-            offset: at + whole * width,
-        };
+        return Parsed::Fault(refused(MALFORMED, at + whole * width));
     }
     Parsed::Next(at + count * width)
 }
@@ -82,9 +82,7 @@ fn elements_past(s: &[u8], start: usize, count: u32, kind: Kind) -> Parsed
             Parsed::Next(next) => {
                 at = next;
             }
-            Parsed::Fault { number, offset } => {
-                return Parsed::Fault { number, offset };
-            }
+            Parsed::Fault(f) => return Parsed::Fault(f),
         }
         left -= 1;
     }
@@ -96,7 +94,7 @@ fn array_parser(s: &[u8], at: usize, kind: Kind) -> Parsed
 {
     let count = le_u32(s, at);
     match count {
-        Num::Short(offset) => Parsed::Fault { number: 3, offset },
+        Num::Short(f) => Parsed::Fault(f),
         Num::Got(n, next) => match kind {
             Kind::Numbers(form) => numbers_past(
                 s,
@@ -122,9 +120,6 @@ pub fn value_parser(s: &[u8], at: usize, type_id: u32) -> Parsed
             Kind::Id => id_parser(s, at),
         },
         Shape::Many(kind) => array_parser(s, at, kind),
-        Shape::Unlisted => Parsed::Fault {
-            number: 7,
-            offset: at,
-        },
+        Shape::Unlisted => Parsed::Fault(refused(UNLISTED_TYPE, at)),
     }
 }

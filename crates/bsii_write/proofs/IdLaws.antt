@@ -15,8 +15,8 @@ use Rattle.bsii_format.specs.Strings.{low63, spelled, characters, encodedStrPar
 use Rattle.bsii_format.specs.Digits.{hexadecimal, hexPadded}
 use Rattle.bsii_format.specs.Text.{groups, dotted, idText}
 use Rattle.bsii_format.proofs.Readers.{after-ok, map-ok, cond-ok, is-true, ok-val, ok-at, ok-rest}
-use Rattle.bsii_float.specs.NumbersAt.{numberAt}
-use Rattle.bsii_float.proofs.NumbersAt.{split, number-is, number-moves}
+use Rattle.bsii_value.specs.NumbersAt.{numberAt}
+use Rattle.bsii_value.proofs.NumbersAt.{split, number-is, number-moves}
 use Rattle.bsii_write.specs.Words.{spelling}
 use Rattle.bsii_window.specs.Window.{Wrote}
 use Rattle.bsii_window.proofs.Laws.{lt-or-le, being, same}

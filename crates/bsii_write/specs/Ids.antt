@@ -7,7 +7,7 @@ use Rattle.bsii_format.specs.Ascii.{ascii}
 use Rattle.bsii_format.specs.Reader.{ok}
 use Rattle.bsii_format.specs.Strings.{low63, Id, idParser}
 use Rattle.bsii_format.specs.Text.{idText}
-use Rattle.bsii_float.specs.NumbersAt.{numberAt}
+use Rattle.bsii_value.specs.NumbersAt.{numberAt}
 use Rattle.bsii_window.specs.Window.{Wrote}
 use Rattle.bsii_write.specs.Words.{spelling}
 

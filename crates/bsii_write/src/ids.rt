@@ -1,7 +1,7 @@
 // Ids.
 use crate::words::write_word;
-use bsii_float::numbers::u8_at;
-use bsii_float::numbers::u64_at;
+use bsii_value::at::u8_at;
+use bsii_value::at::u64_at;
 use bsii_window::digits::fill_hex;
 use bsii_window::digits::hex_count;
 use bsii_window::window::Place;

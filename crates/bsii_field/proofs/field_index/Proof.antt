@@ -1,3 +1,5 @@
+-- `field_index`: Outer invariant: of the definitions, `index` are passed, none of them of that name; measure: what is left of the file behind them.
+-- Inner invariant: the first i bytes of the two names are equal; measure: the bytes left.
 use borrow.Author.Needs.{needs}
 use mathlib.Core.Path.{_≡_, refl, sym, _∙_}
 use native.Mathlib.Omega.{arith}
@@ -22,7 +24,7 @@ abbrev μ-definitions : tie.MeasureT-definitions
 μ-definitions s fields name field₀ index₀ field index = length s - field
 
 definitions-holds : tie.Need-definitions-holds Inv-loop μ-loop Inv-definitions μ-definitions
-definitions-holds c = let a = c .before .before .args in (omega arith, seek-start (now (a .s)) (a .fields) (now (a .name)))
+definitions-holds c = (omega arith, seek-start)
 
 value-prototype-past-requires :
     tie.Need-value-prototype-past-requires Inv-loop μ-loop Inv-definitions μ-definitions
@@ -34,12 +36,11 @@ enum-known-entry c = search needs
 returns : tie.Need-returns Inv-loop μ-loop Inv-definitions μ-definitions
 returns c =
     let d = c .before .before in
-    let a = d .before .before .before .args in
     let x = d .definitions in
     let e = c .before .value-prototype-past .ensures in
     unfielded (c .before .value-prototype-past .result) (c .match .keys2)
-    (λ n z. seek-last (now (a .s)) (a .fields) (now (a .name)) (x .field) (x .index) (x .inv .1) (sym z ∙ e))
-    (λ n o z. seek-bad (now (a .s)) (a .fields) (now (a .name)) (x .field) (x .index) (x .inv .1) (sym z ∙ e) _)
+    (λ n z. seek-last (x .inv .1) (sym z ∙ e))
+    (λ f z. seek-bad (x .inv .1) (sym z ∙ e) _)
 
 add-index : tie.Need-add-index Inv-loop μ-loop Inv-definitions μ-definitions
 add-index c =
@@ -76,7 +77,7 @@ definitions-again c =
     let e = sym (k .before .entry .given .1) ∙ k .before .before .before .value-prototype-past .ensures in
     let x = d .definitions in
     let other = size-other s (now (a .name)) (g .1 .0) (g .1 .1 .0) (let z = field-inside s (x .field) e in (z .2, z .3)) (c .if1 .taken) in
-    (omega (arith, field-inside s (x .field) e), seek-on s (a .fields) (now (a .name)) (x .field) (x .index) (x .inv .1) e other)
+    (omega (arith, field-inside s (x .field) e), seek-on (x .inv .1) e other)
 
 loop-holds : tie.Need-loop-holds Inv-loop μ-loop Inv-definitions μ-definitions
 loop-holds c = (omega arith, refl)
@@ -124,7 +125,7 @@ definitions-again-2 c =
     let x = d .definitions in
     let l = c .before .before .before .before in
     let other = byte-other s (now (a .name)) (g .1 .0) (g .1 .1 .0) (l .loop .i) (omega arith) (c .if2 .taken) in
-    (omega (arith, field-inside s (x .field) e), seek-on s (a .fields) (now (a .name)) (x .field) (x .index) (x .inv .1) e other)
+    (omega (arith, field-inside s (x .field) e), seek-on (x .inv .1) e other)
 
 add-i : tie.Need-add-i Inv-loop μ-loop Inv-definitions μ-definitions
 add-i c = omega arith
@@ -153,7 +154,7 @@ returns-2 c =
     let e = sym (k .before .entry .given .1) ∙ k .before .before .before .value-prototype-past .ensures in
     let x = d .definitions in
     let l = c .before .loop in
-    seek-here s (a .fields) (now (a .name)) (x .field) (x .index) (x .inv .1) e (bytes-all s (now (a .name)) (g .1 .0) (g .1 .1 .0) (l .i) (l .inv .1) (omega arith) (omega arith))
+    seek-here (x .inv .1) e (bytes-all s (now (a .name)) (g .1 .0) (g .1 .1 .0) (l .i) (l .inv .1) (omega arith) (omega arith))
 
 pub field-index-spec : {M : Type 1} → statement M
 field-index-spec =

@@ -1,3 +1,5 @@
+-- `value_at`: Invariant: of the values under the definitions, `passed` are passed, and the others stand from here on. Measure: what is left of the
+-- file behind the definitions passed.
 use borrow.Author.Needs.{needs}
 use mathlib.Core.Path.{sym, _∙_}
 use native.Mathlib.Omega.{arith}
@@ -16,7 +18,7 @@ abbrev μ-loop : tie.MeasureT-loop
 μ-loop s fields start index field₀ at₀ passed₀ field at passed = length s - field
 
 loop-holds : tie.Need-loop-holds Inv-loop μ-loop
-loop-holds c = let a = c .before .args in (omega arith, go-start (now (a .s)) (a .fields) (a .start) (a .index))
+loop-holds c = (omega arith, go-start)
 
 value-prototype-past-requires : tie.Need-value-prototype-past-requires Inv-loop μ-loop
 value-prototype-past-requires c κs = search needs
@@ -27,12 +29,11 @@ enum-known-entry c = search needs
 returns : tie.Need-returns Inv-loop μ-loop
 returns c =
     let l = c .before .before in
-    let a = l .before .before .args in
     let x = l .loop in
     let e = c .before .value-prototype-past .ensures in
     unfielded (c .before .value-prototype-past .result) (c .match .keys2)
-    (λ n z. go-last (now (a .s)) (a .fields) (a .start) (a .index) (x .field) (x .at) (x .passed) (x .inv .1) (sym z ∙ e))
-    (λ n o z. go-bad (now (a .s)) (a .fields) (a .start) (a .index) (x .field) (x .at) (x .passed) (x .inv .1) (sym z ∙ e))
+    (λ n z. go-last (x .inv .1) (sym z ∙ e))
+    (λ f z. go-bad (x .inv .1) (sym z ∙ e))
 
 value-past-requires : tie.Need-value-past-requires Inv-loop μ-loop
 value-past-requires c κs = search needs
@@ -47,19 +48,17 @@ returns-2 : tie.Need-returns-2 Inv-loop μ-loop
 returns-2 c =
     let k = c .before .before .before in
     let l = k .before .before .before .before in
-    let a = l .before .before .args in
     let x = l .loop in
     let e = sym (k .before .entry .given .1) ∙ k .before .before .before .value-prototype-past .ensures in
-    go-fault (now (a .s)) (a .fields) (a .start) (a .index) (x .field) (x .at) (x .passed) (x .inv .1) e (sym (c .enum-told .given .1) ∙ c .before .before .value-past .ensures)
+    go-fault (x .inv .1) e (sym (c .enum-told .given .1) ∙ c .before .before .value-past .ensures)
 
 returns-3 : tie.Need-returns-3 Inv-loop μ-loop
 returns-3 c =
     let k = c .before .before .before .before .before in
     let l = k .before .before .before .before in
-    let a = l .before .before .args in
     let x = l .loop in
     let e = sym (k .before .entry .given .1) ∙ k .before .before .before .value-prototype-past .ensures in
-    go-here (now (a .s)) (a .fields) (a .start) (a .index) (x .field) (x .at) (x .passed) (x .inv .1) e (sym (c .before .before .value .given .1) ∙ c .before .before .before .before .value-past .ensures) (c .if1 .taken)
+    go-here (x .inv .1) e (sym (c .before .before .value .given .1) ∙ c .before .before .before .before .value-past .ensures) (c .if1 .taken)
 
 add-passed : tie.Need-add-passed Inv-loop μ-loop
 add-passed c = omega arith
@@ -77,10 +76,9 @@ loop-again : tie.Need-loop-again Inv-loop μ-loop
 loop-again c =
     let k = c .before .before .before .before .before in
     let l = k .before .before .before .before in
-    let a = l .before .before .args in
     let x = l .loop in
     let e = sym (k .before .entry .given .1) ∙ k .before .before .before .value-prototype-past .ensures in
-    (omega arith, go-on (now (a .s)) (a .fields) (a .start) (a .index) (x .field) (x .at) (x .passed) (x .inv .1) e (sym (c .before .before .value .given .1) ∙ c .before .before .before .before .value-past .ensures) (omega arith))
+    (omega arith, go-on (x .inv .1) e (sym (c .before .before .value .given .1) ∙ c .before .before .before .before .value-past .ensures) (omega arith))
 
 pub value-at-spec : {M : Type 1} → statement M
 value-at-spec =

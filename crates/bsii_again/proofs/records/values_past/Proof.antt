@@ -1,4 +1,6 @@
-use mathlib.Core.Path.{_≡_, refl, sym, ap, _∙_}
+-- `records::values_past`: Invariant: the values from here on under the definitions from here on end where all of them do. Measure: what is left of the
+-- file behind the definitions passed.
+use mathlib.Core.Path.{sym, _∙_}
 use denote.Ref.{now}
 use borrow.Author.Needs.{needs}
 use native.Mathlib.Omega.{arith}
@@ -18,7 +20,7 @@ abbrev μ-loop : tie.MeasureT-loop
 μ-loop s fields start field₀ at₀ field at = length s - field
 
 loop-holds : tie.Need-loop-holds Inv-loop μ-loop
-loop-holds c = let a = c .before .args in past-start (now (a .s)) (a .fields) (a .start)
+loop-holds c = past-start
 
 value-prototype-past-requires : tie.Need-value-prototype-past-requires Inv-loop μ-loop
 value-prototype-past-requires c κs = search needs
@@ -28,16 +30,14 @@ enum-told c = search needs
 
 returns : tie.Need-returns Inv-loop μ-loop
 returns c = let l = c .before .before .before in
-    let a = l .before .before .args in
-    past-last (now (a .s)) (a .fields) (a .start) (l .loop .field) (l .loop .at) (l .loop .inv) (sym (c .enum-told .given .1) ∙ c .before .before .value-prototype-past .ensures)
+    past-last (l .loop .inv) (sym (c .enum-told .given .1) ∙ c .before .before .value-prototype-past .ensures)
 
 enum-known-entry : tie.Need-enum-known-entry Inv-loop μ-loop
 enum-known-entry c = search needs
 
 returns-2 : tie.Need-returns-2 Inv-loop μ-loop
 returns-2 c = let l = c .before .before .before .before in
-    let a = l .before .before .args in
-    past-bad (now (a .s)) (a .fields) (a .start) (l .loop .field) (l .loop .at) (l .loop .inv) (sym (c .before .entry .given .1) ∙ c .before .before .before .value-prototype-past .ensures) _
+    past-bad (l .loop .inv) (sym (c .before .entry .given .1) ∙ c .before .before .before .value-prototype-past .ensures) _
 
 enum-known-entry-2 : tie.Need-enum-known-entry-2 Inv-loop μ-loop
 enum-known-entry-2 c = search needs
@@ -50,9 +50,8 @@ enum-known-value c = search needs
 
 returns-3 : tie.Need-returns-3 Inv-loop μ-loop
 returns-3 c = let l = c .before .before .before .before .before .before .before .before in
-    let a = l .before .before .args in
     let e = sym (c .before .before .before .before .before .entry2 .given .1) ∙ c .before .before .before .before .before .before .before .value-prototype-past .ensures in
-    past-fault (now (a .s)) (a .fields) (a .start) (l .loop .field) (l .loop .at) (l .loop .inv) e (sym (c .before .value .given .1) ∙ c .before .before .before .value-past .ensures) _
+    past-fault (l .loop .inv) e (sym (c .before .value .given .1) ∙ c .before .before .before .value-past .ensures) _
 
 enum-known-value-2 : tie.Need-enum-known-value-2 Inv-loop μ-loop
 enum-known-value-2 c = search needs
@@ -65,9 +64,8 @@ loop-less c = let l = c .before .before .before .before .before .before .before 
 
 loop-again : tie.Need-loop-again Inv-loop μ-loop
 loop-again c = let l = c .before .before .before .before .before .before .before .before in
-    let a = l .before .before .args in
     let e = sym (c .before .before .before .before .before .entry2 .given .1) ∙ c .before .before .before .before .before .before .before .value-prototype-past .ensures in
-    past-next (now (a .s)) (a .fields) (a .start) (l .loop .field) (l .loop .at) (l .loop .inv) e (sym (c .before .value2 .given .1) ∙ c .before .before .before .value-past .ensures)
+    past-next (l .loop .inv) e (sym (c .before .value2 .given .1) ∙ c .before .before .before .value-past .ensures)
 
 pub values-past-spec : {M : Type 1} → statement M
 values-past-spec =

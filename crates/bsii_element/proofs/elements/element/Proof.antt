@@ -1,11 +1,13 @@
 use mathlib.Core.Path.{_≡_, sym, ap, _∙_}
 use mathlib.Core.Option.{Option, some}
 use denote.Ref.{now}
+use Rattle.bsii_format.specs.Replies.{refuses}
 use Rattle.bsii_format.specs.Reader.{fail}
 use Rattle.bsii_format.specs.Types.{Shape, many, shapeOf}
 use Rattle.bsii_format.specs.Values.{shapeParser, valueParser}
 use Rattle.bsii_format.specs.Calls.{ofValue, elementCall}
-use Rattle.bsii_value.specs.Answers.{endOf}
+use Rattle.bsii_value.specs.Answers.{faultIs, endOf}
+use Rattle.bsii_value.specs.declared.answers.Refusal.{Refusal}
 use Rattle.bsii_value.specs.Kinds.{kindIs, shapeIs}
 use Rattle.bsii_element.proofs.Call.{value-fault}
 use borrow.Author.Needs.{needs}
@@ -39,6 +41,9 @@ enum-known-whole c = search needs
 enum-told-2 : tie.Need-enum-told-2
 enum-told-2 c = search needs
 
+refused-requires : tie.Need-refused-requires
+refused-requires c κs = search needs
+
 returns : tie.Need-returns
 unfolding elementCall valueParser
 returns c =
@@ -63,8 +68,9 @@ returns-3 c =
 returns-4 : tie.Need-returns-4
 unfolding elementCall valueParser shapeParser fail ofValue
 returns-4 c =
-    let a = c .before .before .before .before .args in
-    ap (λ (o : Option Shape). ofValue (a .index) (shapeParser o 0 (now (a .part)))) (ap shapeIs (sym (c .enum-told2 .given .1)) ∙ c .before .before .shape-of .ensures)
+    let told = c .before in
+    let a = told .before .before .before .before .args in
+    ap (λ (f : Refusal). refuses (faultIs f)) (c .refused .ensures) ∙ ap (λ (o : Option Shape). ofValue (a .index) (shapeParser o 0 (now (a .part)))) (ap shapeIs (sym (told .enum-told2 .given .1)) ∙ told .before .before .shape-of .ensures)
 
 pub element-spec : {M : Type 1} → statement M
 element-spec =
@@ -79,6 +85,7 @@ element-spec =
     in-array-requires
     enum-known-whole
     enum-told-2
+    refused-requires
     returns
     returns-2
     returns-3

@@ -16,8 +16,8 @@ id-parser-requires c κs = search needs
 enum-known-end : tie.Need-enum-known-end
 enum-known-end c = search needs
 
-sub-t8 : tie.Need-sub-t8
-sub-t8 c =
+sub-t7 : tie.Need-sub-t7
+sub-t7 c =
     let a = c .before .before .before .before .before .args in
     id-next (now (a .s)) (a .at) (sym (c .before .end .given .1) ∙ c .before .before .before .id-parser .ensures)
 
@@ -38,4 +38,4 @@ returns-2 c =
 pub id-spec : {M : Type 1} → statement M
 id-spec =
     tie.close
-    (tie.spec id-parser-requires enum-known-end sub-t8 enum-known-end-2 returns returns-2)
+    (tie.spec id-parser-requires enum-known-end sub-t7 enum-known-end-2 returns returns-2)

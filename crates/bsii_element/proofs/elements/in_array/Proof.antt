@@ -1,8 +1,11 @@
-use mathlib.Core.Path.{_∙_}
+use mathlib.Core.Path.{ap, _∙_}
 use native.Mathlib.Omega.{arith}
 use denote.Ref.{now}
+use Rattle.bsii_format.specs.Replies.{refuses}
+use Rattle.bsii_value.specs.Answers.{faultIs}
+use Rattle.bsii_value.specs.declared.answers.Refusal.{Refusal}
 use Rattle.bsii_value.specs.Kinds.{kindIs}
-use Rattle.bsii_element.proofs.Call.{array-absent, array-element}
+use Rattle.bsii_element.proofs.Call.{array-absent, array-element, array-ends}
 use borrow.Author.Needs.{needs}
 use Rattle.bsii_element.proofs.elements.in_array.Statement.{statement}
 use Rattle.bsii_element.proofs.elements.in_array.Tie as tie
@@ -13,22 +16,43 @@ u32-at-requires c κs = search needs
 size-requires : tie.Need-size-requires
 size-requires c κs = search needs
 
+refused-requires : tie.Need-refused-requires
+refused-requires c κs = search needs
+
 returns : tie.Need-returns
-returns c = λ n e. let a = c .before .before .before .before .args in array-absent (kindIs (a .kind)) (now (a .part)) e (a .index) (omega arith)
+returns c = λ n e.
+    let a = c .before .before .before .before .before .args in
+    ap (λ (f : Refusal). refuses (faultIs f)) (c .refused .ensures) ∙ array-absent (kindIs (a .kind)) (now (a .part)) e (a .index) (omega arith)
 
-cast-start-of : tie.Need-cast-start-of
-cast-start-of c = search needs
+cast-elements-past : tie.Need-cast-elements-past
+cast-elements-past c = search needs
 
-start-of-requires : tie.Need-start-of-requires
-start-of-requires c κs = search needs
+elements-past-requires : tie.Need-elements-past-requires
+elements-past-requires c κs = search needs
+
+enum-known-start : tie.Need-enum-known-start
+enum-known-start c = search needs
 
 decode-requires : tie.Need-decode-requires
 decode-requires c κs = search needs
 
+enum-known-start-2 : tie.Need-enum-known-start-2
+enum-known-start-2 c = search needs
+
 returns-2 : tie.Need-returns-2
 returns-2 c = λ n e.
-    let a = c .before .before .before .before .before .before .args in
-    c .decode .ensures ∙ array-element (kindIs (a .kind)) (now (a .part)) e (a .index) (c .before .start-of .result) (c .before .start-of .ensures) (omega arith)
+    let started = c .before .before in
+    let walked = started .before .before in
+    let a = walked .before .before .before .before .before .args in
+    c .decode .ensures
+    ∙ array-element (kindIs (a .kind)) (now (a .part)) e (a .index) (omega arith) (walked .elements-past .ensures) (started .start .given .1)
+
+returns-3 : tie.Need-returns-3
+returns-3 c = λ n e.
+    let stopped = c .before in
+    let walked = stopped .before .before in
+    let a = walked .before .before .before .before .before .args in
+    array-ends (kindIs (a .kind)) (now (a .part)) e (a .index) (omega arith) (walked .elements-past .ensures) (stopped .start2 .given .1)
 
 pub in-array-spec : {M : Type 1} → statement M
 in-array-spec =
@@ -36,8 +60,12 @@ in-array-spec =
     (tie.spec
     u32-at-requires
     size-requires
+    refused-requires
     returns
-    cast-start-of
-    start-of-requires
+    cast-elements-past
+    elements-past-requires
+    enum-known-start
     decode-requires
-    returns-2)
+    enum-known-start-2
+    returns-2
+    returns-3)

@@ -2,9 +2,12 @@ use mathlib.Core.Path.{sym, ap, _∙_}
 use Prim.Native.Nat.{ℕ}
 use mathlib.Core.Option.{some}
 use denote.Ref.{now}
+use Rattle.bsii_format.specs.Replies.{refuses}
 use Rattle.bsii_format.specs.Types.{one}
 use Rattle.bsii_format.specs.Values.{shapeParser}
 use Rattle.bsii_format.specs.Calls.{ofValue}
+use Rattle.bsii_value.specs.Answers.{faultIs}
+use Rattle.bsii_value.specs.declared.answers.Refusal.{Refusal}
 use Rattle.bsii_value.specs.Kinds.{kindIs}
 use Rattle.bsii_value.proofs.Elements.{one-end}
 use Rattle.bsii_element.proofs.Call.{value-fault, single-first, single-other}
@@ -26,13 +29,17 @@ element-parser-requires c κs = search needs
 enum-told : tie.Need-enum-told
 enum-told c = search needs
 
+refused-requires : tie.Need-refused-requires
+refused-requires c κs = search needs
+
 enum-known-end : tie.Need-enum-known-end
 enum-known-end c = search needs
 
 returns-2 : tie.Need-returns-2
 returns-2 c =
-    let a = c .before .before .before .before .before .args in
-    single-other (kindIs (a .kind)) (now (a .part)) (a .index) (c .before .before .before .if1 .left) (sym (c .enum-told .given .1) ∙ c .before .before .element-parser .ensures)
+    let told = c .before in
+    let a = told .before .before .before .before .before .args in
+    ap (λ (f : Refusal). refuses (faultIs f)) (c .refused .ensures) ∙ single-other (kindIs (a .kind)) (now (a .part)) (a .index) (told .before .before .before .if1 .left) (sym (told .enum-told .given .1) ∙ told .before .before .element-parser .ensures)
 
 returns-3 : tie.Need-returns-3
 returns-3 c =
@@ -47,6 +54,7 @@ single-spec =
     returns
     element-parser-requires
     enum-told
+    refused-requires
     enum-known-end
     returns-2
     returns-3)

@@ -17,21 +17,21 @@ element-parser-requires c κs = search needs
 enum-known-end : tie.Need-enum-known-end
 enum-known-end c = search needs
 
-add-t9 : tie.Need-add-t9
+add-t8 : tie.Need-add-t8
 unfolding elementParser
-add-t9 c =
+add-t8 c =
+    let a = c .before .before .before .before .before .args in
+    omega (arith, string-next (now (a .s)) (a .at) (sym (c .before .end .given .1) ∙ c .before .before .before .element-parser .ensures ∙ mapped str strParser (a .at) (drop (a .at) (now (a .s)))))
+
+sub-t9 : tie.Need-sub-t9
+unfolding elementParser
+sub-t9 c =
     let a = c .before .before .before .before .before .args in
     omega (arith, string-next (now (a .s)) (a .at) (sym (c .before .end .given .1) ∙ c .before .before .before .element-parser .ensures ∙ mapped str strParser (a .at) (drop (a .at) (now (a .s)))))
 
 sub-t10 : tie.Need-sub-t10
 unfolding elementParser
 sub-t10 c =
-    let a = c .before .before .before .before .before .args in
-    omega (arith, string-next (now (a .s)) (a .at) (sym (c .before .end .given .1) ∙ c .before .before .before .element-parser .ensures ∙ mapped str strParser (a .at) (drop (a .at) (now (a .s)))))
-
-sub-t11 : tie.Need-sub-t11
-unfolding elementParser
-sub-t11 c =
     let a = c .before .before .before .before .before .args in
     omega (arith, string-next (now (a .s)) (a .at) (sym (c .before .end .given .1) ∙ c .before .before .before .element-parser .ensures ∙ mapped str strParser (a .at) (drop (a .at) (now (a .s)))))
 
@@ -55,9 +55,9 @@ text-spec =
     (tie.spec
     element-parser-requires
     enum-known-end
-    add-t9
+    add-t8
+    sub-t9
     sub-t10
-    sub-t11
     enum-known-end-2
     returns
     returns-2)

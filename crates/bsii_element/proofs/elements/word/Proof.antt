@@ -21,9 +21,6 @@ enum-known-read c = search needs
 enum-known-read-2 : tie.Need-enum-known-read-2
 enum-known-read-2 c = search needs
 
-enum-known-read-3 : tie.Need-enum-known-read-3
-enum-known-read-3 c = search needs
-
 returns : tie.Need-returns
 unfolding elementParser decoded datumOf
 returns c =
@@ -36,20 +33,7 @@ returns-2 c =
     let a = c .before .before .before .before .before .args in
     sym (ap (decoded (a .at)) (map-fault word encodedStrParser (a .at) (drop (a .at) (now (a .s))) (sym (c .before .before .before .encoded-str-parser .ensures) ∙ ap (wordOf (now (a .s))) (c .before .read2 .given .1))))
 
-returns-3 : tie.Need-returns-3
-unfolding elementParser decoded
-returns-3 c =
-    let a = c .before .before .before .before .before .args in
-    sym (ap (decoded (a .at)) (map-fault word encodedStrParser (a .at) (drop (a .at) (now (a .s))) (sym (c .before .before .before .encoded-str-parser .ensures) ∙ ap (wordOf (now (a .s))) (c .before .read3 .given .1))))
-
 pub word-spec : {M : Type 1} → statement M
 word-spec =
     tie.close
-    (tie.spec
-    encoded-str-parser-requires
-    enum-known-read
-    enum-known-read-2
-    enum-known-read-3
-    returns
-    returns-2
-    returns-3)
+    (tie.spec encoded-str-parser-requires enum-known-read enum-known-read-2 returns returns-2)

@@ -1,4 +1,5 @@
 use mathlib.Core.Path.{sym, _∙_}
+use native.Mathlib.Omega.{arith}
 use lib.ListN.{drop}
 use denote.Ref.{now}
 use Rattle.bsii_format.specs.Types.{numbers}
@@ -15,18 +16,30 @@ element-parser-requires c κs = search needs
 enum-told : tie.Need-enum-told
 enum-told c = search needs
 
-numeric-at-requires : tie.Need-numeric-at-requires
-numeric-at-requires c κs =
+sub-numeric-of : tie.Need-sub-numeric-of
+sub-numeric-of c =
     let a = c .before .before .before .before .args in
     numbers-inside (numericIs (a .n)) (now (a .s)) (a .at) (sym (c .enum-told .given .1) ∙ c .before .before .element-parser .ensures)
+
+part-numeric-of-start : tie.Need-part-numeric-of-start
+part-numeric-of-start c =
+    let a = c .before .before .before .before .args in
+    omega (arith, numbers-inside (numericIs (a .n)) (now (a .s)) (a .at) (sym (c .enum-told .given .1) ∙ c .before .before .element-parser .ensures))
+
+part-numeric-of-end : tie.Need-part-numeric-of-end
+part-numeric-of-end c = search needs
+
+numeric-of-requires : tie.Need-numeric-of-requires
+numeric-of-requires c κs = search needs
 
 enum-known-end : tie.Need-enum-known-end
 enum-known-end c = search needs
 
 returns : tie.Need-returns
 returns c =
-    let a = c .before .before .before .before .before .args in
-    c .numeric-at .ensures ∙ numbers-decoded (numericIs (a .n)) (now (a .s)) (a .at) (sym (c .before .enum-told .given .1) ∙ c .before .before .before .element-parser .ensures)
+    let told = c .before .before in
+    let a = told .before .before .before .before .args in
+    c .numeric-of .ensures ∙ numbers-decoded (numericIs (a .n)) (now (a .s)) (a .at) (sym (told .enum-told .given .1) ∙ told .before .before .element-parser .ensures)
 
 returns-2 : tie.Need-returns-2
 returns-2 c =
@@ -39,7 +52,10 @@ numeric-spec =
     (tie.spec
     element-parser-requires
     enum-told
-    numeric-at-requires
+    sub-numeric-of
+    part-numeric-of-start
+    part-numeric-of-end
+    numeric-of-requires
     enum-known-end
     returns
     returns-2)

@@ -10,8 +10,14 @@ kind-at-requires c κs = search needs
 enum-told : tie.Need-enum-told
 enum-told c = search needs
 
+refused-requires : tie.Need-refused-requires
+refused-requires c κs = search needs
+
 enum-told-2 : tie.Need-enum-told-2
 enum-told-2 c = search needs
+
+refused-requires-2 : tie.Need-refused-requires-2
+refused-requires-2 c κs = search needs
 
 enum-known-kind : tie.Need-enum-known-kind
 enum-known-kind c = search needs
@@ -25,20 +31,20 @@ enum-known-end c = search needs
 enum-known-end-2 : tie.Need-enum-known-end-2
 enum-known-end-2 c = search needs
 
-sub-t12 : tie.Need-sub-t12
-sub-t12 c = let k = c .before .before .before .before .before .before .before in let a = k .before .before .args in id-later (now (a .s)) (a .b) (k .kind-at .ensures) (c .before .before .before .before .before .kind .given .1) (c .before .before .before .id-past .ensures) (c .before .end2 .given .1)
+sub-t13 : tie.Need-sub-t13
+sub-t13 c = let a = c .before .before .before .before .before .before .before .before .before .args in id-later (now (a .s)) (c .before .before .before .before .before .kind .given .0 .1 .0) (c .before .before .before .id-past .ensures) (c .before .end2 .given .1)
 
 returns : tie.Need-returns
-returns c = let k = c .before .before in let a = k .before .before .args in answered-end (now (a .s)) (a .b) (k .kind-at .ensures) (c .enum-told .given .1) _
+returns c = let k = c .before .before .before in answered-end (k .kind-at .ensures) (c .before .enum-told .given .1) _
 
 returns-2 : tie.Need-returns-2
-returns-2 c = let k = c .before .before in let a = k .before .before .args in answered-defines (now (a .s)) (a .b) (k .kind-at .ensures) (c .enum-told2 .given .1) _
+returns-2 c = let k = c .before .before .before in answered-defines (k .kind-at .ensures) (c .before .enum-told2 .given .1) _
 
 returns-3 : tie.Need-returns-3
-returns-3 c = let k = c .before .before .before .before .before .before .before in let a = k .before .before .args in answered-fault (now (a .s)) (a .b) (k .kind-at .ensures) (c .before .before .before .before .before .kind .given .1) (c .before .before .before .id-past .ensures) (c .before .end .given .1) _
+returns-3 c = let k = c .before .before .before .before .before .before .before in answered-fault (k .kind-at .ensures) (c .before .before .before .before .before .kind .given .1) (c .before .before .before .id-past .ensures) (c .before .end .given .1) _
 
 returns-4 : tie.Need-returns-4
-returns-4 c = let k = c .before .before .before .before .before .before .before in let a = k .before .before .args in answered (now (a .s)) (a .b) (k .kind-at .ensures) (c .before .before .before .before .before .kind .given .1) (c .before .before .before .id-past .ensures) (c .before .end2 .given .1)
+returns-4 c = let k = c .before .before .before .before .before .before .before in answered (k .kind-at .ensures) (c .before .before .before .before .before .kind .given .1) (c .before .before .before .id-past .ensures) (c .before .end2 .given .1)
 
 pub block-found-spec : {M : Type 1} → statement M
 block-found-spec =
@@ -46,12 +52,14 @@ block-found-spec =
     (tie.spec
     kind-at-requires
     enum-told
+    refused-requires
     enum-told-2
+    refused-requires-2
     enum-known-kind
     id-past-requires
     enum-known-end
     enum-known-end-2
-    sub-t12
+    sub-t13
     returns
     returns-2
     returns-3

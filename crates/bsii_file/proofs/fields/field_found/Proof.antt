@@ -1,4 +1,3 @@
-use denote.Ref.{now}
 use Rattle.bsii_file.proofs.FieldCalls.{field-absent, field-value}
 use borrow.Author.Needs.{needs}
 use Rattle.bsii_file.proofs.fields.field_found.Statement.{statement}
@@ -35,10 +34,10 @@ value-at-requires : tie.Need-value-at-requires
 value-at-requires c κs = search needs
 
 returns : tie.Need-returns
-returns c = let k = c .before .before in let a = k .before .before .before .before .before .args in field-absent (now (a .s)) (a .b) (now (a .name)) (k .before .before .fields-at .ensures) (k .before .next-of .ensures) (k .field-index .ensures) (c .enum-told .given .1)
+returns c = let k = c .before .before in field-absent (k .before .before .fields-at .ensures) (k .before .next-of .ensures) (k .field-index .ensures) (c .enum-told .given .1)
 
 returns-2 : tie.Need-returns-2
-returns-2 c = let k = c .before .before .before .before .before .before .before .before in let a = k .before .before .before .before .before .args in field-value (now (a .s)) (a .b) (now (a .name)) (k .before .before .fields-at .ensures) (k .before .next-of .ensures) (k .field-index .ensures) (c .before .before .before .before .before .before .index .given .1) (c .before .before .before .before .fields-at2 .ensures) (c .before .before .before .next-of2 .ensures) (c .before .before .id-past .ensures) (c .before .next-of3 .ensures) (c .value-at .ensures)
+returns-2 c = let k = c .before .before .before .before .before .before .before .before in field-value (k .before .before .fields-at .ensures) (k .before .next-of .ensures) (k .field-index .ensures) (c .before .before .before .before .before .before .index .given .1) (c .before .before .before .before .fields-at2 .ensures) (c .before .before .before .next-of2 .ensures) (c .before .before .id-past .ensures) (c .before .next-of3 .ensures) (c .value-at .ensures)
 
 pub field-found-spec : {M : Type 1} → statement M
 field-found-spec =

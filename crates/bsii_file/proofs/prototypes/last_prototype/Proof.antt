@@ -1,4 +1,3 @@
-use denote.Ref.{now}
 use Rattle.bsii_file.proofs.Definitions.{last-absent, last-answers}
 use borrow.Author.Needs.{needs}
 use Rattle.bsii_file.proofs.prototypes.last_prototype.Statement.{statement}
@@ -10,6 +9,9 @@ find-requires c κs = search needs
 enum-told : tie.Need-enum-told
 enum-told c = search needs
 
+refused-requires : tie.Need-refused-requires
+refused-requires c κs = search needs
+
 enum-known-found : tie.Need-enum-known-found
 enum-known-found c = search needs
 
@@ -20,14 +22,11 @@ prototype-at-requires : tie.Need-prototype-at-requires
 prototype-at-requires c κs = search needs
 
 returns : tie.Need-returns
-returns c =
-    let a = c .before .before .before .before .before .args in
-    last-absent (now (a .file)) (now (a .table)) (a .rows) (a .id) (c .before .before .find .ensures) (c .enum-told .given .1)
+returns c = rw (c .refused .ensures) (last-absent (c .before .before .before .find .ensures) (c .before .enum-told .given .1))
 
 returns-2 : tie.Need-returns-2
 returns-2 c =
-    let a = c .before .before .before .before .before .before .before .before .args in
-    last-answers (now (a .file)) (now (a .table)) (a .rows) (a .id) (c .before .before .before .before .before .find .ensures) (c .before .before .before .found .given .1) (c .before .size .ensures) (c .prototype-at .ensures)
+    last-answers (c .before .before .before .before .before .find .ensures) (c .before .before .before .found .given .1) (c .before .size .ensures) (c .prototype-at .ensures)
 
 pub last-prototype-spec : {M : Type 1} → statement M
 last-prototype-spec =
@@ -35,6 +34,7 @@ last-prototype-spec =
     (tie.spec
     find-requires
     enum-told
+    refused-requires
     enum-known-found
     size-requires
     prototype-at-requires

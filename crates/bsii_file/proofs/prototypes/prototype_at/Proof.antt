@@ -30,8 +30,8 @@ enum-known-list c = search needs
 enum-known-list-2 : tie.Need-enum-known-list-2
 enum-known-list-2 c = search needs
 
-sub-t14 : tie.Need-sub-t14
-sub-t14 c =
+sub-t12 : tie.Need-sub-t12
+sub-t12 c =
     let k = c .before .before .before .before in
     let a = k .before .before .before .before .before .args in
     let w = name-inside (now (a .s)) (a .offset) (k .before .before .before .fields-at .ensures) (k .before .head2 .given .1) in
@@ -39,20 +39,17 @@ sub-t14 c =
 
 returns : tie.Need-returns
 returns c =
-    let a = c .before .before .before .before .before .args in
-    head-fault (now (a .s)) (a .offset) (c .before .before .before .fields-at .ensures) (c .before .head .given .1) _
+    head-fault (c .before .before .before .fields-at .ensures) (c .before .head .given .1) _
 
 returns-2 : tie.Need-returns-2
 returns-2 c =
     let k = c .before .before .before .before in
-    let a = k .before .before .before .before .before .args in
-    list-fault (now (a .s)) (a .offset) (k .before .before .before .fields-at .ensures) (k .before .head2 .given .1) (c .before .before .before .fields-past .ensures) (c .before .list .given .1) _
+    list-fault (k .before .before .before .fields-at .ensures) (k .before .head2 .given .1) (c .before .before .before .fields-past .ensures) (c .before .list .given .1) _
 
 returns-3 : tie.Need-returns-3
 returns-3 c =
     let k = c .before .before .before .before in
-    let a = k .before .before .before .before .before .args in
-    prototype-here (now (a .s)) (a .offset) (k .before .before .before .fields-at .ensures) (k .before .head2 .given .1) (c .before .before .before .fields-past .ensures) (c .before .list2 .given .1)
+    prototype-here (k .before .before .before .fields-at .ensures) (k .before .head2 .given .1) (c .before .before .before .fields-past .ensures) (c .before .list2 .given .1)
 
 pub prototype-at-spec : {M : Type 1} → statement M
 prototype-at-spec =
@@ -65,7 +62,7 @@ prototype-at-spec =
     fields-past-requires
     enum-known-list
     enum-known-list-2
-    sub-t14
+    sub-t12
     returns
     returns-2
     returns-3)

@@ -1,4 +1,3 @@
-use denote.Ref.{now}
 use Rattle.bsii_file.proofs.Lookups.{was-read}
 use Rattle.bsii_file.proofs.Definitions.{call-refused, call-answers}
 use borrow.Author.Needs.{needs}
@@ -17,7 +16,7 @@ same-length c = search needs
 returns : tie.Need-returns
 returns c =
     let a = c .before .before .before .before .before .before .before .before .before .args in
-    call-refused (now (a .file)) (now (a .table)) (a .id) (c .before .before .before .before .before .bsii-parser .ensures) (c .before .walked .given .1)
+    call-refused (c .before .before .before .before .before .bsii-parser .ensures) (a .id) (c .before .walked .given .1)
 
 enum-known-walked-2 : tie.Need-enum-known-walked-2
 enum-known-walked-2 c = search needs
@@ -30,8 +29,7 @@ same-length-2 c = search needs
 
 returns-2 : tie.Need-returns-2
 returns-2 c =
-    let a = c .before .before .before .before .before .before .before .before .before .before .before .args in
-    call-answers (now (a .file)) (now (a .table)) (a .id) (c .before .before .before .before .before .before .before .bsii-parser .ensures) (c .before .before .before .walked2 .given .1) (c .last-prototype .ensures)
+    call-answers (c .before .before .before .before .before .before .before .bsii-parser .ensures) (c .before .before .before .walked2 .given .1) (c .last-prototype .ensures)
 
 pub read-prototype-spec : {M : Type 1} → statement M
 read-prototype-spec =

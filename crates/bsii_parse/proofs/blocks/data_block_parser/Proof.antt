@@ -1,5 +1,4 @@
-use mathlib.Core.Path.{_≡_, refl, sym, ap, _∙_}
-use denote.Ref.{now}
+use mathlib.Core.Path.{sym, _∙_}
 use Rattle.bsii_parse.proofs.Values.{block-id-fault, block-values}
 use borrow.Author.Needs.{needs}
 use Rattle.bsii_parse.proofs.blocks.data_block_parser.Statement.{statement}
@@ -18,10 +17,10 @@ values-parser-requires : tie.Need-values-parser-requires
 values-parser-requires c κs = search needs
 
 returns : tie.Need-returns
-returns c = let a = c .before .before .before .before .before .args in block-id-fault (now (a .s)) (a .fields) (a .at) (sym (c .before .id .given .1) ∙ c .before .before .before .id-parser .ensures)
+returns c = block-id-fault (sym (c .before .id .given .1) ∙ c .before .before .before .id-parser .ensures)
 
 returns-2 : tie.Need-returns-2
-returns-2 c = let a = c .before .before .before .before .before .before .args in block-values (now (a .s)) (a .fields) (a .at) (sym (c .before .before .id2 .given .1) ∙ c .before .before .before .before .id-parser .ensures) (c .values-parser .ensures)
+returns-2 c = block-values (sym (c .before .before .id2 .given .1) ∙ c .before .before .before .before .id-parser .ensures) (c .values-parser .ensures)
 
 pub data-block-parser-spec : {M : Type 1} → statement M
 data-block-parser-spec =

@@ -1,8 +1,10 @@
+-- `blocks::values_parser`: Invariant: the values from here on under the definitions from here on end as all of them do. Measure: what is left of the
+-- file behind the definitions passed, since each has a byte at least.
 use borrow.Author.Needs.{needs}
-use mathlib.Core.Path.{_≡_, refl, sym, ap, _∙_}
+use mathlib.Core.Path.{sym, _∙_}
 use native.Mathlib.Omega.{arith}
 use Prim.Native.Nat.{_-_}
-use lib.ListN.{length, drop}
+use lib.ListN.{length}
 use denote.Ref.{now}
 use Rattle.bsii_value.specs.Answers.{uncheckedStr}
 use Rattle.bsii_prototype.proofs.Names.{unchecked}
@@ -18,7 +20,7 @@ abbrev μ-loop : tie.MeasureT-loop
 μ-loop s fields start field₀ at₀ field at = length s - field
 
 loop-holds : tie.Need-loop-holds Inv-loop μ-loop
-loop-holds c = let a = c .before .args in step-start (now (a .s)) (a .fields) (a .start)
+loop-holds c = step-start
 
 value-prototype-past-requires : tie.Need-value-prototype-past-requires Inv-loop μ-loop
 value-prototype-past-requires c κs = search needs
@@ -29,8 +31,7 @@ enum-told c = search needs
 returns : tie.Need-returns Inv-loop μ-loop
 returns c =
     let l = c .before .before .before in
-    let a = l .before .before .args in
-    step-last (now (a .s)) (a .fields) (a .start) (l .loop .field) (l .loop .at) (l .loop .inv) (sym (c .enum-told .given .1) ∙ c .before .before .value-prototype-past .ensures)
+    step-last (l .loop .inv) (sym (c .enum-told .given .1) ∙ c .before .before .value-prototype-past .ensures)
 
 enum-known-entry : tie.Need-enum-known-entry Inv-loop μ-loop
 enum-known-entry c = search needs
@@ -38,8 +39,7 @@ enum-known-entry c = search needs
 returns-2 : tie.Need-returns-2 Inv-loop μ-loop
 returns-2 c =
     let l = c .before .before .before .before in
-    let a = l .before .before .args in
-    step-bad (now (a .s)) (a .fields) (a .start) (l .loop .field) (l .loop .at) (l .loop .inv) (sym (c .before .entry .given .1) ∙ c .before .before .before .value-prototype-past .ensures) _
+    step-bad (l .loop .inv) (sym (c .before .entry .given .1) ∙ c .before .before .before .value-prototype-past .ensures) _
 
 enum-known-entry-2 : tie.Need-enum-known-entry-2 Inv-loop μ-loop
 enum-known-entry-2 c = search needs
@@ -53,9 +53,8 @@ enum-known-value c = search needs
 returns-3 : tie.Need-returns-3 Inv-loop μ-loop
 returns-3 c =
     let l = c .before .before .before .before .before .before .before .before in
-    let a = l .before .before .args in
     let e = sym (c .before .before .before .before .before .entry2 .given .1) ∙ c .before .before .before .before .before .before .before .value-prototype-past .ensures in
-    step-fault (now (a .s)) (a .fields) (a .start) (l .loop .field) (l .loop .at) (l .loop .inv) e (sym (c .before .value .given .1) ∙ c .before .before .before .value-parser .ensures)
+    step-fault (l .loop .inv) e (sym (c .before .value .given .1) ∙ c .before .before .before .value-parser .ensures)
 
 enum-known-value-2 : tie.Need-enum-known-value-2 Inv-loop μ-loop
 enum-known-value-2 c = search needs
@@ -70,9 +69,8 @@ loop-less c =
 loop-again : tie.Need-loop-again Inv-loop μ-loop
 loop-again c =
     let l = c .before .before .before .before .before .before .before .before in
-    let a = l .before .before .args in
     let e = sym (c .before .before .before .before .before .entry2 .given .1) ∙ c .before .before .before .before .before .before .before .value-prototype-past .ensures in
-    step-next (now (a .s)) (a .fields) (a .start) (l .loop .field) (l .loop .at) (l .loop .inv) e (sym (c .before .value2 .given .1) ∙ c .before .before .before .value-parser .ensures)
+    step-next (l .loop .inv) e (sym (c .before .value2 .given .1) ∙ c .before .before .before .value-parser .ensures)
 
 pub values-parser-spec : {M : Type 1} → statement M
 values-parser-spec =

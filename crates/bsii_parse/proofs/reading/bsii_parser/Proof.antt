@@ -1,4 +1,4 @@
-use mathlib.Core.Path.{_≡_, refl, sym, ap, _∙_}
+use mathlib.Core.Path.{sym, ap, _∙_}
 use denote.Ref.{now}
 use native.Mathlib.Omega.{arith}
 use Rattle.bsii_prototype.specs.Answers.{headerIs}
@@ -7,8 +7,11 @@ use borrow.Author.Needs.{needs}
 use Rattle.bsii_parse.proofs.reading.bsii_parser.Statement.{statement}
 use Rattle.bsii_parse.proofs.reading.bsii_parser.Tie as tie
 
+refused-requires : tie.Need-refused-requires
+refused-requires c κs = search needs
+
 returns : tie.Need-returns
-returns c = let a = c .before .before .before .args in file-long (now (a .file)) (now (a .table)) (c .if1 .taken)
+returns c = let a = c .before .before .before .before .args in rw (c .refused .ensures) (file-long (now (a .file)) (now (a .table)) (c .before .if1 .taken))
 
 header-parser-requires : tie.Need-header-parser-requires
 header-parser-requires c κs = search needs
@@ -35,6 +38,7 @@ pub bsii-parser-spec : {M : Type 1} → statement M
 bsii-parser-spec =
     tie.close
     (tie.spec
+    refused-requires
     returns
     header-parser-requires
     enum-known-header

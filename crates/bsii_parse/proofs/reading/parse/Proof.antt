@@ -1,5 +1,4 @@
-use mathlib.Core.Path.{_≡_, refl, sym, ap, _∙_}
-use denote.Ref.{now}
+use mathlib.Core.Path.{sym, ap, _∙_}
 use lib.ListN.{replicate}
 use Rattle.bsii_parse.specs.Answers.{readingIs}
 use Rattle.bsii_parse.proofs.Whole.{reported, read-answer, read-size}
@@ -25,9 +24,8 @@ same-length c = search needs
 returns : tie.Need-returns
 unfolding reported
 returns c =
-    let a = c .before .before .before .before .before .before .before .before .before .before .before .before .before .args in
     let r = c .before .before .before .before .before .before .before .before .before .bsii-parser .ensures in
-    (ap (λ z. readingIs (reported z)) (sym (c .before .walked .given .1)) ∙ read-answer (now (a .file)) (now (a .table)) r, c .before .before .before .before .before .clear .ensures ∙ ap (λ n. replicate n 0) (read-size (now (a .file)) (now (a .table)) r))
+    (ap (λ z. readingIs (reported z)) (sym (c .before .walked .given .1)) ∙ read-answer r, c .before .before .before .before .before .clear .ensures ∙ ap (λ n. replicate n 0) (read-size r))
 
 same-length-2 : tie.Need-same-length-2
 same-length-2 c = search needs
@@ -35,9 +33,8 @@ same-length-2 c = search needs
 returns-2 : tie.Need-returns-2
 unfolding reported
 returns-2 c =
-    let a = c .before .before .before .before .before .before .before .before .before .before .before .before .before .args in
     let r = c .before .before .before .before .before .before .before .before .before .bsii-parser .ensures in
-    (ap (λ z. readingIs (reported z)) (sym (c .before .walked2 .given .1)) ∙ read-answer (now (a .file)) (now (a .table)) r, c .before .before .before .before .before .clear .ensures ∙ ap (λ n. replicate n 0) (read-size (now (a .file)) (now (a .table)) r))
+    (ap (λ z. readingIs (reported z)) (sym (c .before .walked2 .given .1)) ∙ read-answer r, c .before .before .before .before .before .clear .ensures ∙ ap (λ n. replicate n 0) (read-size r))
 
 pub parse-spec : {M : Type 1} → statement M
 parse-spec =

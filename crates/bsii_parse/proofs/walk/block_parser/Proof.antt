@@ -1,5 +1,3 @@
-use mathlib.Core.Path.{_≡_, refl, sym, ap, _∙_}
-use denote.Ref.{now}
 use Rattle.bsii_parse.proofs.Values.{standing-fault, standing-block}
 use borrow.Author.Needs.{needs}
 use Rattle.bsii_parse.proofs.walk.block_parser.Statement.{statement}
@@ -18,10 +16,10 @@ data-block-parser-requires : tie.Need-data-block-parser-requires
 data-block-parser-requires c κs = search needs
 
 returns : tie.Need-returns
-returns c = let a = c .before .before .before .before .before .args in standing-fault (now (a .s)) (a .prototype) (a .at) (c .before .before .before .fields-at .ensures) (c .before .fields .given .1) _
+returns c = standing-fault (c .before .before .before .fields-at .ensures) (c .before .fields .given .1) _
 
 returns-2 : tie.Need-returns-2
-returns-2 c = let a = c .before .before .before .before .before .before .args in standing-block (now (a .s)) (a .prototype) (a .at) (c .before .before .before .before .fields-at .ensures) (c .before .before .fields2 .given .1) (c .data-block-parser .ensures)
+returns-2 c = standing-block (c .before .before .before .before .fields-at .ensures) (c .before .before .fields2 .given .1) (c .data-block-parser .ensures)
 
 pub block-parser-spec : {M : Type 1} → statement M
 block-parser-spec =

@@ -1,5 +1,3 @@
-use mathlib.Core.Path.{_≡_, refl, sym, ap, _∙_}
-use denote.Ref.{now}
 use Rattle.bsii_parse.proofs.Passing.{carrying-undefined, carrying-fault, carrying-passed}
 use borrow.Author.Needs.{needs}
 use Rattle.bsii_parse.proofs.walk.block_step.Statement.{statement}
@@ -11,8 +9,11 @@ find-requires c κs = search needs
 enum-told : tie.Need-enum-told
 enum-told c = search needs
 
+refused-requires : tie.Need-refused-requires
+refused-requires c κs = search needs
+
 returns : tie.Need-returns
-returns c = let a = c .before .before .before .before .before .args in carrying-undefined (now (a .s)) (a .p) (now (a .table)) (a .id) (a .id-at) (c .before .before .find .ensures) (c .enum-told .given .1)
+returns c = rw (c .refused .ensures) (carrying-undefined (c .before .before .before .find .ensures) (c .before .enum-told .given .1))
 
 enum-known-found : tie.Need-enum-known-found
 enum-known-found c = search needs
@@ -27,8 +28,7 @@ enum-known-parsed : tie.Need-enum-known-parsed
 enum-known-parsed c = search needs
 
 returns-2 : tie.Need-returns-2
-returns-2 c = let a = c .before .before .before .before .before .before .before .before .before .before .before .args in
-    carrying-fault (now (a .s)) (a .p) (now (a .table)) (a .id) (a .id-at) (c .before .before .before .before .before .before .before .before .find .ensures) (c .before .before .before .before .before .before .found .given .1) (c .before .before .before .before .size .ensures) (c .before .before .before .block-parser .ensures) (c .before .parsed .given .1)
+returns-2 c = carrying-fault (c .before .before .before .before .before .before .before .before .find .ensures) (c .before .before .before .before .before .before .found .given .1) (c .before .before .before .before .size .ensures) (c .before .before .before .block-parser .ensures) (c .before .parsed .given .1)
 
 enum-known-parsed-2 : tie.Need-enum-known-parsed-2
 enum-known-parsed-2 c = search needs
@@ -37,8 +37,7 @@ add-t15 : tie.Need-add-t15
 add-t15 c = search needs
 
 returns-3 : tie.Need-returns-3
-returns-3 c = let a = c .before .before .before .before .before .before .before .before .before .before .before .before .args in
-    carrying-passed (now (a .s)) (a .p) (now (a .table)) (a .id) (a .id-at) (c .before .before .before .before .before .before .before .before .before .find .ensures) (c .before .before .before .before .before .before .before .found .given .1) (c .before .before .before .before .before .size .ensures) (c .before .before .before .before .block-parser .ensures) (c .before .before .parsed2 .given .1)
+returns-3 c = carrying-passed (c .before .before .before .before .before .before .before .before .before .find .ensures) (c .before .before .before .before .before .before .before .found .given .1) (c .before .before .before .before .before .size .ensures) (c .before .before .before .before .block-parser .ensures) (c .before .before .parsed2 .given .1)
 
 pub block-step-spec : {M : Type 1} → statement M
 block-step-spec =
@@ -46,6 +45,7 @@ block-step-spec =
     (tie.spec
     find-requires
     enum-told
+    refused-requires
     returns
     enum-known-found
     size-requires

@@ -1,5 +1,4 @@
-use mathlib.Core.Path.{_≡_, refl, sym, ap, _∙_}
-use denote.Ref.{now}
+use mathlib.Core.Path.{sym, _∙_}
 use Rattle.bsii_parse.proofs.Passing.{defining-fault, defining-full, defining-passed}
 use borrow.Author.Needs.{needs}
 use Rattle.bsii_parse.proofs.walk.prototype_step.Statement.{statement}
@@ -12,7 +11,7 @@ enum-known-list : tie.Need-enum-known-list
 enum-known-list c = search needs
 
 returns : tie.Need-returns
-returns c = let a = c .before .before .before .before .before .before .args in defining-fault (now (a .s)) (a .p) (now (a .table)) (a .id) (a .fields) (sym (c .before .list .given .1) ∙ c .before .before .before .fields-parser .ensures)
+returns c = defining-fault (sym (c .before .list .given .1) ∙ c .before .before .before .fields-parser .ensures)
 
 enum-known-list-2 : tie.Need-enum-known-list-2
 enum-known-list-2 c = search needs
@@ -26,12 +25,15 @@ define-requires c κs = search needs
 enum-told : tie.Need-enum-told
 enum-told c = search needs
 
+refused-requires : tie.Need-refused-requires
+refused-requires c κs = search needs
+
 same-length : tie.Need-same-length
 same-length c = search needs
 
 returns-2 : tie.Need-returns-2
-returns-2 c = let a = c .before .before .before .before .before .before .before .before .before .before .before .before .before .args in
-    defining-full (now (a .s)) (a .p) (now (a .table)) (a .id) (a .fields) (sym (c .before .before .before .before .before .before .before .before .list2 .given .1) ∙ c .before .before .before .before .before .before .before .before .before .before .fields-parser .ensures) (c .before .before .before .before .before .word .ensures) (c .before .before .before .before .define .ensures) (c .enum-told .given .1)
+returns-2 c =
+    rw (c .refused .ensures) (defining-full (sym (c .before .before .before .before .before .before .before .before .before .list2 .given .1) ∙ c .before .before .before .before .before .before .before .before .before .before .before .fields-parser .ensures) (c .before .before .before .before .before .before .word .ensures) (c .before .before .before .before .before .define .ensures) (c .before .enum-told .given .1))
 
 enum-known-defined : tie.Need-enum-known-defined
 enum-known-defined c = search needs
@@ -40,8 +42,7 @@ same-length-2 : tie.Need-same-length-2
 same-length-2 c = search needs
 
 returns-3 : tie.Need-returns-3
-returns-3 c = let a = c .before .before .before .before .before .before .before .before .before .before .before .before .before .before .args in
-    defining-passed (now (a .s)) (a .p) (now (a .table)) (a .id) (a .fields) (sym (c .before .before .before .before .before .before .before .before .before .list2 .given .1) ∙ c .before .before .before .before .before .before .before .before .before .before .before .fields-parser .ensures) (c .before .before .before .before .before .before .word .ensures) (c .before .before .before .before .before .define .ensures) (c .before .defined .given .1)
+returns-3 c = defining-passed (sym (c .before .before .before .before .before .before .before .before .before .list2 .given .1) ∙ c .before .before .before .before .before .before .before .before .before .before .before .fields-parser .ensures) (c .before .before .before .before .before .before .word .ensures) (c .before .before .before .before .before .define .ensures) (c .before .defined .given .1)
 
 pub prototype-step-spec : {M : Type 1} → statement M
 prototype-step-spec =
@@ -54,6 +55,7 @@ prototype-step-spec =
     word-requires
     define-requires
     enum-told
+    refused-requires
     same-length
     returns-2
     enum-known-defined

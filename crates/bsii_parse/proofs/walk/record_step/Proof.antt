@@ -1,5 +1,3 @@
-use mathlib.Core.Path.{_≡_, refl, sym, ap, _∙_}
-use denote.Ref.{now}
 use Rattle.bsii_parse.proofs.Passing.{stepped-end, stepped-bad, stepped-defining, stepped-carrying}
 use borrow.Author.Needs.{needs}
 use Rattle.bsii_parse.proofs.walk.record_step.Statement.{statement}
@@ -12,13 +10,13 @@ enum-known-head : tie.Need-enum-known-head
 enum-known-head c = search needs
 
 returns : tie.Need-returns
-returns c = let a = c .before .before .before .before .before .before .args in stepped-end (now (a .s)) (a .p) (now (a .table)) (c .before .before .before .head-parser .ensures) (c .before .head .given .1)
+returns c = stepped-end (c .before .before .before .head-parser .ensures) (c .before .head .given .1)
 
 enum-known-head-2 : tie.Need-enum-known-head-2
 enum-known-head-2 c = search needs
 
 returns-2 : tie.Need-returns-2
-returns-2 c = let a = c .before .before .before .before .before .before .args in stepped-bad (now (a .s)) (a .p) (now (a .table)) (c .before .before .before .head-parser .ensures) (c .before .head2 .given .1)
+returns-2 c = stepped-bad (c .before .before .before .head-parser .ensures) (c .before .head2 .given .1)
 
 enum-known-head-3 : tie.Need-enum-known-head-3
 enum-known-head-3 c = search needs
@@ -30,7 +28,7 @@ same-length : tie.Need-same-length
 same-length c = search needs
 
 returns-3 : tie.Need-returns-3
-returns-3 c = let a = c .before .before .before .before .before .before .before .before .before .before .args in stepped-defining (now (a .s)) (a .p) (now (a .table)) (c .before .before .before .before .before .before .before .head-parser .ensures) (c .before .before .before .before .before .head3 .given .1) (c .before .before .prototype-step .ensures)
+returns-3 c = stepped-defining (c .before .before .before .before .before .before .before .head-parser .ensures) (c .before .before .before .before .before .head3 .given .1) (c .before .before .prototype-step .ensures)
 
 enum-known-head-4 : tie.Need-enum-known-head-4
 enum-known-head-4 c = search needs
@@ -42,7 +40,7 @@ same-length-2 : tie.Need-same-length-2
 same-length-2 c = search needs
 
 returns-4 : tie.Need-returns-4
-returns-4 c = let a = c .before .before .before .before .before .before .before .before .args in stepped-carrying (now (a .s)) (a .p) (now (a .table)) (c .before .before .before .before .before .head-parser .ensures) (c .before .before .before .head4 .given .1) (c .block-step .ensures)
+returns-4 c = stepped-carrying (c .before .before .before .before .before .head-parser .ensures) (c .before .before .before .head4 .given .1) (c .block-step .ensures)
 
 pub record-step-spec : {M : Type 1} → statement M
 record-step-spec =

@@ -1,4 +1,5 @@
-use mathlib.Core.Path.{_≡_, refl, sym, ap, _∙_}
+-- `walk::walk`: Invariant: the records from `start` on are those passed so far and those from here on, and the table keeps their definitions.
+-- Measure: what is left of the file, since a record has a byte at least.
 use denote.Ref.{now}
 use borrow.Author.Needs.{needs}
 use native.Mathlib.Omega.{arith}
@@ -18,7 +19,7 @@ loop-holds : tie.Need-loop-holds Inv-loop μ-loop
 loop-holds c = let b = c .before .before in along-start (now (b .args .s)) (b .args .start) (now (b .args .table)) (b .pre .1)
 
 record-step-requires : tie.Need-record-step-requires Inv-loop μ-loop
-record-step-requires c κs = let l = c .before in let b = l .before .before .before in along-ready (now (b .args .s)) (b .args .start) (now (b .args .table)) (l .loop .p) (l .loop .table) (b .pre .0) (l .loop .inv)
+record-step-requires c κs = let l = c .before in let b = l .before .before .before in along-ready (b .pre .0) (l .loop .inv)
 
 enum-known-step : tie.Need-enum-known-step Inv-loop μ-loop
 enum-known-step c = search needs
@@ -31,7 +32,7 @@ returns c = let l = c .before .before .before .before .before .before .before in
     let a = l .before .before .before .args in
     let i = l .loop .inv in
     let r = c .before .before .before .before .before .record-step in
-    along-end (now (a .s)) (a .start) (now (a .table)) (l .loop .p) (l .loop .table) i (r .result) (r .last .1 .1 .0) (r .ensures .steps (defsFrom (a .start) (i .so)) (i .kept)) _ (c .before .step .given .1)
+    along-end i (r .ensures .steps (defsFrom (a .start) (i .so)) (i .kept)) (c .before .step .given .1)
 
 enum-known-step-2 : tie.Need-enum-known-step-2 Inv-loop μ-loop
 enum-known-step-2 c = search needs
@@ -44,7 +45,7 @@ returns-2 c = let l = c .before .before .before .before .before .before .before 
     let a = l .before .before .before .args in
     let i = l .loop .inv in
     let r = c .before .before .before .before .before .record-step in
-    along-stop (now (a .s)) (a .start) (now (a .table)) (l .loop .p) (l .loop .table) i (r .result) (r .last .1 .1 .0) (r .ensures .steps (defsFrom (a .start) (i .so)) (i .kept)) _ _ (c .before .step2 .given .1)
+    along-stop i (r .ensures .steps (defsFrom (a .start) (i .so)) (i .kept)) (c .before .step2 .given .1)
 
 enum-known-step-3 : tie.Need-enum-known-step-3 Inv-loop μ-loop
 enum-known-step-3 c = search needs
@@ -54,7 +55,7 @@ loop-less c = let l = c .before .before .before .before .before .before .before 
     let a = l .before .before .before .args in
     let i = l .loop .inv in
     let r = c .before .before .before .before .before .record-step in
-    let f = along-step (now (a .s)) (a .start) (now (a .table)) (l .loop .p) (l .loop .table) i (r .result) (r .last .1 .1 .0) (r .ensures .steps (defsFrom (a .start) (i .so)) (i .kept)) _ (c .before .step3 .given .1) in
+    let f = along-step i (r .ensures .steps (defsFrom (a .start) (i .so)) (i .kept)) (c .before .step3 .given .1) in
     omega (arith, f .on, f .along .inside)
 
 loop-again : tie.Need-loop-again Inv-loop μ-loop
@@ -62,7 +63,7 @@ loop-again c = let l = c .before .before .before .before .before .before .before
     let a = l .before .before .before .args in
     let i = l .loop .inv in
     let r = c .before .before .before .before .before .record-step in
-    along-step (now (a .s)) (a .start) (now (a .table)) (l .loop .p) (l .loop .table) i (r .result) (r .last .1 .1 .0) (r .ensures .steps (defsFrom (a .start) (i .so)) (i .kept)) _ (c .before .step3 .given .1) .along
+    along-step i (r .ensures .steps (defsFrom (a .start) (i .so)) (i .kept)) (c .before .step3 .given .1) .along
 
 pub walk-spec : {M : Type 1} → statement M
 walk-spec =

@@ -7,7 +7,7 @@ use borrow.Author.Needs.{needs}
 use Rattle.bsii_value.specs.Answers.{endOf}
 use Rattle.bsii_prototype.proofs.Names.{checked}
 use Rattle.bsii_prototype.proofs.Entries.{name-bad, name-fits, list-bad, field-whole}
-use Rattle.bsii_prototype.proofs.Agrees.{checked-enum-values}
+use Rattle.bsii_prototype.proofs.Unchecked.{checked-enum-values}
 use Rattle.bsii_prototype.proofs.fields.definition_parser.Statement.{statement}
 use Rattle.bsii_prototype.proofs.fields.definition_parser.Tie as tie
 
@@ -29,8 +29,8 @@ enum-known-list c = search needs
 enum-known-list-2 : tie.Need-enum-known-list-2
 enum-known-list-2 c = search needs
 
-add-t14 : tie.Need-add-t14
-add-t14 c =
+add-t12 : tie.Need-add-t12
+add-t12 c =
     let a = c .before .before .before .before .before .before .before .before .before .args in
     let e = sym (c .before .before .before .before .before .string2 .given .1) ∙ c .before .before .before .before .before .before .before .str-end .ensures in
     let m = c .before .before .before .before .before .string2 .given .0 .0 in
@@ -63,7 +63,7 @@ definition-parser-spec =
     enum-values-parser-requires
     enum-known-list
     enum-known-list-2
-    add-t14
+    add-t12
     returns
     returns-2
     returns-3)

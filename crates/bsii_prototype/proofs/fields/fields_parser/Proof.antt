@@ -12,7 +12,7 @@ use Rattle.bsii_prototype.specs.Entries.{entryWith, fieldsWith}
 use Rattle.bsii_prototype.specs.Answers.{entryOf, countOf}
 use Rattle.bsii_prototype.proofs.Names.{checked}
 use Rattle.bsii_prototype.proofs.Lists.{countFrom, count-zero, count-later, count-more, count-last, count-bad}
-use Rattle.bsii_prototype.proofs.Agrees.{checked-entry, checked-fields}
+use Rattle.bsii_prototype.proofs.Unchecked.{checked-entry, checked-fields}
 use Rattle.bsii_prototype.proofs.fields.fields_parser.Statement.{statement}
 use Rattle.bsii_prototype.proofs.fields.fields_parser.Tie as tie
 

@@ -8,7 +8,7 @@ use Rattle.bsii_format.specs.Strings.{strParser}
 use Rattle.bsii_value.specs.Answers.{numOf}
 use Rattle.bsii_prototype.specs.Answers.{entryOf}
 use Rattle.bsii_prototype.proofs.Entries.{entry-short, entry-last, definition-entry}
-use Rattle.bsii_prototype.proofs.Agrees.{checked-entry}
+use Rattle.bsii_prototype.proofs.Unchecked.{checked-entry}
 use Rattle.bsii_prototype.proofs.fields.value_prototype_parser.Statement.{statement}
 use Rattle.bsii_prototype.proofs.fields.value_prototype_parser.Tie as tie
 

@@ -26,9 +26,6 @@ enum-known-string c = search needs
 enum-known-string-2 : tie.Need-enum-known-string-2
 enum-known-string-2 c = search needs
 
-enum-known-string-3 : tie.Need-enum-known-string-3
-enum-known-string-3 c = search needs
-
 returns : tie.Need-returns
 returns c =
     let a = c .before .before .before .before .before .args in
@@ -47,12 +44,6 @@ returns-3 c =
     let e = sym (c .before .before .before .before .before .before .before .le-u32 .ensures) ∙ ap (numOf (now (a .s))) (c .before .before .before .before .before .number2 .given .1) in
     sym (defining-cut (a .at) (drop (a .at) (now (a .s))) e (sym (c .before .before .before .str-parser .ensures) ∙ ap (strOf (now (a .s))) (c .before .string2 .given .1)))
 
-returns-4 : tie.Need-returns-4
-returns-4 c =
-    let a = c .before .before .before .before .before .before .before .before .before .args in
-    let e = sym (c .before .before .before .before .before .before .before .le-u32 .ensures) ∙ ap (numOf (now (a .s))) (c .before .before .before .before .before .number2 .given .1) in
-    sym (defining-cut (a .at) (drop (a .at) (now (a .s))) e (sym (c .before .before .before .str-parser .ensures) ∙ ap (strOf (now (a .s))) (c .before .string3 .given .1)))
-
 pub defining-parser-spec : {M : Type 1} → statement M
 defining-parser-spec =
     tie.close
@@ -63,8 +54,6 @@ defining-parser-spec =
     str-parser-requires
     enum-known-string
     enum-known-string-2
-    enum-known-string-3
     returns
     returns-2
-    returns-3
-    returns-4)
+    returns-3)

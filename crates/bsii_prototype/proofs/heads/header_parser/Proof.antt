@@ -14,8 +14,11 @@ slice-aggregate-tag c = search needs
 tag-requires : tie.Need-tag-requires
 tag-requires c κs = search needs
 
+refused-requires : tie.Need-refused-requires
+refused-requires c κs = search needs
+
 returns : tie.Need-returns
-returns c = let s = now (c .before .before .before .before .args .s) in sym (header-not s (sym (c .before .tag .ensures) ∙ is-not (c .before .tag .result) true (c .if1 .taken)))
+returns c = let s = now (c .before .before .before .before .before .args .s) in rw (c .refused .ensures) (sym (header-not s (sym (c .before .before .tag .ensures) ∙ is-not (c .before .before .tag .result) true (c .before .if1 .taken))))
 
 le-u32-requires : tie.Need-le-u32-requires
 le-u32-requires c κs = search needs
@@ -26,12 +29,15 @@ enum-known-version c = search needs
 enum-known-version-2 : tie.Need-enum-known-version-2
 enum-known-version-2 c = search needs
 
+refused-requires-2 : tie.Need-refused-requires-2
+refused-requires-2 c κs = search needs
+
 returns-2 : tie.Need-returns-2
 returns-2 c =
-    let s = now (c .before .before .before .before .before .before .before .before .before .args .s) in
-    let h = sym (c .before .before .before .before .before .before .tag .ensures) ∙ is-not (c .before .before .before .before .before .before .tag .result) false (c .before .before .before .before .before .if1 .left) in
-    let e = sym (c .before .before .before .before .le-u32 .ensures) ∙ ap (numOf s) (c .before .before .version2 .given .1) in
-    sym (header-old s h e (c .if2 .taken))
+    let s = now (c .before .before .before .before .before .before .before .before .before .before .args .s) in
+    let h = sym (c .before .before .before .before .before .before .before .tag .ensures) ∙ is-not (c .before .before .before .before .before .before .before .tag .result) false (c .before .before .before .before .before .before .if1 .left) in
+    let e = sym (c .before .before .before .before .before .le-u32 .ensures) ∙ ap (numOf s) (c .before .before .before .version2 .given .1) in
+    rw (c .refused2 .ensures) (sym (header-old s h e (c .before .if2 .taken)))
 
 returns-3 : tie.Need-returns-3
 returns-3 c =
@@ -53,10 +59,12 @@ header-parser-spec =
     (tie.spec
     slice-aggregate-tag
     tag-requires
+    refused-requires
     returns
     le-u32-requires
     enum-known-version
     enum-known-version-2
+    refused-requires-2
     returns-2
     returns-3
     returns-4)

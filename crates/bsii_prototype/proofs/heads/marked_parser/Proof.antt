@@ -38,6 +38,9 @@ returns-2 c =
     let n = c .before .before .before .before .mark2 .given .0 .1 .0 in
     c .defining-parser .ensures ∙ sym (marked (a .at) (drop (a .at) (now (a .s))) e (omega arith) ∙ ap (λ m. markParser m n (drop n (now (a .s)))) (c .before .if2 .taken))
 
+refused-requires : tie.Need-refused-requires
+refused-requires c κs = search needs
+
 returns-3 : tie.Need-returns-3
 returns-3 c =
     let a = c .before .before .before .before .before .args in
@@ -46,9 +49,9 @@ returns-3 c =
 
 returns-4 : tie.Need-returns-4
 returns-4 c =
-    let a = c .before .before .before .before .before .before .before .args in
-    let e = sym (c .before .before .before .before .before .le-u8 .ensures) ∙ ap (numOf (now (a .s))) (c .before .before .before .mark2 .given .1) in
-    sym (marked-bad (a .at) (drop (a .at) (now (a .s))) e (omega arith))
+    let a = c .before .before .before .before .before .before .before .before .args in
+    let e = sym (c .before .before .before .before .before .before .le-u8 .ensures) ∙ ap (numOf (now (a .s))) (c .before .before .before .before .mark2 .given .1) in
+    rw (c .refused .ensures) (sym (marked-bad (a .at) (drop (a .at) (now (a .s))) e (omega arith)))
 
 pub marked-parser-spec : {M : Type 1} → statement M
 marked-parser-spec =
@@ -60,5 +63,6 @@ marked-parser-spec =
     returns
     defining-parser-requires
     returns-2
+    refused-requires
     returns-3
     returns-4)

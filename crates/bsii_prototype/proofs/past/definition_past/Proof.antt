@@ -26,8 +26,8 @@ enum-known-list c = search needs
 enum-known-list-2 : tie.Need-enum-known-list-2
 enum-known-list-2 c = search needs
 
-add-t14 : tie.Need-add-t14
-add-t14 c =
+add-t12 : tie.Need-add-t12
+add-t12 c =
     let a = c .before .before .before .before .before .before .before .before .before .args in
     let e = sym (c .before .before .before .before .before .string2 .given .1) ∙ c .before .before .before .before .before .before .before .str-past .ensures in
     omega (arith, name-fits unchecked (now (a .s)) (a .at) (a .type-id) e)
@@ -57,7 +57,7 @@ definition-past-spec =
     enum-values-past-requires
     enum-known-list
     enum-known-list-2
-    add-t14
+    add-t12
     returns
     returns-2
     returns-3)

@@ -11,9 +11,12 @@ use Rattle.bsii_prototype.proofs.past.fields_at.Tie as tie
 left-requires : tie.Need-left-requires
 left-requires c κs = search needs
 
+refused-requires : tie.Need-refused-requires
+refused-requires c κs = search needs
+
 returns : tie.Need-returns
 unfolding endOf
-returns c = let a = c .before .before .before .args in sym (ap endOf (past-short (now (a .s)) (a .offset) (omega arith)))
+returns c = let a = c .before .before .before .before .args in rw (c .refused .ensures) (sym (ap endOf (past-short (now (a .s)) (a .offset) (omega arith))))
 
 add-str-past : tie.Need-add-str-past
 add-str-past c = search needs
@@ -26,4 +29,4 @@ returns-2 c = let a = c .before .before .before .before .args in c .str-past .en
 
 pub fields-at-spec : {M : Type 1} → statement M
 fields-at-spec =
-    tie.close (tie.spec left-requires returns add-str-past str-past-requires returns-2)
+    tie.close (tie.spec left-requires refused-requires returns add-str-past str-past-requires returns-2)

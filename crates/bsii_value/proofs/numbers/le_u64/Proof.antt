@@ -11,8 +11,11 @@ use Rattle.bsii_value.proofs.numbers.le_u64.Tie as tie
 left-requires : tie.Need-left-requires
 left-requires c κs = search needs
 
+refused-requires : tie.Need-refused-requires
+refused-requires c κs = search needs
+
 returns : tie.Need-returns
-returns c = let a = c .before .before .before .args in sym (number-short 8 (now (a .s)) (a .at) (omega arith))
+returns c = let a = c .before .before .before .before .args in rw (c .refused .ensures) (sym (number-short 8 (now (a .s)) (a .at) (omega arith)))
 
 quad-requires : tie.Need-quad-requires
 quad-requires c κs = search needs
@@ -29,11 +32,11 @@ quad-requires-2 c κs = search needs
 wide64-requires-2 : tie.Need-wide64-requires-2
 wide64-requires-2 c κs = search needs
 
-mul-t8 : tie.Need-mul-t8
-mul-t8 c = search needs
+mul-t9 : tie.Need-mul-t9
+mul-t9 c = search needs
 
-add-t9 : tie.Need-add-t9
-add-t9 c = search needs
+add-t10 : tie.Need-add-t10
+add-t10 c = search needs
 
 add-t5 : tie.Need-add-t5
 add-t5 c = search needs
@@ -48,13 +51,14 @@ le-u64-spec =
     tie.close
     (tie.spec
     left-requires
+    refused-requires
     returns
     quad-requires
     wide64-requires
     add-quad
     quad-requires-2
     wide64-requires-2
-    mul-t8
-    add-t9
+    mul-t9
+    add-t10
     add-t5
     returns-2)

@@ -20,6 +20,9 @@ enum-known-word-2 c = search needs
 spelled-requires : tie.Need-spelled-requires
 spelled-requires c κs = search needs
 
+refused-requires : tie.Need-refused-requires
+refused-requires c κs = search needs
+
 returns : tie.Need-returns
 returns c =
     let a = c .before .before .before .before .before .args in
@@ -33,9 +36,9 @@ returns-2 c =
 
 returns-3 : tie.Need-returns-3
 returns-3 c =
-    let a = c .before .before .before .before .before .before .before .args in
-    let e = sym (c .before .before .before .before .before .le-u64 .ensures) ∙ ap (numOf64 (now (a .s))) (c .before .before .before .word2 .given .1) in
-    sym (word-not (drop (a .at) (now (a .s))) (a .at) _ _ _ e (sym (c .before .spelled .ensures) ∙ c .if1 .left))
+    let a = c .before .before .before .before .before .before .before .before .args in
+    let e = sym (c .before .before .before .before .before .before .le-u64 .ensures) ∙ ap (numOf64 (now (a .s))) (c .before .before .before .before .word2 .given .1) in
+    rw (c .refused .ensures) (sym (word-not (drop (a .at) (now (a .s))) (a .at) _ _ _ e (sym (c .before .before .spelled .ensures) ∙ c .before .if1 .left)))
 
 pub encoded-str-parser-spec : {M : Type 1} → statement M
 encoded-str-parser-spec =
@@ -45,6 +48,7 @@ encoded-str-parser-spec =
     enum-known-word
     enum-known-word-2
     spelled-requires
+    refused-requires
     returns
     returns-2
     returns-3)

@@ -16,9 +16,6 @@ enum-known-word c = search needs
 enum-known-word-2 : tie.Need-enum-known-word-2
 enum-known-word-2 c = search needs
 
-enum-known-word-3 : tie.Need-enum-known-word-3
-enum-known-word-3 c = search needs
-
 returns : tie.Need-returns
 unfolding endOf
 returns c =
@@ -31,12 +28,6 @@ returns-2 c =
     let a = c .before .before .before .before .before .args in
     ap (λ (w : Word). endOf (wordOf (now (a .s)) w)) (sym (c .before .word2 .given .1)) ∙ ap endOf (c .before .before .before .encoded-str-parser .ensures)
 
-returns-3 : tie.Need-returns-3
-unfolding endOf
-returns-3 c =
-    let a = c .before .before .before .before .before .args in
-    ap (λ (w : Word). endOf (wordOf (now (a .s)) w)) (sym (c .before .word3 .given .1)) ∙ ap endOf (c .before .before .before .encoded-str-parser .ensures)
-
 pub word-past-spec : {M : Type 1} → statement M
 word-past-spec =
     tie.close
@@ -44,7 +35,5 @@ word-past-spec =
     encoded-str-parser-requires
     enum-known-word
     enum-known-word-2
-    enum-known-word-3
     returns
-    returns-2
-    returns-3)
+    returns-2)

@@ -55,6 +55,9 @@ array-parser-requires c κs = search needs
 enum-told-4 : tie.Need-enum-told-4
 enum-told-4 c = search needs
 
+refused-requires : tie.Need-refused-requires
+refused-requires c κs = search needs
+
 returns : tie.Need-returns
 returns c =
     let a = c .before .before .before .before .before .before .before .before .before .args in
@@ -92,8 +95,8 @@ returns-5 c =
 returns-6 : tie.Need-returns-6
 unfolding valueParser shapeParser fail endOf
 returns-6 c =
-    let a = c .before .before .before .before .args in
-    ap (λ (o : Option Shape). endOf (shapeParser o (a .at) (drop (a .at) (now (a .s))))) (ap shapeIs (sym (c .enum-told4 .given .1)) ∙ c .before .before .shape-of .ensures)
+    let a = c .before .before .before .before .before .args in
+    rw (c .refused .ensures) (ap (λ (o : Option Shape). endOf (shapeParser o (a .at) (drop (a .at) (now (a .s))))) (ap shapeIs (sym (c .before .enum-told4 .given .1)) ∙ c .before .before .before .shape-of .ensures))
 
 pub value-parser-spec : {M : Type 1} → statement M
 value-parser-spec =
@@ -112,6 +115,7 @@ value-parser-spec =
     enum-known-shape-2
     array-parser-requires
     enum-told-4
+    refused-requires
     returns
     returns-2
     returns-3
