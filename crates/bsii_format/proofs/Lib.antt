@@ -1,5 +1,6 @@
 -- The laws of the definitions.
 pub mod Readers
+pub mod ReplyLaws
 pub mod Positions
 pub mod Follows
 pub mod Parsers

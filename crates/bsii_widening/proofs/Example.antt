@@ -1,97 +1,97 @@
--- The worked list of insertions meets the premises of demand 3, and so does a last definition of an unlisted type: both directions of it.
-use mathlib.Core.Path.{_≡_, refl, subst}
-use Prim.Native.Nat.{ℕ, _≤_}
-use mathlib.Core.Bool.{not}
-use mathlib.Core.Option.{Option, none, some}
-use mathlib.Core.List.{List, [], _∷_}
+-- The worked list of insertions meets the premises of demand 3, and so does a last definition of an unlisted type: both directions of it. All of it
+-- is computed.
+use mathlib.Core.Path.{_≡_, refl}
+use mathlib.Core.Option.{none, some}
+use mathlib.Core.List.{[]}
 use lib.ListN.{length, replicate}
-use lib.Dec.{T, lit≤}
-use Rattle.bsii_format.specs.Prototypes.{Prototype}
-use Rattle.bsii_format.specs.Worked.{workedFile}
-use Rattle.bsii_format.specs.File.{BsiiFile}
-use Rattle.bsii_format.proofs.Worked.{computes}
-use Rattle.bsii_widening.specs.Insertions.{AllAllowed, DefinitionAllowed, EnumsListed}
-use Rattle.bsii_widening.specs.Claim.{OldSave, Room, StillConverts, Refused, newText}
-use Rattle.bsii_widening.specs.Marks.{unmark, mapMark, all, olds, newRecords, oldRecords, asOld, markPrototype, markBlock, markRecord, markRecords}
-use Rattle.bsii_widening.specs.Insertions.{aField, aPrototype, insertAt, insertIf, insertField, insert, insertAll, numericListed, elementListed, hasName, definesId}
-use Rattle.bsii_widening.specs.Parts.{concat, orNothing, markedPrototypes, linesOf, fieldParts, blockParts, recordParts, textParts, renumber}
-use Rattle.bsii_widening.specs.Claim.{widened, newFile, firstCarried}
-use Rattle.bsii_widening.specs.Example.{fileOf, oldFile, enumField, enumFive, extraPrototype, extraBlock, additions, additionsText, unlistedField, anyBytes, afterUnlisted}
-use Rattle.bsii_widening.proofs.Environments.{some-inj}
+use lib.Dec.{lit≤}
+use Rattle.bsii_format.specs.Ascii.{ascii}
+use Rattle.bsii_format.specs.Replies.{gives}
+use Rattle.bsii_format.specs.Calls.{readingCall, fieldCall}
+use Rattle.bsii_format.specs.Worked.{u32, workedFile}
+use Rattle.bsii_format.specs.File.{lengthLimit}
+use Rattle.bsii_format.specs.Text.{valueText}
+use Rattle.bsii_widening.specs.Insertions.{aField, insert, AllAllowed, DefinitionAllowed}
+use Rattle.bsii_widening.specs.Claim.{OldSave, Room, StillConverts, Refused, newText, widened, newFile, firstCarried}
+use Rattle.bsii_widening.specs.Marks.{newRecords, markRecords}
+use Rattle.bsii_widening.specs.Parts.{renumber}
+use Rattle.bsii_widening.specs.Example.{oldFile, additions, additionsText, unlistedField, anyBytes, afterUnlisted, unused}
+use Rattle.bsii_widening.proofs.Computes.{computesAll}
+use Rattle.bsii_widening.proofs.Decided.{allowed-proves}
 use Rattle.bsii_widening.proofs.Demand3.{demand3}
-
--- opens every definition, those of the format too
-unfoldable widens : List ℕ → List ℕ
-unfolding computes unmark mapMark all olds newRecords oldRecords asOld markPrototype markBlock markRecord markRecords insertAt insertIf insertField insert insertAll numericListed elementListed hasName definesId concat orNothing markedPrototypes linesOf fieldParts blockParts recordParts textParts renumber widened newFile firstCarried fileOf oldFile enumField enumFive extraPrototype extraBlock additions additionsText unlistedField anyBytes afterUnlisted
-widens s = s
 
 -- the worked file is an old save: it converts with 768 words and an output of 128 bytes
 old-save : OldSave 768 workedFile (replicate 128 0) oldFile 82 [] 73
-unfolding widens
+unfolding computesAll
 old-save = record { reads = refl; converts = refl; once = (tt, tt) }
 
-allowed : AllAllowed additions (markRecords (oldFile .records))
-unfolding widens
-allowed = (
-  record {
-    definition = record { of = _; defined = refl; position = lit≤ tt; wellFormed = refl; newName = tt };
-    values = (tt, ((λ h. (refl, tt)), tt));
-  },
-  (
-    record { wellFormed = refl; undefined = refl },
-    (record { wellFormed = refl; enums = λ q e. subst (λ (z : Prototype). EnumsListed (z .fields) (extraBlock .values)) (some-inj e) (tt, tt) }, tt),
-  ),
-)
+additions-allowed : AllAllowed additions (markRecords (oldFile .records))
+unfolding computesAll
+additions-allowed = allowed-proves additions (markRecords (oldFile .records)) tt
 
-room : Room 6 oldFile [] (widened oldFile additions)
-unfolding widens
+room : Room lengthLimit 6 oldFile [] (widened oldFile additions)
+unfolding computesAll
 room = record { file = lit≤ tt; table = lit≤ tt }
 
 -- so the theorem speaks of it, and the new text is what one expects
 pub additions-convert : StillConverts 768 workedFile (replicate 128 0) oldFile [] 73 6 (widened oldFile additions)
-additions-convert = demand3 768 workedFile (replicate 128 0) oldFile 82 [] 73 old-save additions allowed 6 .1 room
+additions-convert = demand3 768 workedFile (replicate 128 0) oldFile 82 [] 73 old-save additions additions-allowed 6 .1 room
 
-pub additions-text : newText (widened oldFile additions) ≡ additionsText
-unfolding widens
+pub additions-text : newText valueText (widened oldFile additions) ≡ additionsText
+unfolding computesAll
 additions-text = refl
+
+-- `km` was found at 61, and is found at 113 with the same type and bytes
+pub km-before : fieldCall 768 workedFile 0 (ascii "km") ≡ gives (record { typeId = 0x27; part = record { offset = 61; size = 4 }; bytes = u32 300 })
+unfolding computesAll
+km-before = refl
+
+pub km-after : fieldCall 6 (newFile oldFile [] (widened oldFile additions)) (renumber (widened oldFile additions) 0) (ascii "km")
+    ≡ gives (record { typeId = 0x27; part = record { offset = 113; size = 4 }; bytes = u32 300 })
+unfolding computesAll
+km-after = refl
+
+pub additions-read : readingCall 6 (newFile oldFile [] (widened oldFile additions)) ≡ gives (record { prototypes = 2; blocks = 2; next = 144 })
+unfolding computesAll
+additions-read = refl
 
 -- ---- the last definition
 
 last-allowed : DefinitionAllowed 7 0 unlistedField (widened oldFile additions)
-unfolding widens
+unfolding computesAll
 last-allowed = record { of = _; defined = refl; position = lit≤ tt; wellFormed = refl; newName = tt }
 
-last-room : Room 6 oldFile [] afterUnlisted
-unfolding widens
+last-room : Room lengthLimit 6 oldFile [] afterUnlisted
+unfolding computesAll
 last-room = record { file = lit≤ tt; table = lit≤ tt }
 
 -- the block of the id 7 carries it: its first value starts at 122
 carried : firstCarried 7 0 (length (oldFile .header .raw)) (newRecords afterUnlisted) ≡ some 122
-unfolding widens
+unfolding computesAll
 carried = refl
 
 pub unlisted-refused : Refused 6 122 (newFile oldFile [] afterUnlisted)
-unfolding widens
-unlisted-refused = demand3 768 workedFile (replicate 128 0) oldFile 82 [] 73 old-save additions allowed 6 .2 7 0 unlistedField anyBytes last-allowed refl last-room .0 122 carried
+unfolding computesAll
+unlisted-refused = demand3 768 workedFile (replicate 128 0) oldFile 82 [] 73 old-save additions additions-allowed 6 .2 7 0 unlistedField anyBytes last-allowed refl last-room .carried 122 carried
 
 -- in the prototype of a save without blocks of it, no block carries it, and all of the above holds
-not-carried : firstCarried 9 0 (length (oldFile .header .raw)) (newRecords (insert (aField 9 0 unlistedField anyBytes) (insert (aPrototype 0 extraPrototype) (markRecords (oldFile .records))))) ≡ none
-unfolding widens
+not-carried : firstCarried 9 0 (length (oldFile .header .raw)) (newRecords (insert (aField 9 0 unlistedField anyBytes) (widened oldFile unused))) ≡ none
+unfolding computesAll
 not-carried = refl
 
-allowed-prototype : AllAllowed (aPrototype 0 extraPrototype ∷ []) (markRecords (oldFile .records))
-unfolding widens
-allowed-prototype = (record { wellFormed = refl; undefined = refl }, tt)
+unused-allowed : AllAllowed unused (markRecords (oldFile .records))
+unfolding computesAll
+unused-allowed = allowed-proves unused (markRecords (oldFile .records)) tt
 
-last-allowed-9 : DefinitionAllowed 9 0 unlistedField (widened oldFile (aPrototype 0 extraPrototype ∷ []))
-unfolding widens
+last-allowed-9 : DefinitionAllowed 9 0 unlistedField (widened oldFile unused)
+unfolding computesAll
 last-allowed-9 = record { of = _; defined = refl; position = lit≤ tt; wellFormed = refl; newName = tt }
 
-room-9 : Room 6 oldFile [] (insert (aField 9 0 unlistedField anyBytes) (widened oldFile (aPrototype 0 extraPrototype ∷ [])))
-unfolding widens
+room-9 : Room lengthLimit 6 oldFile [] (insert (aField 9 0 unlistedField anyBytes) (widened oldFile unused))
+unfolding computesAll
 room-9 = record { file = lit≤ tt; table = lit≤ tt }
 
-pub unlisted-unused : StillConverts 768 workedFile (replicate 128 0) oldFile [] 73 6 (insert (aField 9 0 unlistedField anyBytes) (widened oldFile (aPrototype 0 extraPrototype ∷ [])))
-unfolding widens
+pub unlisted-unused : StillConverts 768 workedFile (replicate 128 0) oldFile [] 73 6 (insert (aField 9 0 unlistedField anyBytes) (widened oldFile unused))
+unfolding computesAll
 unlisted-unused =
-    demand3 768 workedFile (replicate 128 0) oldFile 82 [] 73 old-save (aPrototype 0 extraPrototype ∷ []) allowed-prototype 6 .2 9 0 unlistedField anyBytes last-allowed-9 refl room-9 .1 not-carried
+    demand3 768 workedFile (replicate 128 0) oldFile 82 [] 73 old-save unused unused-allowed 6 .2 9 0 unlistedField anyBytes last-allowed-9 refl room-9 .unused not-carried

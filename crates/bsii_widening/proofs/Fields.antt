@@ -1,5 +1,5 @@
 -- Field definitions and values in step: what an insertion at one position of both keeps.
-use mathlib.Core.Path.{_≡_, refl, sym, ap, _∙_, subst}
+use mathlib.Core.Path.{_≡_, refl, ap, subst}
 use Prim.Native.Nat.{ℕ, zero, suc}
 use native.Mathlib.Omega.{arith}
 use mathlib.Core.Bool.{Bool, true, false, _||_, not}
@@ -14,7 +14,7 @@ use Rattle.bsii_format.specs.Blocks.{DataValue}
 use Rattle.bsii_format.proofs.Readers.{same→eq}
 use Rattle.bsii_format.proofs.Records.{GoodField, GoodFields, nil, cons, GoodValue, GoodValues}
 use Rattle.bsii_widening.specs.Marks.{Mark, old, inserted, all, olds, asOld}
-use Rattle.bsii_widening.specs.Insertions.{insertAt, insertIf, EnumListed, EnumsListed, hasName}
+use Rattle.bsii_widening.specs.Insertions.{insertAt, insertIf, EnumsListed, hasName}
 use Rattle.bsii_widening.proofs.Marks.{olds-insert}
 use Rattle.bsii_widening.proofs.Says.{HasText}
 

@@ -1,23 +1,23 @@
 -- What holds of a marked file along the list of insertions: every record is well-formed under the definitions in force, every block has a text
 -- under the last ones, and an old block's marks are in step with its definition's. Each insertion keeps it.
 use mathlib.Core.Path.{_≡_, refl, sym, ap, _∙_, subst, subst₂}
-use Prim.Native.Nat.{ℕ, zero, suc, _+_}
+use Prim.Native.Nat.{ℕ, zero, suc}
 use mathlib.Core.Bool.{Bool, true, false, not}
-use mathlib.Core.Option.{Option, none, some, Option·map}
-use mathlib.Core.List.{List, [], _∷_, map}
+use mathlib.Core.Option.{Option, none, some}
+use mathlib.Core.List.{List, [], _∷_}
 use lib.ListN.{length, take}
 use lib.Dec.{T, eqb}
-use Rattle.bsii_format.specs.Reader.{Consumed, WellFormed, consumed}
+use Rattle.bsii_format.specs.Reader.{Consumed, WellFormed}
 use Rattle.bsii_format.specs.Strings.{Id, idParser}
 use Rattle.bsii_format.specs.Values.{Value}
 use Rattle.bsii_format.specs.Prototypes.{ValuePrototype, Prototype, valuePrototypeParser}
-use Rattle.bsii_format.specs.Blocks.{DataValue, DataBlock, findBy, getPrototype, dataValueParser}
-use Rattle.bsii_format.specs.File.{Record, prototype, block, Head, carrying, headParser, Step, more, recordParser, recordBytes, define, defineAll, prototypesOf}
+use Rattle.bsii_format.specs.Blocks.{DataValue, DataBlock, getPrototype, dataValueParser}
+use Rattle.bsii_format.specs.File.{prototype, block, Head, carrying, headParser, more, recordParser, recordBytes, define, defineAll, prototypesOf}
 use Rattle.bsii_format.proofs.Readers.{Fits, well-formed-fits}
 use Rattle.bsii_format.proofs.Parsers.{valuePrototype-exact}
-use Rattle.bsii_format.proofs.Records.{GoodField, GoodFields, GoodValue, GoodValues, values-length, value-good, GoodPrototype, GoodBlock, GoodRecord, GoodRecords, nil, cons, record-good}
-use Rattle.bsii_widening.specs.Marks.{Mark, old, inserted, unmark, mapMark, all, olds, MarkedPrototype, MarkedBlock, MarkedRecord, markedPrototype, markedBlock, MarkedRecords, newPrototype, newBlock, newRecords, asOld, markPrototype, markBlock}
-use Rattle.bsii_widening.specs.Insertions.{insertAt, insertIf, intoPrototype, intoBlock, insertField, Insertion, aField, aPrototype, aBlock, insert, insertAll, EnumListed, EnumsListed, hasName, DefinitionAllowed, ValueAllowed, ValuesAllowed, Allowed, AllAllowed, NoIdTwice}
+use Rattle.bsii_format.proofs.Records.{GoodField, GoodFields, GoodValue, GoodValues, values-length, value-good, GoodPrototype, GoodBlock, GoodRecords, nil, cons, record-good}
+use Rattle.bsii_widening.specs.Marks.{Mark, old, inserted, unmark, mapMark, all, MarkedPrototype, MarkedBlock, markedPrototype, markedBlock, MarkedRecords, newPrototype, newBlock, newRecords, markPrototype, markBlock}
+use Rattle.bsii_widening.specs.Insertions.{insertAt, insertIf, intoPrototype, intoBlock, insertField, Insertion, aField, aPrototype, aBlock, insert, insertAll, hasName, DefinitionAllowed, ValueAllowed, ValuesAllowed, Allowed, AllAllowed, NoIdTwice}
 use Rattle.bsii_widening.specs.Parts.{markedPrototypes, getMarked}
 use Rattle.bsii_widening.proofs.Marks.{all-insert, all-insertIf, all-asOld, new-markPrototype}
 use Rattle.bsii_widening.proofs.Says.{HasText}

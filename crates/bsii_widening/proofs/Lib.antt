@@ -6,7 +6,17 @@ pub mod Once
 pub mod Fields
 pub mod Invariant
 pub mod Text
+pub mod Start
 pub mod Lookups
 pub mod Unlisted
+pub mod Core
+pub mod Survives
+pub mod Exactly
 pub mod Demand3
+pub mod Equal
+pub mod Decided
+pub mod Computes
 pub mod Example
+pub mod EveryType
+pub mod Premises
+pub mod Splices

@@ -1,5 +1,5 @@
 -- What the field call found in the old save it finds in the new one, at the block's new number, with the same type and bytes.
-use mathlib.Core.Path.{_≡_, refl, sym, ap, _∙_, subst}
+use mathlib.Core.Path.{_≡_, refl, sym, ap, _∙_}
 use Prim.Native.Nat.{ℕ, zero, suc, _+_}
 use mathlib.Core.Bool.{Bool, true, false, cond, not, _||_}
 use mathlib.Core.Option.{Option, none, some, Option·map}
@@ -13,11 +13,11 @@ use Rattle.bsii_format.specs.Blocks.{DataValue, DataBlock, getPrototype}
 use Rattle.bsii_format.specs.File.{BsiiFile, Record, prototype, block, recordBytes, prototypesOf}
 use Rattle.bsii_format.specs.BlockText.{valuesOffset}
 use Rattle.bsii_format.specs.Calls.{Placed, placed, placedRecords, consBlock, blocksIn, blocksOf, fieldIndex, atIndex, fieldUnder, fieldIn, FieldAnswer, fieldAnswer, fieldOf}
-use Rattle.bsii_widening.specs.Marks.{Mark, old, inserted, unmark, all, olds, MarkedPrototype, MarkedBlock, markedPrototype, markedBlock, MarkedRecords, newPrototype, oldPrototype, newBlock, oldBlock, newRecords, oldRecords}
+use Rattle.bsii_widening.specs.Marks.{Mark, unmark, all, olds, MarkedPrototype, MarkedBlock, MarkedRecords, newPrototype, oldPrototype, newBlock, oldBlock, newRecords, oldRecords}
 use Rattle.bsii_widening.specs.Insertions.{hasName}
-use Rattle.bsii_widening.specs.Parts.{markedPrototypes, getMarked, renumber}
+use Rattle.bsii_widening.specs.Parts.{markedPrototypes, renumber}
 use Rattle.bsii_widening.proofs.Environments.{none≢some, some-inj, map-some, new-last, old-last, new-known, old-known}
-use Rattle.bsii_widening.proofs.Fields.{Aligned, level, both-old, both-new, Clear, Distinct}
+use Rattle.bsii_widening.proofs.Fields.{Aligned, level, both-old, both-new, Clear}
 use Rattle.bsii_widening.proofs.Invariant.{OldBlock, Inv, done, prototype-old, prototype-new, block-old, block-new, Sound}
 
 -- ---- the look-ups without offsets
@@ -25,7 +25,7 @@ use Rattle.bsii_widening.proofs.Invariant.{OldBlock, Inv, done, prototy
 bare : {A : Type 0} → Option (Placed A) → Option A
 bare = Option·map (λ p. p .it)
 
-blocks : List Record → List DataBlock
+unfoldable pub blocks : List Record → List DataBlock
 blocks [] = []
 blocks (prototype p ∷ l) = blocks l
 blocks (block b ∷ l) = b ∷ blocks l

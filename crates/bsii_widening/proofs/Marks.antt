@@ -1,5 +1,5 @@
 -- Laws of marks and of `insertAt`: what an insertion adds to all parts, and that it leaves the old ones as they were.
-use mathlib.Core.Path.{_≡_, refl, sym, ap, ap₂, _∙_}
+use mathlib.Core.Path.{_≡_, refl, ap, ap₂, _∙_}
 use Prim.Native.Nat.{ℕ, zero, suc}
 use mathlib.Core.Bool.{Bool, true, false}
 use mathlib.Core.List.{List, [], _∷_, _++_}
@@ -8,8 +8,8 @@ use Rattle.bsii_format.specs.Reader.{Consumed}
 use Rattle.bsii_format.specs.Prototypes.{ValuePrototype, Prototype}
 use Rattle.bsii_format.specs.Blocks.{DataValue, DataBlock}
 use Rattle.bsii_format.specs.File.{Record, prototype, block}
-use Rattle.bsii_widening.specs.Marks.{Mark, old, inserted, unmark, mapMark, all, olds, MarkedPrototype, MarkedBlock, MarkedRecord, markedPrototype, markedBlock, MarkedRecords, newPrototype, newBlock, newRecord, oldRecord, newRecords, oldRecords, asOld, markPrototype, markBlock, markRecord, markRecords}
-use Rattle.bsii_widening.specs.Insertions.{insertAt, insertIf, intoPrototype, intoRecord, nextBlock, insertField, Insertion, aField, aPrototype, aBlock, insert, insertAll}
+use Rattle.bsii_widening.specs.Marks.{Mark, old, inserted, unmark, mapMark, all, olds, MarkedRecord, markedPrototype, markedBlock, MarkedRecords, newPrototype, newBlock, newRecord, oldRecord, newRecords, oldRecords, asOld, markPrototype, markBlock, markRecord, markRecords}
+use Rattle.bsii_widening.specs.Insertions.{insertAt, insertIf, intoRecord, nextBlock, insertField, Insertion, aField, aPrototype, aBlock, insert, insertAll}
 
 pub all-insert : {A : Type 0} (p : ℕ) (x : A) (l : List (Mark A)) → all (insertAt p (inserted x) l) ≡ insertAt p x (all l)
 unfolding all insertAt

@@ -2,7 +2,7 @@
 use mathlib.Core.Path.{_≡_, refl, sym, ap, _∙_, subst}
 use Prim.Native.Nat.{ℕ, zero, suc}
 use mathlib.Core.Bool.{Bool, true, false, _||_, not, cond}
-use mathlib.Core.Option.{Option, none, some}
+use mathlib.Core.Option.{none, some}
 use mathlib.Core.List.{List, [], _∷_}
 use lib.ListN.{take}
 use lib.Dec.{T, eqb, eqb→eq, eqb-refl}
@@ -10,8 +10,8 @@ use Rattle.bsii_format.specs.Reader.{Consumed}
 use Rattle.bsii_format.specs.Prototypes.{ValuePrototype, Prototype}
 use Rattle.bsii_format.specs.Blocks.{DataValue, DataBlock, findBy, getPrototype}
 use Rattle.bsii_format.specs.File.{Record, prototype, block, define, defineAll, prototypesOf}
-use Rattle.bsii_widening.specs.Marks.{Mark, old, inserted, unmark, mapMark, MarkedPrototype, MarkedBlock, markedPrototype, markedBlock, MarkedRecords, newRecords, markPrototype, markBlock}
-use Rattle.bsii_widening.specs.Insertions.{insertAt, insertField, Insertion, aField, aPrototype, aBlock, insert, insertAll, Allowed, AllAllowed, definesId, NoIdTwice}
+use Rattle.bsii_widening.specs.Marks.{old, inserted, unmark, mapMark, markedPrototype, markedBlock, MarkedRecords, newRecords}
+use Rattle.bsii_widening.specs.Insertions.{insertAt, insertField, Insertion, aField, aPrototype, aBlock, insert, Allowed, definesId, NoIdTwice}
 use Rattle.bsii_widening.proofs.Marks.{new-insertPrototype, new-insertBlock}
 use Rattle.bsii_widening.proofs.Environments.{none≢some, this-id}
 
@@ -40,7 +40,7 @@ not-sym a b h = go (eqb b a) (λ t. subst (λ z. T (not (eqb z b))) (sym (eqb→
 
 -- ---- a definition in force is the last one
 
-known-stays : (n : ℕ) (l : List Record) (env : List Prototype) {q : Prototype} → getPrototype n env ≡ some q → T (not (definesId n l)) → getPrototype n (defineAll l env) ≡ some q
+pub known-stays : (n : ℕ) (l : List Record) (env : List Prototype) {q : Prototype} → getPrototype n env ≡ some q → T (not (definesId n l)) → getPrototype n (defineAll l env) ≡ some q
 unfolding defineAll define definesId findBy
 known-stays n [] env e h = e
 known-stays n (block b ∷ l) env e h = known-stays n l env e h
@@ -52,8 +52,16 @@ known-stays n (prototype p ∷ l) env {q} e h =
     go false k = e
 
 -- env and l share no id
-abbrev Apart : List Prototype → List Record → Type 0
+abbrev pub Apart : List Prototype → List Record → Type 0
 Apart env l = (m : ℕ) (q : Prototype) → getPrototype m env ≡ some q → T (not (definesId m l))
+
+pub apart-prototype : (env : List Prototype) (p : Prototype) (l : List Record) → Apart env (prototype p ∷ l) → T (not (definesId (p .id) l)) → Apart (p ∷ env) l
+unfolding definesId findBy
+apart-prototype env p l a o m q z = go (eqb m (p .id)) refl z
+  where
+    go : (b : Bool) → eqb m (p .id) ≡ b → cond b (some p) (getPrototype m env) ≡ some q → T (not (definesId m l))
+    go true y z = subst (λ x. T (not (definesId x l))) (sym (this-id m (p .id) y)) o
+    go false y z = nor-right (eqb m (p .id)) (definesId m l) (a m q z)
 
 known-later : (n : ℕ) (k : ℕ) (l : List Record) (env : List Prototype) {q : Prototype} → Apart env l → NoIdTwice l → getPrototype n (defineAll (take k l) env) ≡ some q
     → getPrototype n (defineAll l env) ≡ some q
@@ -62,14 +70,7 @@ known-later n zero [] env a o e = e
 known-later n zero (i ∷ l) env {q} a o e = known-stays n (i ∷ l) env e (a n q e)
 known-later n (suc k) [] env a o e = e
 known-later n (suc k) (block b ∷ l) env a o e = known-later n k l env a o e
-known-later n (suc k) (prototype p ∷ l) env a o e = known-later n k l (p ∷ env) apart (o .1) e
-  where
-    apart : Apart (p ∷ env) l
-    apart m q z = go (eqb m (p .id)) refl (unfold findBy in z)
-      where
-        go : (b : Bool) → eqb m (p .id) ≡ b → cond b (some p) (getPrototype m env) ≡ some q → T (not (definesId m l))
-        go true y z = subst (λ x. T (not (definesId x l))) (sym (this-id m (p .id) y)) (o .0)
-        go false y z = nor-right (eqb m (p .id)) (definesId m l) (a m q z)
+known-later n (suc k) (prototype p ∷ l) env a o e = known-later n k l (p ∷ env) (apart-prototype env p l a (o .0)) (o .1) e
 
 pub last-is-in-force : (n k : ℕ) (l : List Record) → NoIdTwice l → {q : Prototype} → getPrototype n (prototypesOf (take k l)) ≡ some q → getPrototype n (prototypesOf l) ≡ some q
 unfolding prototypesOf findBy
@@ -154,8 +155,3 @@ unfolding insert prototypesOf
 once-insert (aField n p d v) M a o = once-field n p d v 0 M o
 once-insert (aPrototype k p) M a o = subst NoIdTwice (sym (new-insertPrototype k p M)) (once-prototype k p (newRecords M) o (unknown-absent (p .id) (newRecords M) [] (a .undefined)))
 once-insert (aBlock k b) M a o = subst NoIdTwice (sym (new-insertBlock k b M)) (once-block k b (newRecords M) o)
-
-pub once-all : (l : List Insertion) (M : MarkedRecords) → AllAllowed l M → NoIdTwice (newRecords M) → NoIdTwice (newRecords (insertAll l M))
-unfolding insertAll
-once-all [] M a o = o
-once-all (i ∷ l) M a o = once-all l (insert i M) (a .1) (once-insert i M (a .0) o)

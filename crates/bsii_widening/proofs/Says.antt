@@ -1,7 +1,6 @@
 -- A value that was read has a text, unless it is an enum value outside its list.
-use mathlib.Core.Path.{_≡_, refl, sym, ap, ap₂, _∙_, subst}
-use Prim.Native.Nat.{ℕ, zero, suc, _+_}
-use mathlib.Core.Bool.{Bool, true, false}
+use mathlib.Core.Path.{_≡_, refl, ap, ap₂}
+use Prim.Native.Nat.{ℕ, suc}
 use mathlib.Core.Option.{Option, none, some, Option·map}
 use mathlib.Core.List.{List, [], _∷_, _++_}
 use lib.ListN.{length, getD}
@@ -12,7 +11,7 @@ use Rattle.bsii_format.specs.Types.{Numeric, float, floatVec2, floatVec3, float
 use Rattle.bsii_format.specs.Values.{Element, nums, str, word, ident, Value, single, array}
 use Rattle.bsii_format.specs.Prototypes.{EnumValue, ValuePrototype}
 use Rattle.bsii_format.specs.Digits.{decimal}
-use Rattle.bsii_format.specs.Text.{stringText, enumString, numericText, elementText, fieldLine, indexed, append, elementLines, valueText}
+use Rattle.bsii_format.specs.Text.{stringText, enumString, numericText, elementText, fieldLine, append, elementLines, valueText}
 use Rattle.bsii_widening.specs.Insertions.{numericListed, elementListed, ElementsListed, EnumListed}
 
 abbrev pub Some : {A : Type 0} → Option A → Type 0

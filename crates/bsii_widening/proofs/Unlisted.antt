@@ -1,7 +1,7 @@
 -- A last definition of an unlisted type: the first block of its id is refused at the value's start; where there is no such block nothing is asked
 -- of the values.
 use mathlib.Core.Path.{_≡_, refl, sym, ap, ap₂, _∙_, subst}
-use Prim.Native.Nat.{ℕ, zero, suc, _+_, _≤_, _<_}
+use Prim.Native.Nat.{ℕ, zero, suc, _+_, _≤_}
 use native.Mathlib.Nat.{add-assoc, add-zero, zero-add}
 use native.Mathlib.Omega.{arith}
 use mathlib.Core.Bool.{Bool, true, false, cond}
@@ -10,16 +10,16 @@ use mathlib.Core.List.{List, [], _∷_, _++_, append-assoc}
 use lib.ListN.{length, take, length-append}
 use lib.Dec.{T, eqb}
 use Rattle.bsii_format.specs.Replies.{Fault, unlistedType}
-use Rattle.bsii_format.specs.Reader.{Result, ok, fault, faultAt, Reader, after, _>>=_, _<$>_, fail, Consumed, with, consumed, WellFormed}
+use Rattle.bsii_format.specs.Reader.{fault, faultAt, after, _>>=_, _<$>_, fail, Consumed, consumed, WellFormed}
 use Rattle.bsii_format.specs.Strings.{Id, idParser}
 use Rattle.bsii_format.specs.Types.{shapeOf}
 use Rattle.bsii_format.specs.Values.{Value, valueParser, shapeParser}
 use Rattle.bsii_format.specs.Prototypes.{ValuePrototype, Prototype}
-use Rattle.bsii_format.specs.Blocks.{DataValue, DataBlock, getPrototype, dataValue, dataValueParser, dataValuesParser}
-use Rattle.bsii_format.specs.File.{Record, prototype, block, Head, carrying, headParser, Step, blockStep, dataBlockParser, stepParser, recordParser, define, distinctIds, consRecord, recordsThen, recordsFrom, recordsParser, headerParser, BsiiFile, bsiiFile, bsiiParser, valuesBytes, recordBytes, recordsBytes, fileBytes, defineAll}
+use Rattle.bsii_format.specs.Blocks.{DataValue, DataBlock, getPrototype, dataValueParser, dataValuesParser}
+use Rattle.bsii_format.specs.File.{Record, prototype, block, Head, carrying, headParser, blockStep, dataBlockParser, stepParser, recordParser, define, distinctIds, consRecord, recordsFrom, recordsParser, headerParser, BsiiFile, bsiiFile, bsiiParser, valuesBytes, recordBytes, recordsBytes, fileBytes, defineAll}
 use Rattle.bsii_format.specs.BlockText.{valuesOffset}
 use Rattle.bsii_format.proofs.Readers.{Fits, fault≢ok, map-fault, consumed-fits}
-use Rattle.bsii_format.proofs.Records.{GoodField, GoodValues, nil, cons, value-fits, GoodPrototype, GoodBlock, GoodRecord, records-step, room-for, ids-defineAll, head-takes}
+use Rattle.bsii_format.proofs.Records.{GoodField, GoodValues, nil, cons, value-fits, GoodRecord, records-step, room-for, ids-defineAll, head-takes}
 use Rattle.bsii_widening.specs.Marks.{Mark, old, inserted, unmark, mapMark, all, MarkedPrototype, MarkedBlock, markedPrototype, markedBlock, MarkedRecords, newPrototype, newBlock, newRecords}
 use Rattle.bsii_widening.specs.Insertions.{insertAt, insertIf, intoPrototype, intoBlock, insertField, ValuesAllowed}
 use Rattle.bsii_widening.specs.Parts.{getMarked}

@@ -4,15 +4,14 @@ use Prim.Native.Nat.{ℕ}
 use mathlib.Core.List.{List, [], _∷_, _++_}
 use Rattle.bsii_format.specs.Ascii.{ascii}
 use Rattle.bsii_format.specs.Reader.{Result, ok, fault, Consumed, with}
-use Rattle.bsii_format.specs.Strings.{named}
-use Rattle.bsii_format.specs.Types.{bool, enum}
-use Rattle.bsii_format.specs.Values.{nums, single, array}
-use Rattle.bsii_format.specs.Prototypes.{ValuePrototype, Prototype}
-use Rattle.bsii_format.specs.Blocks.{DataValue, DataBlock}
+use Rattle.bsii_format.specs.Values.{array}
+use Rattle.bsii_format.specs.Prototypes.{ValuePrototype}
+use Rattle.bsii_format.specs.Blocks.{DataValue}
 use Rattle.bsii_format.specs.File.{BsiiFile, parse}
 use Rattle.bsii_format.specs.Worked.{le, u32, workedFile}
-use Rattle.bsii_widening.specs.Marks.{MarkedRecords}
-use Rattle.bsii_widening.specs.Insertions.{Insertion, aField, aPrototype, aBlock, insert}
+use Rattle.bsii_widening.specs.Marks.{MarkedRecords, markRecords}
+use Rattle.bsii_widening.specs.Insertions.{Insertion, aField, insert}
+use Rattle.bsii_widening.specs.Written.{Written, field, prototypeAt, blockAt, madeAll}
 use Rattle.bsii_widening.specs.Claim.{widened}
 
 unfoldable pub fileOf : Result BsiiFile → BsiiFile
@@ -22,36 +21,20 @@ fileOf (fault x) = record { header = with 0 []; records = []; end = [] }
 unfoldable pub oldFile : BsiiFile
 oldFile = fileOf (parse 768 workedFile)
 
--- (i) the enum `e` behind `km`, 5 in every block
-unfoldable pub enumField : Consumed ValuePrototype
-enumField = with (record { typeId = 0x37; name = ascii "e"; enumValues = record { number = 5; string = ascii "five" } ∷ [] })
-    (u32 0x37 ++ u32 1 ++ ascii "e" ++ u32 1 ++ u32 5 ++ u32 4 ++ ascii "five")
+-- (i) the enum `e` behind `km`, with the list 5 `five`; 5 in block 0
+unfoldable pub enumField : Written
+enumField = field 7 1 (u32 0x37 ++ u32 1 ++ ascii "e" ++ u32 1 ++ u32 5 ++ u32 4 ++ ascii "five") (u32 5 ∷ [])
 
-unfoldable pub enumFive : ℕ → DataValue
-enumFive k = record { typeId = 0x37; value = single (with (nums enum (5 ∷ [])) (u32 5)); raw = u32 5 }
+-- (ii) the prototype 9, `p`, with one bool `b`, in front of the first record
+unfoldable pub extraPrototype : Written
+extraPrototype = prototypeAt 0 (u32 0 ++ le 1 1 ++ u32 9 ++ u32 1 ++ ascii "p" ++ u32 0x35 ++ u32 1 ++ ascii "b" ++ u32 0)
 
--- (ii) the prototype 9, `p`, with one bool `b`
-unfoldable pub extraPrototype : Prototype
-extraPrototype = record {
-  head = u32 0 ++ le 1 1 ++ u32 9 ++ u32 1 ++ ascii "p";
-  id = 9;
-  name = ascii "p";
-  fields = with (record { typeId = 0x35; name = ascii "b"; enumValues = [] }) (u32 0x35 ++ u32 1 ++ ascii "b") ∷ [];
-  terminator = u32 0;
-}
+-- (iii) a block of it, with the id `null`, in front of the end record
+unfoldable pub extraBlock : Written
+extraBlock = blockAt 3 (u32 9 ++ le 1 0 ++ le 1 1)
 
--- (iii) a block of it, with the id `null`
-unfoldable pub extraBlock : DataBlock
-extraBlock = record {
-  head = u32 9;
-  prototypeId = 9;
-  id = with (named []) (le 1 0);
-  values = record { typeId = 0x35; value = single (with (nums bool (1 ∷ [])) (le 1 1)); raw = le 1 1 } ∷ [];
-}
-
--- the prototype in front of the first record, the block in front of the end record
 unfoldable pub additions : List Insertion
-additions = aField 7 1 enumField enumFive ∷ aPrototype 0 extraPrototype ∷ aBlock 3 extraBlock ∷ []
+additions = madeAll (enumField ∷ extraPrototype ∷ extraBlock ∷ []) (markRecords (oldFile .records))
 
 unfoldable pub additionsText : List ℕ
 additionsText =
@@ -66,3 +49,7 @@ anyBytes k = record { typeId = 8; value = array []; raw = 1 ∷ 2 ∷ 3 ∷ [] }
 
 unfoldable pub afterUnlisted : MarkedRecords
 afterUnlisted = insert (aField 7 0 unlistedField anyBytes) (widened oldFile additions)
+
+-- the prototype alone: no block is of the id 9
+unfoldable pub unused : List Insertion
+unused = madeAll (extraPrototype ∷ []) (markRecords (oldFile .records))

@@ -2,7 +2,7 @@
 use mathlib.Core.Path.{_≡_}
 use Prim.Native.Nat.{ℕ, zero, suc, _≤_}
 use mathlib.Core.Bool.{Bool, true, false, _||_, not}
-use mathlib.Core.Option.{Option, none, some}
+use mathlib.Core.Option.{none, some}
 use mathlib.Core.List.{List, [], _∷_}
 use lib.ListN.{length, take, getD}
 use lib.Dec.{T, eqb}
@@ -14,7 +14,7 @@ use Rattle.bsii_format.specs.Prototypes.{EnumValue, ValuePrototype, Prototype, 
 use Rattle.bsii_format.specs.Blocks.{DataValue, DataBlock, getPrototype, dataValueParser}
 use Rattle.bsii_format.specs.File.{Record, prototype, block, more, recordParser, recordBytes, prototypesOf}
 use Rattle.bsii_format.specs.Text.{enumString}
-use Rattle.bsii_widening.specs.Marks.{Mark, inserted, unmark, mapMark, MarkedPrototype, MarkedBlock, MarkedRecord, markedPrototype, markedBlock, MarkedRecords, newRecords, markPrototype, markBlock}
+use Rattle.bsii_widening.specs.Marks.{inserted, unmark, mapMark, MarkedPrototype, MarkedBlock, MarkedRecord, markedPrototype, markedBlock, MarkedRecords, newRecords, markPrototype, markBlock}
 
 -- ---- making an insertion
 

@@ -1,6 +1,11 @@
--- Widening: document 01, "Widening"; FORMAT.md, "Widening".
+-- Widening: document 01, "Widening"; FORMAT.md, "Widening". Claim.antt has `Demand3`; the files in front of it say what its words mean, those behind it
+-- what any further call can claim, and worked lists.
 pub mod Marks
 pub mod Insertions
 pub mod Parts
 pub mod Claim
+pub mod Observers
+pub mod Splices
+pub mod Written
+pub mod EveryType
 pub mod Example

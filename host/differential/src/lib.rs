@@ -11,3 +11,4 @@ pub mod report;
 pub mod shrink;
 mod side;
 pub mod watch;
+pub mod widening;

@@ -1,42 +1,29 @@
 //! The library through its C interface.
 
-use calls::{Block, Element, Field, Implementation, Number, Prototype, Reading, Text};
+use calls::{Answer, Call, Implementation, Lent};
 use sii_decode::library;
 
 pub struct Linked;
 
 impl Implementation for Linked {
-    fn read(&mut self, file: &[u8], table: &mut [u32]) -> Reading {
-        library::read(file, table)
-    }
-
-    fn get_prototype(&mut self, file: &[u8], table: &mut [u32], id: u32) -> Prototype {
-        library::get_prototype(file, table, id)
-    }
-
-    fn block_at(&mut self, file: &[u8], table: &mut [u32], n: u64) -> Block {
-        library::block_at(file, table, n)
-    }
-
-    fn blocks_by_prototype_name(
-        &mut self,
-        file: &[u8],
-        table: &mut [u32],
-        name: &[u8],
-        n: u64,
-    ) -> Number {
-        library::blocks_by_prototype_name(file, table, name, n)
-    }
-
-    fn field_of(&mut self, file: &[u8], table: &mut [u32], block: u64, name: &[u8]) -> Field {
-        library::field_of(file, table, block, name)
-    }
-
-    fn element_of(&mut self, type_id: u32, part: &[u8], index: u64) -> Element {
-        library::element_of(type_id, part, index)
-    }
-
-    fn to_siin(&mut self, file: &[u8], table: &mut [u32], out: &mut [u8]) -> Text {
-        library::to_siin(file, table, out)
+    fn answer(&mut self, call: Call<'_>, lent: Lent<'_>) -> Answer {
+        let Lent { file, table, out } = lent;
+        match call {
+            Call::Read => Answer::Reading(library::read(file, table)),
+            Call::GetPrototype { id } => Answer::Prototype(library::get_prototype(file, table, id)),
+            Call::BlockAt { n } => Answer::Block(library::block_at(file, table, n)),
+            Call::BlocksByPrototypeName { name, n } => {
+                Answer::Number(library::blocks_by_prototype_name(file, table, name, n))
+            }
+            Call::FieldOf { block, name } => {
+                Answer::Field(library::field_of(file, table, block, name))
+            }
+            Call::ElementOf {
+                type_id,
+                part,
+                index,
+            } => Answer::Element(library::element_of(type_id, part, index)),
+            Call::ToSiin => Answer::Text(library::to_siin(file, table, out)),
+        }
     }
 }

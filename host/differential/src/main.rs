@@ -1,8 +1,10 @@
-//! `differential [--files N] [--seed S] [--first I] [--short | --large] [--source DIR]`
+//! `differential [--files N | --lists N] [--seed S] [--first I] [--short | --large] [--source DIR]`
 
+use calls::Implementation;
 use differential::compare::Comparison;
 use differential::report::{Difference, Tally};
 use differential::shrink::{hex_dump, shrink};
+use differential::widening::{self, Widenings};
 use differential::{large, watch};
 use generate::{Random, Short};
 use std::io::Write;
@@ -16,6 +18,8 @@ const ENOUGH: u64 = 1000;
 
 struct Arguments {
     files: Option<u64>,
+    /// Lists of insertions are asked about in place of files.
+    lists: Option<u64>,
     seed: u64,
     first: u64,
     kind: Kind,
@@ -41,6 +45,7 @@ fn number(text: &str) -> u64 {
 fn arguments() -> Arguments {
     let mut found = Arguments {
         files: None,
+        lists: None,
         seed: 1,
         first: 0,
         kind: Kind::Random,
@@ -54,6 +59,7 @@ fn arguments() -> Arguments {
         };
         match word.as_str() {
             "--files" => found.files = Some(number(&value())),
+            "--lists" => found.lists = Some(number(&value())),
             "--seed" => found.seed = number(&value()),
             "--first" => found.first = number(&value()),
             "--short" => found.kind = Kind::Short,
@@ -87,12 +93,14 @@ fn check_source(folder: &Path) {
 }
 
 #[cfg(feature = "linked")]
-fn link(comparison: &mut Comparison) {
-    comparison.library = Some(Box::new(differential::linked::Linked));
+fn library() -> Option<Box<dyn Implementation + Send>> {
+    Some(Box::new(differential::linked::Linked))
 }
 
 #[cfg(not(feature = "linked"))]
-fn link(_: &mut Comparison) {}
+fn library() -> Option<Box<dyn Implementation + Send>> {
+    None
+}
 
 type Files = Box<dyn Fn(u64) -> Vec<u8>>;
 
@@ -120,8 +128,11 @@ fn files(arguments: &Arguments) -> (u64, Files) {
 
 fn main() {
     let arguments = arguments();
+    if let Some(count) = arguments.lists {
+        exit(lists(count, &arguments));
+    }
     let mut comparison = Comparison::default();
-    link(&mut comparison);
+    comparison.library = library();
     let mut report = match oracle::silence_stdout() {
         Ok(stdout) => stdout,
         Err(error) => stop(&format!("standard output: {error}")),
@@ -149,6 +160,17 @@ fn main() {
     }
     let _ = report.write_all(tally.summary().as_bytes());
     exit(if tally.differences > 0 { 1 } else { 0 });
+}
+
+/// Demand 3 on lists of insertions; the exit status.
+fn lists(count: u64, arguments: &Arguments) -> i32 {
+    let mut asked = Widenings::default();
+    asked.library = library();
+    watch::start();
+    let Arguments { seed, first, .. } = *arguments;
+    let (report, differences) = widening::run(&mut asked, seed, first, count);
+    print!("{report}");
+    i32::from(differences > 0)
 }
 
 /// The difference on the smallest file that still shows it.

@@ -1,9 +1,9 @@
 //! The library against the model: every answer, with its offsets, and tables of all sizes.
 
 use crate::plan::{indices, Plan, TEXT_MEMORY};
-use crate::report::{Check, Tally};
+use crate::report::{Check, Difference, Tally};
 use crate::side::Side;
-use calls::Implementation;
+use calls::{Answer, Call, Implementation, Lent, Text};
 use generate::Random;
 use model::Model;
 
@@ -19,16 +19,6 @@ pub struct Pair<'a, 'b> {
     pub tally: &'a mut Tally,
 }
 
-macro_rules! both {
-    ($pair:ident, $call:ident, $label:literal $(, $argument:expr)*) => {{
-        let found = $pair.library.$call($pair.file $(, $argument)*)?;
-        let expected = $pair.model.$call($pair.file $(, $argument)*)?;
-        let asked = || format!("{:?}", ($($argument,)*));
-        $pair.tally.same((WHO, $label), asked, found, expected)?;
-        found
-    }};
-}
-
 impl Pair<'_, '_> {
     pub fn compare(&mut self, plan: &Plan, random: &mut Random) -> Check {
         self.lookups(plan)?;
@@ -37,28 +27,40 @@ impl Pair<'_, '_> {
         self.table_sizes(plan, random)
     }
 
+    /// Both are asked; the answer.
+    fn both(&mut self, call: Call<'_>, words: usize) -> Result<Answer, Difference> {
+        let found = self.library.ask(call, self.file, words)?;
+        let expected = self.model.ask(call, self.file, words)?;
+        let asked = || format!("{words} words, {call:?}");
+        self.tally
+            .same((WHO, call.name()), asked, found, expected)?;
+        Ok(found)
+    }
+
+    fn both_texts(&mut self, words: usize, room: usize) -> Result<Text, Difference> {
+        let found = self.library.text(self.file, words, room)?;
+        let expected = self.model.text(self.file, words, room)?;
+        let asked = || format!("{words} words, {room} bytes");
+        self.tally.same((WHO, "text"), asked, found, expected)?;
+        Ok(found)
+    }
+
     fn lookups(&mut self, plan: &Plan) -> Check {
         let words = plan.words;
-        both!(self, read, "reading", words);
+        self.both(Call::Read, words)?;
         for id in &plan.ids {
-            both!(self, get_prototype, "prototype", words, *id);
+            self.both(Call::GetPrototype { id: *id }, words)?;
         }
         for n in &plan.blocks {
-            both!(self, block_at, "block", words, *n);
+            self.both(Call::BlockAt { n: *n }, words)?;
         }
         for name in &plan.names {
+            let nth = |n| Call::BlocksByPrototypeName { name, n };
             let mut n = 0;
-            while both!(self, named, "blocks_by_prototype_name", words, name, n).number == 0 {
+            while self.both(nth(n), words)?.number() == 0 {
                 n += 1;
             }
-            both!(
-                self,
-                named,
-                "blocks_by_prototype_name",
-                words,
-                name,
-                u64::MAX
-            );
+            self.both(nth(u64::MAX), words)?;
         }
         Ok(())
     }
@@ -66,7 +68,9 @@ impl Pair<'_, '_> {
     fn fields(&mut self, plan: &Plan) -> Check {
         for n in &plan.blocks {
             for name in &plan.names {
-                let field = both!(self, field, "field", plan.words, *n, name);
+                let field = self
+                    .both(Call::FieldOf { block: *n, name }, plan.words)?
+                    .field();
                 if field.number == 0 {
                     let start = field.part_offset as usize;
                     let part = &self.file[start..start + field.part_len as usize];
@@ -90,8 +94,8 @@ impl Pair<'_, '_> {
 
     /// The element call with any bytes.
     pub fn element(&mut self, type_id: u32, part: &[u8], index: u64) -> Check {
-        let found = self.library.element(type_id, part, index).with_one_nan();
-        let expected = self.model.element(type_id, part, index).with_one_nan();
+        let found = self.library.element(type_id, part, index);
+        let expected = self.model.element(type_id, part, index);
         let asked = || format!("type {type_id:#x}, index {index}, {part:02x?}");
         self.tally.same((WHO, "element"), asked, found, expected)
     }
@@ -99,7 +103,7 @@ impl Pair<'_, '_> {
     /// With no room; and, as long as the text is of a size to be written, with room to spare, with
     /// exact room and with one byte too few.
     fn text(&mut self, words: usize) -> Check {
-        let refused = both!(self, text, "text", words, 0);
+        let refused = self.both_texts(words, 0)?;
         if refused.number != 11 || refused.length > TEXT_MEMORY {
             return Ok(());
         }
@@ -111,7 +115,7 @@ impl Pair<'_, '_> {
     }
 
     fn text_in(&mut self, words: usize, room: usize) -> Check {
-        let answer = both!(self, text, "text", words, room);
+        let answer = self.both_texts(words, room)?;
         if answer.number != 0 {
             return Ok(());
         }
@@ -143,28 +147,31 @@ impl Pair<'_, '_> {
     }
 
     fn table_size(&mut self, plan: &Plan, words: usize) -> Check {
-        let last = plan.names.len() - 1;
-        both!(self, read, "reading", words);
-        both!(self, get_prototype, "prototype", words, plan.ids[0]);
-        both!(self, block_at, "block", words, 0);
-        both!(
-            self,
-            named,
-            "blocks_by_prototype_name",
-            words,
-            &plan.names[last],
-            0
-        );
-        both!(self, field, "field", words, 0, &plan.names[last]);
+        let name = plan.names.last().expect("some are always asked for");
+        let calls = [
+            Call::Read,
+            Call::GetPrototype { id: plan.ids[0] },
+            Call::BlockAt { n: 0 },
+            Call::BlocksByPrototypeName { name, n: 0 },
+            Call::FieldOf { block: 0, name },
+        ];
+        for call in calls {
+            self.both(call, words)?;
+        }
         self.text(words)
     }
 }
 
 /// A faulty value's reply is the Rust's reply to a file whose only block starts with that value.
 pub fn element_fault(type_id: u32, part: &[u8], tally: &mut Tally) -> Check {
-    let refused = Model::default().element_of(type_id, part, 0);
+    let call = Call::ElementOf {
+        type_id,
+        part,
+        index: 0,
+    };
+    let refused = Model::default().answer(call, Lent::default()).number();
     // A definition cannot have type 0.
-    if type_id == 0 || !matches!(refused.number, 3 | 4 | 5 | 7) {
+    if type_id == 0 || !matches!(refused, 3 | 4 | 5 | 7) {
         return Ok(());
     }
     let mut file = b"BSII\x02\0\0\0\0\0\0\0\x01\x01\0\0\0\0\0\0\0".to_vec();
@@ -178,10 +185,5 @@ pub fn element_fault(type_id: u32, part: &[u8], tally: &mut Tally) -> Check {
         _ => 0,
     };
     let asked = || format!("type {type_id:#x}, {part:02x?}");
-    tally.same(
-        ("model and Rust", "faulty value"),
-        asked,
-        refused.number,
-        rust,
-    )
+    tally.same(("model and Rust", "faulty value"), asked, refused, rust)
 }

@@ -1,9 +1,9 @@
 //! An implementation against the unchanged Rust.
 
 use crate::plan::{indices, Plan, TEXT_MEMORY};
-use crate::report::{differ, Check, Exception, Label, Note, Tally};
+use crate::report::{differ, Check, Difference, Exception, Label, Note, Tally};
 use crate::side::Side;
-use calls::{kind, one_nan, Element, LENGTH_LIMIT};
+use calls::{kind, one_nan, Answer, Call, Element, LENGTH_LIMIT};
 use model::{word_text, Model, Place};
 use oracle::{BsiiFile, DataValue, Fault, Id};
 
@@ -120,14 +120,20 @@ fn refusals(
     expected: u32,
     tally: &mut Tally,
 ) -> Check {
-    let words = plan.words;
-    let found = [
-        side.read(file, words)?.number,
-        side.get_prototype(file, words, 1)?.number,
-        side.block_at(file, words, 0)?.number,
-        side.named(file, words, b"", 0)?.number,
-        side.field(file, words, 0, b"")?.number,
+    let calls = [
+        Call::Read,
+        Call::GetPrototype { id: 1 },
+        Call::BlockAt { n: 0 },
+        Call::BlocksByPrototypeName { name: b"", n: 0 },
+        Call::FieldOf {
+            block: 0,
+            name: b"",
+        },
     ];
+    let mut found = [0; 5];
+    for (found, call) in found.iter_mut().zip(calls) {
+        *found = side.ask(call, file, plan.words)?.number();
+    }
     let label = label(side, "class of a refused file");
     tally.same(
         label,
@@ -146,13 +152,17 @@ struct Lookups<'a, 'b, 'f> {
 }
 
 impl Lookups<'_, '_, '_> {
+    fn ask(&mut self, call: Call<'_>) -> Result<Answer, Difference> {
+        self.side.ask(call, self.file, self.plan.words)
+    }
+
     fn offset_of(&self, text: &str) -> (u64, u64) {
         let offset = text.as_ptr() as usize - self.file.as_ptr() as usize;
         (offset as u64, text.len() as u64)
     }
 
     fn reading(&mut self) -> Check {
-        let reading = self.side.read(self.file, self.plan.words)?;
+        let reading = self.ask(Call::Read)?.reading();
         let found = (reading.number, reading.prototypes, reading.blocks);
         let counts = (self.parsed.prototypes.len(), self.parsed.data_blocks.len());
         let expected = (0, counts.0 as u64, counts.1 as u64);
@@ -177,7 +187,7 @@ impl Lookups<'_, '_, '_> {
     fn prototypes(&mut self) -> Check {
         let label = label(self.side, "prototype");
         for id in &self.plan.ids {
-            let answer = self.side.get_prototype(self.file, self.plan.words, *id)?;
+            let answer = self.ask(Call::GetPrototype { id: *id })?.prototype();
             let expected = match self.parsed.get_prototype(*id) {
                 None => (13, 0, 0, 0),
                 Some(prototype) => {
@@ -200,7 +210,7 @@ impl Lookups<'_, '_, '_> {
     fn blocks(&mut self) -> Check {
         let label = label(self.side, "block");
         for n in &self.plan.blocks {
-            let answer = self.side.block_at(self.file, self.plan.words, *n)?;
+            let answer = self.ask(Call::BlockAt { n: *n })?.block();
             let block = self.parsed.data_blocks.get(*n as usize);
             let expected = block.map_or((13, 0), |block| (0, block.prototype_id));
             let found = (answer.number, answer.prototype_id);
@@ -224,7 +234,8 @@ impl Lookups<'_, '_, '_> {
             expected.push(None);
             for (n, expected) in expected.iter().enumerate() {
                 let n = n as u64;
-                let answer = self.side.named(self.file, self.plan.words, name, n)?;
+                let call = Call::BlocksByPrototypeName { name, n };
+                let answer = self.ask(call)?.named();
                 let found = (answer.number, answer.value);
                 let expected = expected.map_or((13, 0), |value| (0, value));
                 self.tally
@@ -258,7 +269,7 @@ impl Lookups<'_, '_, '_> {
     }
 
     fn field(&mut self, n: u64, name: &[u8]) -> Check {
-        let answer = self.side.field(self.file, self.plan.words, n, name)?;
+        let answer = self.ask(Call::FieldOf { block: n, name })?.field();
         let block = self.parsed.data_blocks.get(n as usize);
         let value = match (block, std::str::from_utf8(name)) {
             (Some(block), Ok(name)) => block.field(self.parsed, name),
@@ -274,12 +285,10 @@ impl Lookups<'_, '_, '_> {
         };
         for index in indices(count(value)) {
             let element = self.side.element(answer.type_id, bytes, index);
-            let expected = expected_element(value, index);
-            // The library has one NaN; the model keeps each one's bits.
-            let (element, expected) = match self.side.name {
-                "model" => (element, expected),
-                _ => (element.with_one_nan(), expected.with_one_nan()),
-            };
+            let (expected, is_other_nan) = expected_element(value, index).with_one_nan();
+            if is_other_nan {
+                self.tally.except(Exception::ElementNan);
+            }
             let ok = same_element(&element, bytes, &expected);
             let asked = || format!("{}, index {index}: {element:?}, Rust {value:?}", asked());
             let label = label(self.side, "element");
@@ -306,12 +315,14 @@ enum Expected<'a> {
 }
 
 impl Expected<'_> {
-    fn with_one_nan(self) -> Self {
+    /// With the one NaN that there is for every other, and whether there is another.
+    fn with_one_nan(self) -> (Self, bool) {
         match self {
             Expected::Parts(case, parts) if case != kind::THREE_I32 => {
-                Expected::Parts(case, parts.map(one_nan))
+                let one = parts.map(one_nan);
+                (Expected::Parts(case, one), one != parts)
             }
-            other => other,
+            other => (other, false),
         }
     }
 }

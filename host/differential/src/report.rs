@@ -33,6 +33,9 @@ pub enum Exception {
     /// A placement's f1 or f3 is a NaN and the Rust shows other bits for the sum. All other bytes
     /// of the text are compared.
     PlacementNan,
+    /// A float of the element is a NaN of other bits than `ONE_NAN`: the Rust keeps them, and here
+    /// there is one NaN. All else of the element is compared.
+    ElementNan,
 }
 
 /// Places that are compared like all others, counted since the Rust gets there only in this build.
@@ -52,6 +55,7 @@ impl Exception {
             Exception::LengthLimit => "length-limit",
             Exception::TextMemory => "text-memory",
             Exception::PlacementNan => "placement-nan",
+            Exception::ElementNan => "element-nan",
         }
     }
 }

@@ -34,6 +34,12 @@ pub fn now(index: u64) {
     unsafe { alarm(60) };
 }
 
+/// No file is looked at any more.
+pub fn done() {
+    // SAFETY: takes a number; 0 ends the alarm.
+    unsafe { alarm(0) };
+}
+
 extern "C" fn stopped(number: i32) {
     let named = SIGNALS.iter().find(|(signal, _)| *signal == number);
     let mut digits = [b' '; 24];

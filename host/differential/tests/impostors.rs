@@ -1,6 +1,6 @@
 //! The comparison has to find each of these wrong implementations out.
 
-use calls::{Block, Element, Field, Implementation, Number, Prototype, Reading, Text};
+use calls::{Answer, Block, Call, Element, Field, Implementation, Lent, Prototype, Reading, Text};
 use differential::compare::Comparison;
 use differential::report::Tally;
 use generate::Random;
@@ -34,9 +34,10 @@ enum Fault {
     TypeOfLast,
     IgnoresBit63,
     EnumAsU32,
+    NanKeepsItsBits,
 }
 
-const FAULTS: [Fault; 25] = [
+const FAULTS: [Fault; 26] = [
     Fault::RefusesEach,
     Fault::FindsNoName,
     Fault::FirstBlockForAll,
@@ -62,6 +63,7 @@ const FAULTS: [Fault; 25] = [
     Fault::TypeOfLast,
     Fault::IgnoresBit63,
     Fault::EnumAsU32,
+    Fault::NanKeepsItsBits,
 ];
 
 struct Impostor {
@@ -110,26 +112,64 @@ impl Impostor {
 }
 
 impl Implementation for Impostor {
-    fn read(&mut self, file: &[u8], table: &mut [u32]) -> Reading {
-        table.fill(0);
+    fn answer(&mut self, call: Call<'_>, lent: Lent<'_>) -> Answer {
+        let Lent { file, table, out } = lent;
+        let before = out.to_vec();
         let mut words = self.words(table);
-        let mut answer = self.model.read(file, &mut words);
-        self.spoil_table(table, answer.number);
+        table.fill(0);
+        let lent = Lent {
+            file,
+            table: &mut words,
+            out,
+        };
+        let asked = self.changed_call(call, file);
+        let answer = self.model.answer(asked, lent);
+        self.spoil_table(table, answer.number());
+        match answer {
+            Answer::Reading(answer) => Answer::Reading(self.reading(answer, file)),
+            Answer::Prototype(answer) => Answer::Prototype(self.prototype(answer)),
+            Answer::Block(answer) => Answer::Block(self.block(answer)),
+            Answer::Field(answer) => Answer::Field(self.field(answer, call, file)),
+            Answer::Element(answer) => Answer::Element(self.element(answer, call)),
+            Answer::Text(answer) => Answer::Text(self.text(answer, file, out, &before)),
+            Answer::Number(_) => answer,
+        }
+    }
+}
+
+impl Impostor {
+    fn blocks(&mut self, file: &[u8]) -> u64 {
+        let parsed = self.model.parsed(file, usize::MAX);
+        parsed.map_or(0, |parsed| parsed.blocks.len() as u64)
+    }
+
+    /// What the model is asked in place of the call.
+    fn changed_call<'a>(&mut self, call: Call<'a>, file: &[u8]) -> Call<'a> {
+        match call {
+            Call::FieldOf { block, name }
+                if self.is(Fault::FirstBlockForAll) && block < self.blocks(file) =>
+            {
+                Call::FieldOf { block: 0, name }
+            }
+            call => call,
+        }
+    }
+
+    fn reading(&mut self, mut answer: Reading, file: &[u8]) -> Reading {
         match self.fault {
             Fault::RefusesEach => return Reading::refused(3, 0),
             Fault::OffsetOfMalformed if answer.number == 3 => answer.offset += 1,
             Fault::EndRecordForgotten => answer.next -= answer.next.min(5),
-            Fault::CountsIdZeroOut => {
-                let zero = self.model.get_prototype(file, &mut words, 0).number == 0;
-                answer.prototypes -= zero as u64;
+            Fault::CountsIdZeroOut if answer.number == 0 => {
+                let parsed = self.model.parsed(file, usize::MAX).expect("it answered");
+                answer.prototypes -= parsed.prototype(0).is_some() as u64;
             }
             _ => {}
         }
         answer
     }
 
-    fn get_prototype(&mut self, file: &[u8], table: &mut [u32], id: u32) -> Prototype {
-        let mut answer = self.model.get_prototype(file, table, id);
+    fn prototype(&self, mut answer: Prototype) -> Prototype {
         if self.is(Fault::NameWithLength) {
             answer.name_offset = answer.name_offset.saturating_sub(4);
             answer.name_len += 4;
@@ -137,8 +177,7 @@ impl Implementation for Impostor {
         answer
     }
 
-    fn block_at(&mut self, file: &[u8], table: &mut [u32], n: u64) -> Block {
-        let mut answer = self.model.block_at(file, table, n);
+    fn block(&self, mut answer: Block) -> Block {
         if self.is(Fault::AbsentComesFirst) && answer.number == 3 {
             return Block::refused(13, 0);
         }
@@ -149,28 +188,10 @@ impl Implementation for Impostor {
         answer
     }
 
-    fn blocks_by_prototype_name(
-        &mut self,
-        file: &[u8],
-        table: &mut [u32],
-        name: &[u8],
-        n: u64,
-    ) -> Number {
-        self.model.blocks_by_prototype_name(file, table, name, n)
-    }
-
-    fn field_of(&mut self, file: &[u8], table: &mut [u32], block: u64, name: &[u8]) -> Field {
-        let blocks = self
-            .model
-            .parsed(file, usize::MAX)
-            .map_or(0, |p| p.blocks.len());
-        let first = self.is(Fault::FirstBlockForAll) && block < blocks as u64;
-        let mut answer = self
-            .model
-            .field_of(file, table, if first { 0 } else { block }, name);
-        match self.fault {
-            Fault::FindsNoName if answer.number == 0 => return Field::refused(13, 0),
-            Fault::TypeOfLast if answer.number == 0 => {
+    fn field(&mut self, mut answer: Field, call: Call<'_>, file: &[u8]) -> Field {
+        match (self.fault, call) {
+            (Fault::FindsNoName, _) if answer.number == 0 => return Field::refused(13, 0),
+            (Fault::TypeOfLast, Call::FieldOf { block, name }) if answer.number == 0 => {
                 let parsed = self.model.parsed(file, usize::MAX).expect("it answered");
                 let last = parsed.last_of(&parsed.blocks[block as usize]);
                 let field = last.fields.iter().find(|f| f.name.of(file) == name);
@@ -181,13 +202,25 @@ impl Implementation for Impostor {
         answer
     }
 
-    fn element_of(&mut self, type_id: u32, part: &[u8], index: u64) -> Element {
-        let whole = self.model.element_of(type_id, part, index);
+    fn element(&mut self, whole: Element, call: Call<'_>) -> Element {
+        let Call::ElementOf {
+            type_id,
+            part,
+            index,
+        } = call
+        else {
+            return whole;
+        };
         match self.fault {
             Fault::StopsAtIndex if matches!(whole.number, 3..=5) && part.len() >= 4 => {
                 let mut less = part.to_vec();
                 less[..4].copy_from_slice(&(index as u32).saturating_add(1).to_le_bytes());
-                self.model.element_of(type_id, &less, index)
+                let call = Call::ElementOf {
+                    type_id,
+                    part: &less,
+                    index,
+                };
+                self.model.answer(call, Lent::default()).element()
             }
             Fault::IgnoresBit63 if type_id == 3 && whole.number == 0 => Element {
                 value: u64::from_le_bytes(part[..8].try_into().unwrap()),
@@ -197,15 +230,20 @@ impl Implementation for Impostor {
                 kind: calls::kind::U32,
                 ..whole
             },
+            Fault::NanKeepsItsBits if type_id == 5 && whole.number == 0 => {
+                let bits = u32::from_le_bytes(part[..4].try_into().unwrap());
+                Element {
+                    parts: [bits, 0, 0, 0, 0, 0, 0, 0],
+                    ..whole
+                }
+            }
             _ => whole,
         }
     }
 
-    fn to_siin(&mut self, file: &[u8], table: &mut [u32], out: &mut [u8]) -> Text {
-        let before = out.to_vec();
-        let mut answer = self.model.to_siin(file, table, out);
+    fn text(&mut self, mut answer: Text, file: &[u8], out: &mut [u8], before: &[u8]) -> Text {
         match (self.fault, answer.number) {
-            (Fault::WritesNothing, 0) => out.copy_from_slice(&before),
+            (Fault::WritesNothing, 0) => out.copy_from_slice(before),
             (Fault::InventsLength, 0) => answer.length -= 1,
             (Fault::InventsNeededLength, 11) => answer.length += 1,
             (Fault::WritesBeforeRefusing, 8..=11) if !out.is_empty() => out[0] = !out[0],
@@ -213,19 +251,16 @@ impl Implementation for Impostor {
                 out[answer.length as usize] ^= 1
             }
             (Fault::OutputTooEarly, 0) if out.len() == answer.length as usize => {
-                out.copy_from_slice(&before);
-                answer = Text {
-                    number: 11,
-                    ..answer
-                };
+                out.copy_from_slice(before);
+                answer.number = 11;
             }
             (Fault::FixedText, 0) => {
-                out.copy_from_slice(&before);
+                out.copy_from_slice(before);
                 out[..13].copy_from_slice(b"SiiNunit\n{\n}\n");
                 answer.length = 13;
             }
             (Fault::FirstBlocksText, 0) => {
-                out.copy_from_slice(&before);
+                out.copy_from_slice(before);
                 let text = self.first_block_repeated(file);
                 answer.length = text.len() as u64;
                 match out.get_mut(..text.len()) {

@@ -1,6 +1,6 @@
 //! The sample save has its stored text by the unchanged Rust and by the model.
 
-use calls::Implementation;
+use calls::{Call, Implementation, Lent};
 use model::Model;
 use std::path::Path;
 
@@ -20,7 +20,12 @@ fn has_the_text_of_the_rust() {
 fn has_the_text_of_the_model() {
     let (save, text) = (sample("garage.bsii"), sample("garage.sii"));
     let (mut table, mut out) = ([7; 9], vec![7; text.len()]);
-    let answer = Model::default().to_siin(&save, &mut table, &mut out);
+    let lent = Lent {
+        file: &save,
+        table: &mut table,
+        out: &mut out,
+    };
+    let answer = Model::default().answer(Call::ToSiin, lent).text();
     assert_eq!((answer.number, answer.length), (0, text.len() as u64));
     assert_eq!(out, text);
 }

@@ -2,7 +2,7 @@
 //! measures it must not go through the name for each of them.
 #![cfg(feature = "linked")]
 
-use calls::{Implementation, LENGTH_LIMIT};
+use calls::{Call, Implementation, Lent, LENGTH_LIMIT};
 use differential::linked::Linked;
 use std::time::{Duration, Instant};
 
@@ -32,7 +32,8 @@ fn is_measured_without_going_through_the_name() {
     assert!(file.len() <= LENGTH_LIMIT && LENGTH_LIMIT < file.len() + 64);
     let mut table = [7; 3];
     let start = Instant::now();
-    let answer = Linked.to_siin(&file, &mut table, &mut []);
+    let lent = Lent::file(&file, &mut table);
+    let answer = Linked.answer(Call::ToSiin, lent).text();
     let time = start.elapsed();
     // `  NAME: COUNT`, and for each element `  NAME[i]: true`, each with a line feed
     let lines = 2 + name + 2 + count.to_string().len() as u64 + 1;

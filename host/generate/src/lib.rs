@@ -4,8 +4,10 @@ pub mod bytes;
 mod corners;
 mod damage;
 mod random;
+pub mod save;
 mod short;
 mod valid;
+pub mod widening;
 
 pub use random::Random;
 pub use short::Short;

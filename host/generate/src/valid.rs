@@ -10,7 +10,7 @@ pub const LISTED: [u32; 33] = [
     0x37,
 ];
 
-const UNLISTED: [u32; 16] = [
+pub const UNLISTED: [u32; 16] = [
     0x08,
     0x0a,
     0x0b,
@@ -29,7 +29,7 @@ const UNLISTED: [u32; 16] = [
     0xffff_ffff,
 ];
 
-const PROTOTYPE_IDS: [u32; 9] = [0, 1, 2, 3, 7, 0xff, 0x100, 0x0100_0000, 0xffff_ffff];
+pub const PROTOTYPE_IDS: [u32; 9] = [0, 1, 2, 3, 7, 0xff, 0x100, 0x0100_0000, 0xffff_ffff];
 
 /// A file in the making.
 #[derive(Default)]
@@ -281,6 +281,14 @@ fn placement(random: &mut Random, made: &mut Made) {
             _ => corners::float(random),
         });
     }
+}
+
+/// A value of a listed type without a fault; not for an enum, whose value hangs on its list.
+pub fn well_formed(random: &mut Random, type_id: u32) -> Vec<u8> {
+    let mut made = Made::default();
+    let list = Vec::new();
+    value(random, &mut made, &Definition { type_id, list });
+    made.bytes
 }
 
 /// One value and its type.

@@ -227,6 +227,7 @@ pub fn value(
     Ok(Some(count))
 }
 
+/// Floats are kept as floats, so there is one NaN; the text has each one's own bits.
 pub fn element_of(type_id: u32, part: &[u8], index: u64) -> Result<Element, Refusal> {
     let mut cursor = Cursor { bytes: part, at: 0 };
     let (mut found, mut position) = (None, 0);
@@ -236,5 +237,5 @@ pub fn element_of(type_id: u32, part: &[u8], index: u64) -> Result<Element, Refu
         }
         position += 1;
     })?;
-    found.map_or(refuse(13, 0), Ok)
+    found.map_or(refuse(13, 0), |element| Ok(element.with_one_nan()))
 }

@@ -11,7 +11,9 @@ pub use layout::{word_text, Cursor, Place, Refusal};
 pub use lookup::{Definition, Parsed};
 pub use text::OpenPlace;
 
-use calls::{Block, Element, Field, Implementation, Number, Prototype, Reading, Text};
+use calls::{
+    Answer, Block, Call, Element, Field, Implementation, Lent, Number, Prototype, Reading, Text,
+};
 
 /// Keeps the last file it read, since many calls on one file follow each other.
 #[derive(Default)]
@@ -36,18 +38,6 @@ impl Model {
         }
     }
 
-    /// A call that takes a table: three words hold one id, and all words are zero afterwards.
-    fn with_table<T>(
-        &mut self,
-        file: &[u8],
-        table: &mut [u32],
-        answer: impl FnOnce(&Parsed) -> Result<T, Refusal>,
-    ) -> Result<T, Refusal> {
-        let capacity = table.len() / 3;
-        table.fill(0);
-        answer(self.parsed(file, capacity)?)
-    }
-
     /// The whole text, and the places in it that 01 excludes from the comparison with the Rust.
     pub fn whole_text(
         &mut self,
@@ -59,68 +49,70 @@ impl Model {
     }
 }
 
+/// The answer of one kind, or the refusal as one of that kind.
 macro_rules! answer {
     ($kind:ident, $result:expr) => {
-        match $result {
+        Answer::$kind(match $result {
             Ok(answer) => answer,
             Err(refusal) => $kind::refused(refusal.number, refusal.offset as u64),
-        }
+        })
     };
 }
 
 impl Implementation for Model {
-    fn read(&mut self, file: &[u8], table: &mut [u32]) -> Reading {
-        answer!(Reading, self.with_table(file, table, |p| Ok(p.reading())))
-    }
-
-    fn get_prototype(&mut self, file: &[u8], table: &mut [u32], id: u32) -> Prototype {
-        answer!(
-            Prototype,
-            self.with_table(file, table, |p| p.get_prototype(id))
-        )
-    }
-
-    fn block_at(&mut self, file: &[u8], table: &mut [u32], n: u64) -> Block {
-        answer!(Block, self.with_table(file, table, |p| p.block_at(n)))
-    }
-
-    fn blocks_by_prototype_name(
-        &mut self,
-        file: &[u8],
-        table: &mut [u32],
-        name: &[u8],
-        n: u64,
-    ) -> Number {
-        let result = self.with_table(file, table, |p| p.nth_block_named(file, name, n));
-        answer!(Number, result)
-    }
-
-    fn field_of(&mut self, file: &[u8], table: &mut [u32], block: u64, name: &[u8]) -> Field {
-        answer!(
-            Field,
-            self.with_table(file, table, |p| p.field_of(file, block, name))
-        )
-    }
-
-    fn element_of(&mut self, type_id: u32, part: &[u8], index: u64) -> Element {
-        answer!(Element, layout::element_of(type_id, part, index))
-    }
-
-    fn to_siin(&mut self, file: &[u8], table: &mut [u32], out: &mut [u8]) -> Text {
-        let limit = out.len();
-        let made = self.with_table(file, table, |p| text::text(p, file, limit));
-        let (number, length) = match made {
-            Err(refusal) => return Text::refused(refusal.number, refusal.offset as u64),
-            Ok((_, length, _)) if length > limit as u64 => (11, length),
-            Ok((bytes, length, _)) => {
-                out[..bytes.len()].copy_from_slice(&bytes);
-                (0, length)
+    /// Three words of the table hold one id, and all of them are zero afterwards.
+    fn answer(&mut self, call: Call<'_>, lent: Lent<'_>) -> Answer {
+        let Lent { file, table, out } = lent;
+        let ids = table.len() / 3;
+        table.fill(0);
+        match call {
+            Call::Read => answer!(Reading, self.parsed(file, ids).map(Parsed::reading)),
+            Call::GetPrototype { id } => {
+                answer!(
+                    Prototype,
+                    self.parsed(file, ids).and_then(|p| p.get_prototype(id))
+                )
             }
-        };
-        Text {
-            number,
-            offset: 0,
-            length,
+            Call::BlockAt { n } => {
+                answer!(Block, self.parsed(file, ids).and_then(|p| p.block_at(n)))
+            }
+            Call::BlocksByPrototypeName { name, n } => {
+                answer!(
+                    Number,
+                    self.parsed(file, ids)
+                        .and_then(|p| p.nth_block_named(file, name, n))
+                )
+            }
+            Call::FieldOf { block, name } => {
+                answer!(
+                    Field,
+                    self.parsed(file, ids)
+                        .and_then(|p| p.field_of(file, block, name))
+                )
+            }
+            Call::ToSiin => answer!(
+                Text,
+                self.parsed(file, ids).and_then(|p| to_siin(p, file, out))
+            ),
+            Call::ElementOf {
+                type_id,
+                part,
+                index,
+            } => answer!(Element, layout::element_of(type_id, part, index)),
         }
     }
+}
+
+/// The text in the output, or 11 with the length that is needed.
+fn to_siin(parsed: &Parsed, file: &[u8], out: &mut [u8]) -> Result<Text, Refusal> {
+    let (bytes, length, _) = text::text(parsed, file, out.len())?;
+    let fits = length <= out.len() as u64;
+    if fits {
+        out[..bytes.len()].copy_from_slice(&bytes);
+    }
+    Ok(Text {
+        number: if fits { 0 } else { 11 },
+        offset: 0,
+        length,
+    })
 }

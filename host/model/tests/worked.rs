@@ -1,11 +1,16 @@
 //! Document 01's worked bytes, and offsets that no other side gives.
 
-use calls::{Element, Implementation, Text};
+use calls::{Call, Element, Implementation, Lent, Text};
 use model::Model;
+
+fn text_in(file: &[u8], table: &mut [u32], out: &mut [u8]) -> Text {
+    let lent = Lent { file, table, out };
+    Model::default().answer(Call::ToSiin, lent).text()
+}
 
 fn text_of(file: &[u8]) -> String {
     let mut out = vec![0; 4096];
-    let text = Model::default().to_siin(file, &mut [0; 768], &mut out);
+    let text = text_in(file, &mut [0; 768], &mut out);
     match text.number {
         0 => String::from_utf8(out[..text.length as usize].to_vec()).unwrap(),
         number => format!("refused {number} at {}", text.offset),
@@ -167,7 +172,8 @@ fn table() {
     ]);
     let read = |words: usize| {
         let mut table = vec![7; words];
-        let reading = Model::default().read(&two, &mut table);
+        let lent = Lent::file(&two, &mut table);
+        let reading = Model::default().answer(Call::Read, lent).reading();
         assert!(table.iter().all(|word| *word == 0));
         (reading.number, reading.offset, reading.prototypes)
     };
@@ -180,7 +186,7 @@ fn table() {
 fn output() {
     let file = file(&[]);
     let mut out = [7; 12];
-    let text = Model::default().to_siin(&file, &mut [], &mut out);
+    let text = text_in(&file, &mut [], &mut out);
     assert_eq!((text.number, text.length, out), (11, 13, [7; 12]));
 }
 
@@ -190,7 +196,7 @@ fn needed_length_beyond_32_bits() {
     let name = "n".repeat(1 << 20);
     let block = [b"\x01\0\0\0\0\0\0\x10\0".as_slice(), &vec![0; 1 << 20]].concat();
     let file = file(&[prototype(1, "p", &[(0x36, &name)]), block]);
-    let text = Model::default().to_siin(&file, &mut [0; 3], &mut []);
+    let text = text_in(&file, &mut [0; 3], &mut []);
     let expected = Text {
         number: 11,
         offset: 0,
@@ -202,7 +208,12 @@ fn needed_length_beyond_32_bits() {
 #[test]
 fn elements() {
     let element = |type_id: u32, part: &[u8], index: u64| -> Element {
-        Model::default().element_of(type_id, part, index)
+        let call = Call::ElementOf {
+            type_id,
+            part,
+            index,
+        };
+        Model::default().answer(call, Lent::default()).element()
     };
     let two = b"\x02\0\0\0\x01\0\0\0a\x01\0\0\0b";
     let second = element(2, two, 1);

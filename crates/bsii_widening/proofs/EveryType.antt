@@ -1,0 +1,32 @@
+-- The list with every listed type meets the premises, and the old value is found where the block stands now: all of it is computed.
+use mathlib.Core.Path.{_≡_, refl}
+use mathlib.Core.List.{List, [], _++_}
+use Rattle.bsii_format.specs.Ascii.{ascii}
+use Rattle.bsii_format.specs.Replies.{gives}
+use Rattle.bsii_format.specs.Calls.{fieldCall, FieldAnswer}
+use Rattle.bsii_format.specs.Worked.{u32}
+use Rattle.bsii_widening.specs.Insertions.{Insertion, AllAllowed}
+use Rattle.bsii_widening.specs.Marks.{markRecords}
+use Rattle.bsii_widening.specs.Parts.{renumber}
+use Rattle.bsii_widening.specs.Claim.{widened, newFile}
+use Rattle.bsii_widening.specs.Written.{madeAll}
+use Rattle.bsii_widening.specs.EveryType.{definitionBytes, elementBytes, shapeBytes, valueBytes, everyField, everyRecord}
+use Rattle.bsii_widening.specs.Example.{oldFile}
+use Rattle.bsii_widening.proofs.Computes.{computesAll}
+use Rattle.bsii_widening.proofs.Decided.{allowed-proves}
+
+abbrev pub everyType : List Insertion
+everyType = madeAll (everyField ++ everyRecord) (markRecords (oldFile .records))
+
+pub every-type : AllAllowed everyType (markRecords (oldFile .records))
+unfolding computesAll definitionBytes elementBytes shapeBytes valueBytes everyField everyRecord
+every-type = allowed-proves everyType (markRecords (oldFile .records)) tt
+
+-- the inserted block stands in front of the old one, which is number 1 now
+pub every-number : renumber (widened oldFile everyType) 0 ≡ 1
+unfolding computesAll definitionBytes elementBytes shapeBytes valueBytes everyField everyRecord
+every-number = refl
+
+pub every-km : (b : FieldAnswer) × (fieldCall 6 (newFile oldFile [] (widened oldFile everyType)) 1 (ascii "km") ≡ gives b) × (b .typeId ≡ 0x27) × (b .bytes ≡ u32 300)
+unfolding computesAll definitionBytes elementBytes shapeBytes valueBytes everyField everyRecord
+every-km = (_, refl, refl, refl)

@@ -1,0 +1,266 @@
+//! Demand 3 by running: a side is asked about a save before and after a list of insertions.
+//!
+//! What is expected comes from the save's records as they were made, and from the answers before; the
+//! model is asked only for the text of single parts.
+
+mod parts;
+mod run;
+
+pub use run::{run, Counts};
+
+use crate::report::{Check, Difference, Label, Tally};
+use crate::side::Side;
+use calls::{Answer, Call, Field, Implementation, Reading};
+use generate::save::{Block, Save};
+use generate::widening::{Insertion, Widening};
+use model::Model;
+use parts::{text_parts, Part};
+use std::fmt;
+
+#[derive(Default)]
+pub struct Widenings {
+    model: Model,
+    /// A second one, so that the model as a side keeps its own last file.
+    parts: Model,
+    /// Asked as the model is, if it is there.
+    pub library: Option<Box<dyn Implementation + Send>>,
+}
+
+impl Widenings {
+    /// Asks the model and the library about one list; the table comes in full of `garbage`.
+    pub fn list(&mut self, made: &Widening, garbage: u32, tally: &mut Tally) -> Check {
+        let model = Side::new("model", &mut self.model, garbage);
+        one_side(model, made, &mut self.parts, tally)?;
+        match &mut self.library {
+            None => Ok(()),
+            Some(library) => {
+                let library = Side::new("library", library.as_mut(), garbage);
+                one_side(library, made, &mut self.parts, tally)
+            }
+        }
+    }
+}
+
+fn one_side(side: Side<'_>, made: &Widening, model: &mut Model, tally: &mut Tally) -> Check {
+    let mut asked = Asked { side, model, tally };
+    let before = asked.before(&made.old)?;
+    let mut save = made.new_save();
+    asked.still_converts(&before, &save)?;
+    let Some(last) = &made.last else {
+        return Ok(());
+    };
+    last.insert(&mut save);
+    match first_unlisted(last, &save) {
+        Some(offset) => asked.stops(&save, offset as u64),
+        None => asked.still_converts(&before, &save),
+    }
+}
+
+/// Where the first value of a last definition starts, if a block carries it.
+pub fn first_unlisted(last: &Insertion, save: &Save) -> Option<usize> {
+    match last {
+        Insertion::Field { id, position, .. } => save.value_starts(*id, *position).first().copied(),
+        _ => None,
+    }
+}
+
+/// A field that was found in the old save: by block and name, with type and bytes.
+struct Found {
+    block: usize,
+    name: Vec<u8>,
+    type_id: u32,
+    bytes: Vec<u8>,
+}
+
+/// The answers about the old save.
+struct Before {
+    text: Vec<u8>,
+    found: Vec<Found>,
+}
+
+struct Asked<'a, 'b> {
+    side: Side<'a>,
+    model: &'b mut Model,
+    tally: &'b mut Tally,
+}
+
+/// Words enough for the save's ids, and none too many.
+fn words(save: &Save) -> usize {
+    3 * save.prototypes().count()
+}
+
+/// Every name in the save, and one that is nowhere.
+fn names(save: &Save) -> Vec<&[u8]> {
+    let mut names: Vec<&[u8]> = vec![b"nowhere"];
+    for prototype in save.prototypes() {
+        names.push(&prototype.name);
+        names.extend(prototype.fields.iter().map(|field| &field.name[..]));
+    }
+    names.sort();
+    names.dedup();
+    names
+}
+
+impl Asked<'_, '_> {
+    fn label(&self, what: &'static str) -> Label {
+        match self.side.name {
+            "model" => ("widening, model", what),
+            _ => ("widening, library", what),
+        }
+    }
+
+    fn same<T: PartialEq + std::fmt::Debug>(
+        &mut self,
+        what: &'static str,
+        asked: impl FnOnce() -> String,
+        found: T,
+        expected: T,
+    ) -> Check {
+        let label = self.label(what);
+        self.tally.same(label, asked, found, expected)
+    }
+
+    /// The old save converts, and its fields are those that it was made with: else nothing would be
+    /// asked afterwards.
+    fn before(&mut self, old: &Save) -> Result<Before, Difference> {
+        self.reading(old)?;
+        let text = self.text(old)?;
+        let file = old.bytes();
+        let mut found = Vec::new();
+        for (number, block) in old.blocks().enumerate() {
+            for name in names(old) {
+                let call = Call::FieldOf {
+                    block: number as u64,
+                    name,
+                };
+                let answer = self.side.ask(call, &file, words(old))?.field();
+                let part = part_of(&file, answer).map(|bytes| (answer.type_id, bytes.to_vec()));
+                let expected = made_value(old, block, name);
+                let asked = || format!("block {number}, name {name:?}");
+                self.same("a field before", asked, part.clone(), expected)?;
+                if let Some((type_id, bytes)) = part {
+                    found.push(Found {
+                        block: number,
+                        name: name.to_vec(),
+                        type_id,
+                        bytes,
+                    });
+                }
+            }
+        }
+        Ok(Before { text, found })
+    }
+
+    /// The counts are those of the records that the save was made of.
+    fn reading(&mut self, save: &Save) -> Check {
+        let answer = self.side.ask(Call::Read, &save.bytes(), words(save))?;
+        let expected = Answer::Reading(Reading {
+            number: 0,
+            offset: 0,
+            prototypes: save.prototypes().count() as u64,
+            blocks: save.blocks().count() as u64,
+            next: save.next() as u64,
+        });
+        self.same("reading", String::new, answer, expected)
+    }
+
+    /// The text, which has exact room, so that nothing is left over.
+    fn text(&mut self, save: &Save) -> Result<Vec<u8>, Difference> {
+        let (file, words) = (save.bytes(), words(save));
+        let needed = self.side.text(&file, words, 0)?;
+        let asked = || "needed length".to_string();
+        self.same("text", asked, needed.number, 11)?;
+        let room = needed.length as usize;
+        let answer = self.side.text(&file, words, room)?;
+        let found = (answer.number, answer.length);
+        let asked = || "with room".to_string();
+        self.same("text", asked, found, (0, needed.length))?;
+        Ok(self.side.written(answer).to_vec())
+    }
+
+    /// What demand 3 says of a save after insertions.
+    fn still_converts(&mut self, before: &Before, new: &Save) -> Check {
+        self.reading(new)?;
+        let text = self.text(new)?;
+        let parts = text_parts(self.model, new);
+        self.left_out(&text, &parts, &before.text)?;
+        let (file, numbers) = (new.bytes(), new.new_numbers());
+        for found in &before.found {
+            let (block, name) = (numbers[found.block], &found.name[..]);
+            let call = Call::FieldOf { block, name };
+            let answer = self.side.ask(call, &file, words(new))?.field();
+            let part = part_of(&file, answer).map(|bytes| (answer.type_id, bytes));
+            let asked = || format!("old block {}, {call:?}", found.block);
+            let expected = Some((found.type_id, &found.bytes[..]));
+            self.same("a field after", asked, part, expected)?;
+        }
+        Ok(())
+    }
+
+    /// The inserted parts stand in the new text at their places, and without them it is the old one.
+    fn left_out(&mut self, text: &[u8], parts: &[Part], old: &[u8]) -> Check {
+        let (mut at, mut left) = (0, Vec::new());
+        for part in parts {
+            let end = (at + part.text.len()).min(text.len());
+            let there = &text[at..end];
+            if part.inserted {
+                let asked = || format!("at {at} of the text");
+                self.same("an inserted part", asked, Shown(there), Shown(&part.text))?;
+            } else {
+                left.extend_from_slice(there);
+            }
+            at = end;
+        }
+        left.extend_from_slice(&text[at..]);
+        let asked = || "the text without the inserted parts".to_string();
+        self.same("the old text", asked, Shown(&left), Shown(old))
+    }
+
+    /// Reading, text and every field call give 7 at the offset.
+    fn stops(&mut self, save: &Save, offset: u64) -> Check {
+        let (file, words) = (save.bytes(), words(save));
+        let answer = self.side.ask(Call::Read, &file, words)?;
+        let expected = answer.refused(7, offset);
+        self.same("reading of an unlisted type", String::new, answer, expected)?;
+        for room in [0, 64] {
+            let answer = self.side.text(&file, words, room)?;
+            let found = (answer.number, answer.offset);
+            self.same("text of an unlisted type", String::new, found, (7, offset))?;
+        }
+        for block in 0..=save.blocks().count() as u64 {
+            for name in names(save) {
+                let call = Call::FieldOf { block, name };
+                let answer = self.side.ask(call, &file, words)?;
+                let asked = || format!("{call:?}");
+                let expected = answer.refused(7, offset);
+                self.same("field of an unlisted type", asked, answer, expected)?;
+            }
+        }
+        Ok(())
+    }
+}
+
+/// The bytes that a field's answer points to.
+fn part_of(file: &[u8], answer: Field) -> Option<&[u8]> {
+    let start = usize::try_from(answer.part_offset).ok()?;
+    let end = start.checked_add(usize::try_from(answer.part_len).ok()?)?;
+    file.get(start..end).filter(|_| answer.number == 0)
+}
+
+/// The type and bytes that a block was made with under a name.
+fn made_value(save: &Save, block: &Block, name: &[u8]) -> Option<(u32, Vec<u8>)> {
+    let of = save.of(block);
+    let position = of.position(name)?;
+    let value = &block.values[position];
+    Some((of.fields[position].type_id, value.bytes.clone()))
+}
+
+/// Compared as bytes, and shown as text.
+#[derive(PartialEq)]
+struct Shown<'a>(&'a [u8]);
+
+impl fmt::Debug for Shown<'_> {
+    fn fmt(&self, to: &mut fmt::Formatter<'_>) -> fmt::Result {
+        write!(to, "{:?}", String::from_utf8_lossy(self.0))
+    }
+}

@@ -1,0 +1,330 @@
+//! The run over lists of insertions has to find each of these wrong implementations out.
+
+use calls::{Answer, Call, Field, Implementation, Lent, Reading, Text};
+use differential::report::Tally;
+use differential::widening::{first_unlisted, run, Widenings};
+use generate::save::{Record, Save};
+use generate::widening::{widening, Insertion, Widening};
+use model::Model;
+
+/// What an impostor does to a save with insertions; otherwise it answers like the model.
+#[derive(Clone, Copy, Debug, PartialEq)]
+enum Fault {
+    /// Skips an inserted value as if it had four bytes.
+    GuessesLength,
+    OldNumbers,
+    OldPositions,
+    OldTypes,
+    OldCounts,
+    OldText,
+    RefusesNew,
+    DropsALine,
+    InsertedFieldsLast,
+    InsertedBlocksLast,
+    SevenAtTheBlock,
+    SevenAtTheLastValue,
+    SevenWithoutABlock,
+    ReadsUnlisted,
+    FindsNothingUnlisted,
+    AbsentBeforeSeven,
+    OutputBeforeSeven,
+}
+
+/// Each with the check that finds it out first.
+const FAULTS: [(Fault, &str); 17] = [
+    (Fault::GuessesLength, "a field after"),
+    (Fault::OldNumbers, "a field after"),
+    (Fault::OldPositions, "a field after"),
+    (Fault::OldTypes, "a field after"),
+    (Fault::OldCounts, "reading"),
+    (Fault::OldText, "an inserted part"),
+    (Fault::RefusesNew, "reading"),
+    (Fault::DropsALine, "the old text"),
+    (Fault::InsertedFieldsLast, "an inserted part"),
+    (Fault::InsertedBlocksLast, "an inserted part"),
+    (Fault::SevenAtTheBlock, "reading of an unlisted type"),
+    (Fault::SevenAtTheLastValue, "reading of an unlisted type"),
+    (Fault::SevenWithoutABlock, "reading"),
+    (Fault::ReadsUnlisted, "reading of an unlisted type"),
+    (Fault::FindsNothingUnlisted, "field of an unlisted type"),
+    (Fault::AbsentBeforeSeven, "field of an unlisted type"),
+    (Fault::OutputBeforeSeven, "text of an unlisted type"),
+];
+
+/// Knows the list, so that it can be wrong about what was inserted and about nothing else.
+struct Impostor {
+    model: Model,
+    fault: Fault,
+    old: Save,
+    new: Save,
+    /// The save with the last definition.
+    newest: Option<(Insertion, Save)>,
+}
+
+impl Impostor {
+    fn new(fault: Fault, made: &Widening) -> Impostor {
+        let new = made.new_save();
+        let newest = made.last.as_ref().map(|last| {
+            let mut save = new.clone();
+            last.insert(&mut save);
+            (last.clone(), save)
+        });
+        Impostor {
+            model: Model::default(),
+            fault,
+            old: made.old.clone(),
+            new,
+            newest,
+        }
+    }
+}
+
+impl Implementation for Impostor {
+    fn answer(&mut self, call: Call<'_>, lent: Lent<'_>) -> Answer {
+        let Lent { file, table, out } = lent;
+        let before = out.to_vec();
+        let whole = Lent {
+            file,
+            table: &mut *table,
+            out: &mut *out,
+        };
+        let answer = self.model.answer(call, whole);
+        let unlisted = self.newest.clone();
+        if let Some((last, save)) = unlisted.filter(|(_, save)| save.bytes() == file) {
+            return self.unlisted(answer, call, &last, &save);
+        }
+        if self.new.bytes() != file || self.old.bytes() == file {
+            return answer;
+        }
+        match (answer, call) {
+            (Answer::Reading(answer), _) => Answer::Reading(self.reading(answer)),
+            (Answer::Field(answer), Call::FieldOf { block, name }) => {
+                Answer::Field(self.field(answer, block, name))
+            }
+            (Answer::Text(_), _) => {
+                out.copy_from_slice(&before);
+                Answer::Text(store(&self.text(), out))
+            }
+            (answer, _) => answer,
+        }
+    }
+}
+
+fn store(text: &[u8], out: &mut [u8]) -> Text {
+    let fits = text.len() <= out.len();
+    if fits {
+        out[..text.len()].copy_from_slice(text);
+    }
+    Text {
+        number: if fits { 0 } else { 11 },
+        offset: 0,
+        length: text.len() as u64,
+    }
+}
+
+impl Impostor {
+    fn reading(&self, answer: Reading) -> Reading {
+        match self.fault {
+            Fault::RefusesNew => Reading::refused(3, 8),
+            Fault::OldCounts => Reading {
+                prototypes: self.old.prototypes().count() as u64,
+                ..answer
+            },
+            _ => answer,
+        }
+    }
+
+    fn field(&mut self, answer: Field, block: u64, name: &[u8]) -> Field {
+        let number = match self.fault {
+            Fault::OldNumbers => self.new.new_numbers().get(block as usize).copied(),
+            _ => Some(block),
+        };
+        let Some(number) = number else {
+            return Field::refused(13, 0);
+        };
+        let Some(there) = self.new.blocks().nth(number as usize) else {
+            return answer;
+        };
+        let of = self.new.of(there);
+        let Some(position) = of.position(name) else {
+            return answer;
+        };
+        let in_front = &of.fields[..position];
+        let old_position = in_front.iter().filter(|field| !field.inserted).count();
+        let at = |position: usize| self.start(number, position);
+        let old_at = |position: usize| Field {
+            part_offset: at(position),
+            part_len: there.values[position].bytes.len() as u64,
+            ..answer
+        };
+        match self.fault {
+            Fault::OldNumbers => Field {
+                type_id: of.fields[position].type_id,
+                number: 0,
+                ..old_at(position)
+            },
+            Fault::OldPositions => old_at(old_position),
+            Fault::OldTypes => Field {
+                type_id: of.fields[old_position].type_id,
+                ..answer
+            },
+            Fault::GuessesLength => {
+                let values = there.values[..position].iter();
+                let inserted = values.filter(|value| value.inserted);
+                let wrong: i64 = inserted.map(|value| 4 - value.bytes.len() as i64).sum();
+                Field {
+                    part_offset: answer.part_offset.wrapping_add_signed(wrong),
+                    ..answer
+                }
+            }
+            _ => answer,
+        }
+    }
+
+    /// Where a value of a block of the new save starts.
+    fn start(&self, block: u64, position: usize) -> u64 {
+        let id = self.new.blocks().nth(block as usize).unwrap().prototype;
+        let earlier = self.new.blocks().take(block as usize);
+        let nth = earlier.filter(|earlier| earlier.prototype == id).count();
+        self.new.value_starts(id, position)[nth] as u64
+    }
+
+    fn text(&mut self) -> Vec<u8> {
+        let mut save = self.new.clone();
+        match self.fault {
+            Fault::OldText => save = self.old.clone(),
+            Fault::InsertedFieldsLast => save.records.iter_mut().for_each(inserted_last),
+            Fault::InsertedBlocksLast => save
+                .records
+                .sort_by_key(|record| matches!(record, Record::Block(block) if block.inserted)),
+            _ => {}
+        }
+        let made = self.model.whole_text(&save.bytes(), usize::MAX);
+        let (text, _, _) = made.expect("it converts");
+        match self.fault {
+            Fault::DropsALine => without_a_line(&text),
+            _ => text,
+        }
+    }
+
+    /// The save with the last definition.
+    fn unlisted(
+        &mut self,
+        answer: Answer,
+        call: Call<'_>,
+        last: &Insertion,
+        save: &Save,
+    ) -> Answer {
+        let Insertion::Field { id, position, .. } = last else {
+            unreachable!("the last one is a definition");
+        };
+        let starts = save.value_starts(*id, *position);
+        match (self.fault, first_unlisted(last, save)) {
+            (Fault::SevenWithoutABlock, None) => answer.refused(7, 8),
+            (_, None) => answer,
+            (Fault::SevenAtTheBlock, Some(_)) => {
+                let first = save.value_starts(*id, 0)[0];
+                let block = save.blocks().find(|block| block.prototype == *id).unwrap();
+                answer.refused(7, (first - 4 - block.id.len()) as u64)
+            }
+            (Fault::SevenAtTheLastValue, Some(_)) => {
+                answer.refused(7, *starts.last().unwrap() as u64)
+            }
+            (fault, Some(_)) => carried(fault, answer, call, save),
+        }
+    }
+}
+
+/// A wrong answer of one call, where a block carries the last definition.
+fn carried(fault: Fault, answer: Answer, call: Call<'_>, save: &Save) -> Answer {
+    match (fault, call) {
+        (Fault::ReadsUnlisted, Call::Read) => Answer::Reading(Reading {
+            prototypes: save.prototypes().count() as u64,
+            blocks: save.blocks().count() as u64,
+            next: save.next() as u64,
+            ..Reading::default()
+        }),
+        (Fault::FindsNothingUnlisted, Call::FieldOf { .. }) => answer.refused(13, 0),
+        (Fault::AbsentBeforeSeven, Call::FieldOf { block, .. })
+            if block == save.blocks().count() as u64 =>
+        {
+            answer.refused(13, 0)
+        }
+        (Fault::OutputBeforeSeven, Call::ToSiin) => answer.refused(11, 0),
+        _ => answer,
+    }
+}
+
+/// The inserted definitions and values behind the others.
+fn inserted_last(record: &mut Record) {
+    match record {
+        Record::Prototype(of) => of.fields.sort_by_key(|field| field.inserted),
+        Record::Block(block) => block.values.sort_by_key(|value| value.inserted),
+    }
+}
+
+/// Without the last line of a field.
+fn without_a_line(text: &[u8]) -> Vec<u8> {
+    let lines: Vec<&[u8]> = text.split_inclusive(|byte| *byte == b'\n').collect();
+    let dropped = lines.iter().rposition(|line| line.starts_with(b"  "));
+    let kept = lines
+        .iter()
+        .enumerate()
+        .filter(|(i, _)| Some(*i) != dropped);
+    kept.flat_map(|(_, line)| line.to_vec()).collect()
+}
+
+/// What the first difference is about, and the number of its list.
+fn first_difference(fault: Option<Fault>, most: u64) -> Option<(String, u64)> {
+    (0..most).find_map(|index| {
+        let made = widening(1, index);
+        let mut asked = Widenings::default();
+        asked.library = Some(match fault {
+            Some(fault) => Box::new(Impostor::new(fault, &made)),
+            None => Box::new(Model::default()),
+        });
+        let found = asked.list(&made, 1, &mut Tally::default()).err()?;
+        Some((found.label, index))
+    })
+}
+
+#[test]
+fn each_impostor_is_found() {
+    for (fault, by) in FAULTS {
+        let found = first_difference(Some(fault), 500);
+        let label = found.expect("a difference").0;
+        assert_eq!(label, format!("widening, library: {by}"), "{fault:?}");
+    }
+}
+
+/// Counts one prototype too many.
+struct OneMore(Model);
+
+impl Implementation for OneMore {
+    fn answer(&mut self, call: Call<'_>, lent: Lent<'_>) -> Answer {
+        let mut answer = self.0.answer(call, lent);
+        if let Answer::Reading(reading) = &mut answer {
+            reading.prototypes += 1;
+        }
+        answer
+    }
+}
+
+#[test]
+fn a_run_says_what_it_found() {
+    let mut asked = Widenings::default();
+    let (report, differences) = run(&mut asked, 1, 0, 20);
+    assert_eq!(differences, 0);
+    assert!(report.starts_with("lists       20 ("), "{report}");
+    asked.library = Some(Box::new(OneMore(Model::default())));
+    let (report, differences) = run(&mut asked, 1, 0, 20);
+    assert_eq!(differences, 20);
+    let first = "difference: widening, library: reading\n  list 0: ";
+    assert!(report.starts_with(first), "{report}");
+    assert!(report.ends_with("differences 20\n"), "{report}");
+}
+
+#[test]
+fn the_model_passes_as_a_library() {
+    assert_eq!(first_difference(None, 1000), None);
+}
