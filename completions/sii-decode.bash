@@ -2,7 +2,7 @@
 # Needs nothing but bash.
 _sii_decode() {
     local current=${COMP_WORDS[COMP_CWORD]} previous=${COMP_WORDS[COMP_CWORD - 1]}
-    local i word behind='' questions=yes plain=()
+    local i word behind='' questions=yes into='' plain=()
     # the words in front of the cursor that are no options
     for ((i = 1; i < COMP_CWORD; i++)); do
         word=${COMP_WORDS[i]}
@@ -17,7 +17,10 @@ _sii_decode() {
             ;;
         -o) i=$((i + 1)) ;;
         # bash makes three words of --output=FILE
-        --output) [[ ${COMP_WORDS[i + 1]} == '=' ]] && i=$((i + 2)) || i=$((i + 1)) ;;
+        --output | --into)
+            [[ $word != --into ]] || into=yes
+            [[ ${COMP_WORDS[i + 1]} == '=' ]] && i=$((i + 2)) || i=$((i + 1))
+            ;;
         -?*) ;;
         *) plain+=("$word") ;;
         esac
@@ -29,12 +32,21 @@ _sii_decode() {
     elif [[ ! $behind && $current == '=' ]]; then
         current=''
     fi
+    if [[ ! $behind && $previous == --into ]]; then
+        mapfile -t COMPREPLY < <(compgen -d -- "$current")
+        return
+    fi
     if [[ ! $behind && ($previous == -o || $previous == --output) ]]; then
         mapfile -t COMPREPLY < <(compgen -f -- "$current")
         return
     fi
     if [[ ! $behind && $current == -?* ]]; then
-        mapfile -t COMPREPLY < <(compgen -W '-o --output -h --help -V --version --' -- "$current")
+        mapfile -t COMPREPLY < <(compgen -W '-o --output --into -h --help -V --version --' -- "$current")
+        return
+    fi
+    # behind --into every word is a save
+    if [[ $into ]]; then
+        mapfile -t COMPREPLY < <(compgen -f -- "$current")
         return
     fi
     if [[ $questions ]] && ((${#plain[@]} == 0)); then

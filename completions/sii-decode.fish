@@ -5,6 +5,7 @@ function __sii_decode_wants
     set -l value no
     set -l behind no
     set -l questions yes
+    set -l into no
     for word in (commandline -opc)[2..]
         if test $value = yes
             set value no
@@ -17,6 +18,11 @@ function __sii_decode_wants
                     set -q plain[1]; or set questions no
                 case -o --output
                     set value yes
+                case --into
+                    set value yes
+                    set into yes
+                case '--into=*'
+                    set into yes
                 case -
                     set -a plain $word
                 case '-*'
@@ -39,14 +45,16 @@ function __sii_decode_wants
     end
     switch $argv[1]
         case question
-            test $questions = yes -a (count $plain) -eq 0
+            test $into = no -a $questions = yes -a (count $plain) -eq 0
         case file
-            test (count $plain) -eq $save
+            # behind --into every word is a save
+            test $into = yes -o (count $plain) -eq $save
     end
 end
 complete -c sii-decode -f
 complete -c sii-decode -n '__sii_decode_wants file' -F
 complete -c sii-decode -s o -l output -r -F -d 'Write to a file, whole or not at all'
+complete -c sii-decode -l into -x -a '(__fish_complete_directories (string replace -r "^--into=" "" -- (commandline -ct)))' -d 'Write the text of each save into a folder'
 complete -c sii-decode -s h -l help -d 'Print a summary'
 complete -c sii-decode -s V -l version -d 'Print the version'
 complete -c sii-decode -n '__sii_decode_wants question' -a info -d 'Prototypes, blocks, bytes'

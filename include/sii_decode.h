@@ -1,15 +1,23 @@
 /*
  * The converter from BSII, a truck simulator's binary saves, to SiiNunit text. Link with libsii_decode_c.a, which `rt staticlib sii_decode_c`
- * puts into target/staticlib. docs/FORMAT.md explains the format, the refusals and the calls.
+ * puts into target/staticlib, or with what `make install` installs (pkg-config name: sii_decode). docs/FORMAT.md explains the format, the refusals
+ * and the calls.
  *
  * Answers. Each call returns a struct. Its `number` is 0 if the call has an answer; then `offset` is 0. Otherwise it is one of the refusals 1
  * to 13 below, `offset` is the byte of the file (of the part, for sii_element_of) that the refusal is about, and every other member is 0, with
  * one exception: the `length` of SII_OUTPUT_SHORT. Compare structs member by member: the padding between members holds anything.
  *
- * What is asked of the caller. A pointer is not NULL, also with length 0, and at least as many bytes (or words, for the table) as its length
- * says can be read there, and for table and output written. The table is aligned for uint32_t. Table and output overlap neither each other nor
- * the file or the name. Nothing else: any bytes, any length and any number are allowed, and each call ends. The library allocates nothing,
- * keeps nothing between calls and keeps no pointer, so calls with different tables and outputs may run at the same time.
+ * What is asked of the caller. At least as many bytes (or words, for the table) as its length says can be read at a pointer, and for table and
+ * output written. With length 0 nothing is read or written there, so any pointer is allowed, NULL too. The table is aligned for uint32_t. Table
+ * and output overlap neither each other nor the file or the name. The floating-point environment is the one that a program starts with: sums of
+ * floats round to nearest, and neither flush-to-zero nor denormals-are-zero is set (fesetround, or MXCSR, of the calling thread). With another
+ * one the two sums of a placement (types 0x19 and 0x1a) are other numbers in the text of sii_to_siin, and no refusal says so; no other call makes
+ * sums. Nothing else is asked: any bytes, any length and any number are allowed, and each call ends. The library allocates nothing, keeps nothing
+ * between calls and keeps no pointer, so calls with different tables and outputs may run at the same time.
+ *
+ * What the library needs. x86-64 and the System V calling convention. Of libc memcpy, memmove and memset, and nothing else. 2048 bytes of stack
+ * for each call: tests/c/stack.c runs each call on a stack filled with a pattern and measures at most 1248, those three functions included; a
+ * dynamic linker that binds them at their first call (without -z now) takes some kilobytes more at that time. Its code is position independent.
  *
  * The file is read only. It may be any bytes, also none; with more than SII_LENGTH_LIMIT it is refused.
  *
@@ -26,6 +34,14 @@
 #ifdef __cplusplus
 extern "C" {
 #endif
+
+/*
+ * The version of this header and of the library and command that go with it. Before 1.0 a new minor version may change what a caller can notice,
+ * layouts included, for calls are still to be added; a new patch version changes nothing of it. From 1.0 on that takes a new major version.
+ */
+#define SII_VERSION_MAJOR 0
+#define SII_VERSION_MINOR 1
+#define SII_VERSION_PATCH 0
 
 /* The most bytes that a file may have, those behind its end record included. */
 #define SII_LENGTH_LIMIT 16777216
@@ -206,8 +222,8 @@ SiiElement sii_element_of(uint32_t type_id, const uint8_t *part, size_t part_len
 /*
  * Writes the file's text into the output. Answers the text's length, which has no terminator. Refusals: 1 to 12; with SII_OUTPUT_SHORT `length`
  * is the length that the output must have, which may be above 32 bits. Afterwards the output starts with the text, and its bytes beyond the
- * text keep their values; after a refusal all of them do. The table is all 0. An output of length 0 is allowed: every text is longer, so it is
- * a way to ask for the length.
+ * text keep their values; after a refusal all of them do. The table is all 0. With NULL and length 0 for the output the call is a way to ask for
+ * the length: every text is longer than that, so it is refused with SII_OUTPUT_SHORT if nothing else is wrong.
  */
 SiiText sii_to_siin(const uint8_t *file, size_t file_len, uint32_t *table, size_t words, uint8_t *output, size_t output_len);
 

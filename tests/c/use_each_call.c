@@ -40,12 +40,13 @@ static void same_bytes(const char *what, const uint8_t *expected, const uint8_t 
 /* ---- what is lent to a call */
 
 /*
- * All checks are made twice. First there is a guard on both sides of what is lent: a byte written outside is seen here. Its odd length takes
- * away any alignment of file, name and output. Then there is none: every area is an allocation of just its size, and valgrind sees what is read
- * or written outside.
+ * All checks are made three times. First there is a guard on both sides of what is lent: a byte written outside is seen here. Its odd length takes
+ * away any alignment of file, name and output. Then there is none: every area is an allocation of just its size, and valgrind or a sanitizer sees
+ * what is read or written outside. At last what has length 0 is NULL.
  */
 enum { GUARD = 35, GUARD_BYTE = 0xc5 };
-static int guarded;
+static int guarded, null_for_nothing;
+static unsigned long nulls;
 
 /* What the table holds before: in the second round what an entry of the worked file's prototype would start with. */
 static uint32_t garbage(size_t at)
@@ -70,6 +71,11 @@ static Lent lend(size_t size, size_t guard)
     Lent lent;
     lent.size = size;
     lent.guard = guarded ? guard : 0;
+    if (null_for_nothing && size == 0) {
+        nulls++;
+        lent.all = lent.start = NULL;
+        return lent;
+    }
     lent.all = malloc(size + 2 * lent.guard + (size == 0));
     if (lent.all == NULL) {
         printf("no memory for %lu bytes\n", (unsigned long)size);
@@ -92,6 +98,8 @@ static Lent lend_copy(const void *bytes, size_t size)
 static void give_back(const char *what, Lent lent)
 {
     uint8_t guard[GUARD + 1];
+    if (lent.all == NULL)
+        return;
     memset(guard, GUARD_BYTE, sizeof guard);
     same_bytes(what, guard, lent.all, lent.guard);
     same_bytes(what, guard, lent.start + lent.size, lent.guard);
@@ -631,6 +639,25 @@ static void elements(void)
     element(0x27, BYTES("\1\0\0\0\2\0\0\0"), 0, value(SII_KIND_U32, 1));
 }
 
+/* Each pointer of each call is NULL once, and both pointers of sii_to_siin: the other calls of this round have NULL where a length is 0. */
+static void nothing_at_all(void)
+{
+    label = "NULL for every pointer";
+    reading(NULL, 0, 0, (SiiReading){SII_INVALID_HEADER, 0, 0, 0, 0});
+    refused("NULL for the file", NULL, 0, 3, SII_INVALID_HEADER, 0);
+    refused("NULL for the file and the table", NULL, 0, 0, SII_INVALID_HEADER, 0);
+    refused("NULL for the table", worked, WORKED, 0, SII_TABLE_FULL, 8);
+    label = "NULL for the name";
+    named_block(worked, WORKED, 3, "", 0, (SiiNumber){SII_ABSENT, 0, 0});
+    field(worked, WORKED, 3, 0, "", (SiiField){SII_ABSENT, 0, 0, 0, 0});
+    label = "NULL for the part";
+    element(0x27, NULL, 0, 0, no_element(SII_MALFORMED, 0));
+    element(0x08, NULL, 0, 0, no_element(SII_UNLISTED_TYPE, 0));
+    label = "NULL for the output";
+    text(worked, WORKED, 3, 0, (SiiText){SII_OUTPUT_SHORT, 0, 73}, "");
+    equal("areas that were NULL, 40 at least", 1, nulls >= 40);
+}
+
 /* the layout that the library was compiled for, on the machine it is built for */
 static void layout(void)
 {
@@ -705,14 +732,18 @@ static void constants(void)
     for (at = 0; at < sizeof kinds / sizeof kinds[0]; at++)
         equal("kind", at + 1, (uint64_t)kinds[at]);
     equal("length limit", 16777216, SII_LENGTH_LIMIT);
+    equal("version", 100, SII_VERSION_MAJOR * 10000 + SII_VERSION_MINOR * 100 + SII_VERSION_PATCH);
 }
 
 int main(void)
 {
+    int round;
     layout();
     constants();
     /* each round only if all is well so far: with another layout no answer means anything, and a byte written outside damages the allocator */
-    for (guarded = 1; guarded >= 0 && failures == 0; guarded--) {
+    for (round = 0; round < 3 && failures == 0; round++) {
+        guarded = round == 0;
+        null_for_nothing = round == 2;
         the_worked_file();
         damage();
         the_widened_file();
@@ -721,6 +752,8 @@ int main(void)
         the_length_limit();
         a_long_text();
         elements();
+        if (null_for_nothing)
+            nothing_at_all();
     }
     printf("%lu checks, %lu failed\n", checks, failures);
     return failures != 0;

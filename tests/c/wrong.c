@@ -1,6 +1,6 @@
 /*
  * The calls with one thing made wrong, by the number WRONG; with 0 nothing is. Linked in front of the library (ld's --wrap), each wrong one must
- * make use_each_call fail, 19 only under valgrind. So its checks are known to notice.
+ * make use_each_call fail, 19 only under valgrind or a sanitizer, 20 by its end. So its checks are known to notice.
  */
 #include <string.h>
 
@@ -29,7 +29,7 @@ SiiReading __wrap_sii_read(const uint8_t *file, size_t file_len, uint32_t *table
 #elif WRONG == 4 /* a byte behind the file is read */
     r.next += file[file_len] == 0xc5;
 #elif WRONG == 19 /* the same without any effect */
-    volatile uint8_t beyond = file[file_len];
+    volatile uint8_t beyond = file == NULL ? 0 : file[file_len];
     (void)beyond;
 #elif WRONG == 5 /* the refusal's offset is lost */
     r.offset = 0;
@@ -96,6 +96,10 @@ SiiElement __wrap_sii_element_of(uint32_t type_id, const uint8_t *part, size_t p
 
 SiiText __wrap_sii_to_siin(const uint8_t *file, size_t file_len, uint32_t *table, size_t words, uint8_t *output, size_t output_len)
 {
+#if WRONG == 20 /* an output of length 0 is looked at */
+    volatile uint8_t first = output[0];
+    (void)first;
+#endif
     SiiText r = __real_sii_to_siin(file, file_len, table, words, output, output_len);
 #if WRONG == 13 /* a terminator behind the text */
     if (r.number == 0 && r.length < output_len)

@@ -7,13 +7,16 @@ use std::path::PathBuf;
 pub const USAGE: &str = "\
 Usage: benchmark [--rounds N] [--only INPUT]... [--markdown] [--plot FILE]
        benchmark --memory SIDE INPUT
+       benchmark --convert SIDE FILE
        benchmark --write INPUT
 
 Times the library and the unchanged Rust on the same inputs, in one process and
 in turns: reading with the Rust's parse, the text call with the Rust's parse and
 to_siin. Then each side converts each input in a process of its own, for the
-peak of its memory, but where the table is larger. The report goes to standard
-output.
+peak of its memory, but where the table is larger. On the saves, whole processes
+are timed too: the command, which has to stand beside this program (cargo build
+-p command), a program over the crate, and one over the Rust. The report goes to
+standard output.
 
   --rounds N           so many rounds, from 1 up; without it 9
   --only INPUT         only this input; may be given again
@@ -21,6 +24,7 @@ output.
   --plot FILE          write a plot of time against size as SVG
   --memory SIDE INPUT  print the peak in bytes of one side, rust or ours;
                        if INPUT is -, the file is read from standard input
+  --convert SIDE FILE  convert FILE to standard output, as a process that is timed
   --write INPUT        write the input's bytes to standard output
   -h, --help           print this and exit
 
@@ -62,6 +66,7 @@ pub enum Arguments {
     Help,
     Run(Run),
     Memory(Side, String),
+    Convert(Side, PathBuf),
     Write(String),
 }
 
@@ -80,14 +85,19 @@ pub fn parse(words: Vec<OsString>) -> Result<Arguments, String> {
         let mut next = |what: &str| words.next().ok_or(format!("{name} wants {what}"));
         match name.as_str() {
             "-h" | "--help" => return Ok(Arguments::Help),
-            "--memory" | "--write" => {
-                let found = if name == "--memory" {
-                    let side = side(&next("SIDE and INPUT")?)?;
-                    Arguments::Memory(side, input(next("an INPUT")?, true)?)
-                } else {
-                    Arguments::Write(input(next("an INPUT")?, false)?)
+            "--memory" | "--convert" | "--write" => {
+                let (found, words) = match name.as_str() {
+                    "--memory" => {
+                        let side = side(&next("SIDE and INPUT")?)?;
+                        (Arguments::Memory(side, input(next("an INPUT")?, true)?), 3)
+                    }
+                    "--convert" => {
+                        let side = side(&next("SIDE and FILE")?)?;
+                        (Arguments::Convert(side, next("a FILE")?.into()), 3)
+                    }
+                    _ => (Arguments::Write(input(next("an INPUT")?, false)?), 2),
                 };
-                if alone != if name == "--memory" { 3 } else { 2 } {
+                if alone != words {
                     return Err(format!("{name} goes with nothing else"));
                 }
                 return Ok(found);
@@ -171,6 +181,10 @@ mod tests {
         );
         assert_eq!(parsed(&["--memory", "rust", "-"]), memory(Side::Rust, "-"));
         assert_eq!(
+            parsed(&["--convert", "ours", "a.bsii"]),
+            Ok(Arguments::Convert(Side::Ours, "a.bsii".into()))
+        );
+        assert_eq!(
             parsed(&["--write", "save-1"]),
             Ok(Arguments::Write("save-1".into()))
         );
@@ -178,7 +192,7 @@ mod tests {
 
     #[test]
     fn badly_used() {
-        let bad: [&[&str]; 14] = [
+        let bad: [&[&str]; 17] = [
             &["save-7"],
             &["--what"],
             &["--rounds"],
@@ -191,6 +205,9 @@ mod tests {
             &["--memory", "ours"],
             &["--memory", "theirs", "save-1"],
             &["--memory", "ours", "save-1", "--markdown"],
+            &["--convert", "ours"],
+            &["--convert", "theirs", "a.bsii"],
+            &["--convert", "ours", "a.bsii", "b.bsii"],
             &["--write", "-"],
             &["--markdown", "--write", "save-1"],
         ];

@@ -45,6 +45,11 @@ pub fn saves_for_plot() -> Vec<Input> {
     PLOT.into_iter().map(save).collect()
 }
 
+/// One that whole processes are timed on.
+pub fn is_save(name: &str) -> bool {
+    !is_hostile(name) && !is_larger(name)
+}
+
 /// One that the bar is about.
 pub fn is_hostile(name: &str) -> bool {
     hostile::ALL.iter().any(|(hostile, ..)| *hostile == name)
@@ -79,5 +84,6 @@ mod tests {
         assert!(is_hostile("enums") && is_hostile("falling") && !is_hostile("save-1"));
         assert!(is_larger("rows-random") && !is_hostile("rows-random"));
         assert!(!is_larger("falling") && !is_larger("save-1"));
+        assert!(is_save("save-1") && !is_save("enums") && !is_save("rows-random"));
     }
 }

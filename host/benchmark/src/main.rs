@@ -8,6 +8,7 @@ mod inputs;
 mod machine;
 mod memory;
 mod plot;
+mod processes;
 mod report;
 mod saves;
 mod sides;
@@ -51,6 +52,7 @@ fn input(name: &str) -> Input {
 fn answer(arguments: Arguments) -> Result<(), String> {
     match arguments {
         Arguments::Help => show(USAGE.as_bytes()),
+        Arguments::Convert(side, path) => processes::convert(side, &path),
         Arguments::Write(name) => show(&(input(&name).make)()),
         Arguments::Memory(side, name) => {
             let peak = match name.as_str() {
@@ -81,9 +83,15 @@ fn row(input: Input, rounds: usize) -> Result<Row, String> {
             rust: memory::of_child(Side::Rust, &file)?,
         })
     };
+    let processes = if inputs::is_save(&input.name) {
+        processes::time(&file, rounds)?
+    } else {
+        Vec::new()
+    };
     Ok(Row {
         timed,
         peaks,
+        processes,
         name: input.name,
         about: input.about,
     })
@@ -92,6 +100,9 @@ fn row(input: Input, rounds: usize) -> Result<Row, String> {
 fn measure(run: &Run) -> Result<(), String> {
     if oracle::LAZY {
         eprintln!("benchmark: the Rust has the allocator of the differential tests, which is not its usual one: build with -p benchmark alone");
+    }
+    if !processes::has_command() {
+        eprintln!("benchmark: the command was not built (cargo build --release -p command): it is not timed");
     }
     let inputs = if run.only.is_empty() {
         inputs::table()

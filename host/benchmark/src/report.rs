@@ -2,6 +2,7 @@
 
 use crate::inputs::{is_hostile, is_larger, NORMAL};
 use crate::machine;
+use crate::processes::Processes;
 use crate::sides::{Compared, Timed};
 use crate::statistics::Spread;
 
@@ -12,6 +13,8 @@ pub struct Row {
     pub timed: Timed,
     /// None where the table is larger.
     pub peaks: Option<Peaks>,
+    /// Of saves.
+    pub processes: Processes,
 }
 
 /// Of memory, in bytes.
@@ -146,6 +149,28 @@ fn times(rows: &[&Row], head: &'static str, number: fn(&Timed) -> usize) -> Tabl
     }
 }
 
+fn processes(rows: &[Row]) -> Table {
+    let line = |row: &Row, what: &str, compared: &Compared| {
+        vec![
+            row.name.clone(),
+            what.into(),
+            spread(compared.ours.times(1e3)),
+            spread(compared.rust.times(1e3)),
+            spread(compared.ratio),
+        ]
+    };
+    let of = |row: &Row| -> Vec<Vec<String>> {
+        let all = row.processes.iter();
+        all.map(|(what, compared)| line(row, what, compared))
+            .collect()
+    };
+    Table {
+        heads: vec!["input", "process", "ours, ms", "Rust, ms", "Rust / ours"],
+        words: 2,
+        lines: rows.iter().flat_map(of).collect(),
+    }
+}
+
 fn memory(rows: &[Row]) -> Table {
     let mega = |bytes: u64| rounded(bytes as f64 / 1e6);
     let lines = rows
@@ -254,6 +279,7 @@ fn sections(rows: &[Row]) -> Vec<(&'static str, Table)> {
             "Times",
             times(&others, "text bytes", |timed| timed.text_bytes),
         ),
+        ("Whole processes", processes(rows)),
         ("Peak memory", memory(rows)),
         ("The bar", bar(rows)),
         (
@@ -287,6 +313,7 @@ pub fn markdown(rows: &[Row], rounds: usize) -> String {
 #[cfg(test)]
 mod tests {
     use super::*;
+    use crate::inputs::is_save;
 
     fn flat(median: f64) -> Spread {
         Spread {
@@ -317,6 +344,10 @@ mod tests {
                 ours: 4_000_000,
                 rust: 8_000_000,
             }),
+            processes: match is_save(name) {
+                true => vec![("command", compared()), ("crate", compared())],
+                false => Vec::new(),
+            },
         }
     }
 
@@ -358,7 +389,7 @@ mod tests {
             row("rows-random", 0.3, 1.0),
         ];
         let sections = sections(&rows);
-        assert_eq!(sections.len(), 5);
+        assert_eq!(sections.len(), 6);
         for (_, table) in sections {
             assert!(table
                 .lines
@@ -392,5 +423,14 @@ mod tests {
         let shown = markdown(&[larger()], 1);
         assert!(shown.contains("\n### Larger tables\n\n| input | call | bytes | table, rows |"));
         assert!(shown.contains("\n| rows-random | text | 1,000,000 | 58,823 |"));
+    }
+
+    #[test]
+    fn whole_processes_of_saves() {
+        let shown = markdown(&[row("save-7", 0.01, 2.0), row("names", 0.2, 1.0)], 1);
+        assert!(shown.contains(
+            "\n| save-7 | command | 10.0 (10.0 to 10.0) | 20.0 (20.0 to 20.0) | 2.00 (2.00 to 2.00) |\n| save-7 | crate |"
+        ));
+        assert!(!shown.contains("| names | command |"));
     }
 }

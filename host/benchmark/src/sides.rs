@@ -8,9 +8,9 @@ use std::time::Instant;
 
 /// The seconds of each round.
 #[derive(Default)]
-struct Rounds {
-    ours: Vec<f64>,
-    rust: Vec<f64>,
+pub struct Rounds {
+    pub ours: Vec<f64>,
+    pub rust: Vec<f64>,
 }
 
 /// One call on both sides.
@@ -22,7 +22,7 @@ pub struct Compared {
 }
 
 impl Rounds {
-    fn compared(self) -> Compared {
+    pub fn compared(self) -> Compared {
         Compared {
             ratio: Spread::of_ratios(&self.rust, &self.ours),
             ours: Spread::of(self.ours),

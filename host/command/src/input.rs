@@ -1,6 +1,6 @@
 //! The save's bytes.
 
-use crate::Failure;
+use crate::{show, system, Failure};
 use sii_decode::LENGTH_LIMIT;
 use std::ffi::OsStr;
 use std::fs::File;
@@ -12,7 +12,7 @@ pub fn name(save: &OsStr) -> String {
     if save == "-" {
         "standard input".into()
     } else {
-        save.display().to_string()
+        show::path(save)
     }
 }
 
@@ -20,10 +20,10 @@ pub fn name(save: &OsStr) -> String {
 pub fn read(save: &OsStr) -> Result<Vec<u8>, Failure> {
     let most = LENGTH_LIMIT + 1;
     let read = || -> io::Result<Vec<u8>> {
-        let file = if save == "-" {
-            File::from(io::stdin().as_fd().try_clone_to_owned()?)
-        } else {
-            File::open(save)?
+        let file = match save == "-" {
+            true if system::input_closed() => return Err(io::Error::other("it is closed")),
+            true => File::from(io::stdin().as_fd().try_clone_to_owned()?),
+            false => File::open(save)?,
         };
         let metadata = file.metadata()?;
         // One buffer that fits, so that it need not grow. Of a stream the length is not known;

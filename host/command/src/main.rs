@@ -1,16 +1,23 @@
 //! The command `sii-decode`. `man/sii-decode.1` has all that it does.
 
-#![forbid(unsafe_code)]
+#![deny(unsafe_code)]
 
 mod arguments;
 mod input;
 mod output;
+mod progress;
+mod refused;
+mod several;
 mod show;
+#[allow(unsafe_code)]
+mod system;
+mod walk;
 
 use arguments::{Arguments, Question, HELP, VERSION};
 use sii_decode::{BsiiFile, Refusal};
 use std::ffi::OsString;
 use std::io::{self, Write};
+use std::path::Path;
 use std::process::ExitCode;
 
 /// Why the command did not do what it was asked for.
@@ -29,52 +36,74 @@ impl From<Refusal> for Failure {
     }
 }
 
+impl Failure {
+    fn status(&self) -> u8 {
+        match self {
+            Failure::Refused(_) => 1,
+            Failure::Usage(_) | Failure::Io(..) => 2,
+        }
+    }
+
+    /// Of a refusal there is none here, because that takes the save's bytes.
+    fn message(&self) -> Vec<u8> {
+        match self {
+            Failure::Refused(_) => Vec::new(),
+            Failure::Usage(what) => {
+                format!("sii-decode: {what}\nTry 'sii-decode --help'.\n").into()
+            }
+            Failure::Io(what, error) => format!("sii-decode: {what}: {error}\n").into(),
+        }
+    }
+}
+
 fn main() -> ExitCode {
+    system::ignore_file_size();
     let words: Vec<OsString> = std::env::args_os().skip(1).collect();
     let mut message = Vec::new();
-    let status = match run(words, &mut message) {
-        Ok(()) => 0,
-        Err(Failure::Refused(_)) => 1,
-        Err(Failure::Usage(what)) => {
-            message = format!("sii-decode: {what}\nTry 'sii-decode --help'.\n").into_bytes();
-            2
-        }
-        Err(Failure::Io(what, error)) => {
-            message = format!("sii-decode: {what}: {error}\n").into_bytes();
-            2
-        }
-    };
+    let status = run(words, &mut message).unwrap_or_else(|failure| {
+        message.extend(failure.message());
+        failure.status()
+    });
     // If the message cannot be written, the exit status still says it.
     let _ = io::stderr().write_all(&message);
     ExitCode::from(status)
 }
 
-/// A refusal is described in `message`, because that takes the save's bytes.
-fn run(words: Vec<OsString>, message: &mut Vec<u8>) -> Result<(), Failure> {
-    let arguments = match arguments::parse(words)? {
-        Arguments::Help => return output::write(None, |out| out.write_all(HELP.as_bytes())),
-        Arguments::Version => return output::write(None, |out| out.write_all(VERSION.as_bytes())),
+/// The exit status. A refusal is described in `message`.
+fn run(words: Vec<OsString>, message: &mut Vec<u8>) -> Result<u8, Failure> {
+    let asked = match arguments::parse(words)? {
+        Arguments::Help => return said(HELP),
+        Arguments::Version => return said(VERSION),
+        Arguments::Into(folder, saves) => return several::convert(&folder, &saves),
         Arguments::Ask(asked) => asked,
     };
-    let content = input::read(&arguments.save)?;
-    let done = answer(&content, &arguments);
+    let content = input::read(&asked.save)?;
+    let (question, output) = (asked.question.as_ref(), asked.output.as_deref());
+    let done = match question {
+        None => text(&content, output),
+        Some(question) => answer(&content, question, output),
+    };
     if let Err(Failure::Refused(refusal)) = &done {
-        let name = input::name(&arguments.save);
-        *message = format!("sii-decode: {name}: {refusal}\n").into_bytes();
-        show::around(message, &content, refusal.offset);
+        let name = input::name(&asked.save);
+        *message = refused::message(&name, &content, question, refusal);
     }
-    done
+    done.map(|()| 0)
 }
 
-/// What can be refused is asked before the output is opened.
-fn answer(content: &[u8], asked: &arguments::Asked) -> Result<(), Failure> {
+fn said(text: &str) -> Result<u8, Failure> {
+    output::write(None, |out| out.write_all(text.as_bytes())).map(|()| 0)
+}
+
+// What can be refused is asked before the output is opened.
+
+fn text(content: &[u8], output: Option<&Path>) -> Result<(), Failure> {
+    let text = sii_decode::to_siin(content)?;
+    output::write(output, |out| out.write_all(&text))
+}
+
+fn answer(content: &[u8], question: &Question, output: Option<&Path>) -> Result<(), Failure> {
     let file = BsiiFile::parse(content)?;
-    let output = asked.output.as_deref();
-    match &asked.question {
-        Question::Text => {
-            let text = file.to_siin()?;
-            output::write(output, |out| out.write_all(&text))
-        }
+    match question {
         Question::Info => output::write(output, |out| {
             writeln!(out, "prototypes {}", file.prototype_count())?;
             writeln!(out, "blocks {}", file.block_count())?;
@@ -85,7 +114,7 @@ fn answer(content: &[u8], asked: &arguments::Asked) -> Result<(), Failure> {
             let prototype = file.get_prototype(*id)?;
             output::write(output, |out| {
                 writeln!(out, "prototype {}", prototype.id)?;
-                writeln!(out, "name {}", show::Escaped(prototype.name))?;
+                writeln!(out, "name {}", show::Escaped(prototype.name.as_bytes()))?;
                 writeln!(out, "fields {}", prototype.fields)
             })
         }
@@ -95,7 +124,7 @@ fn answer(content: &[u8], asked: &arguments::Asked) -> Result<(), Failure> {
             output::write(output, |out| {
                 writeln!(out, "block {}", block.number)?;
                 writeln!(out, "prototype {}", block.prototype_id)?;
-                writeln!(out, "name {}", show::Escaped(prototype.name))?;
+                writeln!(out, "name {}", show::Escaped(prototype.name.as_bytes()))?;
                 writeln!(out, "id {}", block.id)
             })
         }

@@ -3,11 +3,16 @@
 use crate::library;
 use crate::{DataField, Id, Refusal, LENGTH_LIMIT};
 use std::cell::RefCell;
+use std::fmt;
 
 /// A prototype has at least so many bytes.
 const SHORTEST_PROTOTYPE: usize = 17;
 /// The table's words for each prototype.
 const WORDS: usize = 3;
+/// The prototypes of a first table. Saves have a few hundred.
+const ROWS: usize = 4096;
+/// The room for a text at the first try, by the bytes of the save: most have less.
+const ROOM: usize = 4;
 
 /// A save that was read whole and found well-formed.
 ///
@@ -24,7 +29,9 @@ pub struct BsiiFile<'a> {
 /// A prototype by the last definition of its id.
 #[derive(Clone, Copy, Debug, PartialEq, Eq)]
 pub struct Prototype<'a> {
+    /// Blocks name their prototype by it.
     pub id: u32,
+    /// What the text calls its blocks.
     pub name: &'a str,
     /// How many fields it defines.
     pub fields: u64,
@@ -35,41 +42,105 @@ pub struct Prototype<'a> {
 pub struct DataBlock {
     /// Its place among the blocks, from 0.
     pub number: u64,
+    /// The id of its prototype.
     pub prototype_id: u32,
+    /// Its own id.
     pub id: Id,
+}
+
+fn refusal(number: u32, offset: u64) -> Refusal {
+    Refusal {
+        number,
+        offset,
+        needed: 0,
+    }
 }
 
 fn answered(number: u32, offset: u64) -> Result<(), Refusal> {
     match number {
         0 => Ok(()),
-        _ => Err(Refusal {
-            number,
-            offset,
-            needed: 0,
-        }),
+        _ => Err(refusal(number, offset)),
     }
+}
+
+/// The words of a table for as many prototypes as can stand in the save. One that is too long is
+/// refused before any byte is read, and needs none.
+fn largest_table(content: &[u8]) -> usize {
+    match content.len() {
+        length if length <= LENGTH_LIMIT => length / SHORTEST_PROTOTYPE * WORDS,
+        _ => 0,
+    }
+}
+
+/// So many words, all 0; none if there is no memory for them.
+fn table_of(words: usize) -> Vec<u32> {
+    let mut table = Vec::new();
+    if table.try_reserve_exact(words).is_ok() {
+        table.resize(words, 0);
+    }
+    table
+}
+
+/// Asks with a first table, and if that has too few rows with the largest, which the answer keeps:
+/// every further question about the save needs the same. Without memory for it the library's 10
+/// stands.
+fn with_table<T>(
+    content: &[u8],
+    mut ask: impl FnMut(&mut Vec<u32>) -> Result<T, Refusal>,
+) -> Result<(T, Vec<u32>), Refusal> {
+    let largest = largest_table(content);
+    let mut table = table_of(largest.min(ROWS * WORDS));
+    let mut answer = ask(&mut table);
+    if matches!(answer, Err(Refusal { number: 10, .. })) && table.len() < largest {
+        let larger = table_of(largest);
+        if larger.len() == largest {
+            table = larger;
+            answer = ask(&mut table);
+        }
+    }
+    answer.map(|answer| (answer, table))
+}
+
+/// The text, in a buffer of exactly its length. It is asked for at once, with room that most texts
+/// do not fill; memory that is only reserved takes none. With too little room, or no memory for so
+/// much, the answer is the length that is needed.
+fn text(content: &[u8], table: &mut [u32]) -> Result<Vec<u8>, Refusal> {
+    let mut text = Vec::new();
+    if content.len() <= LENGTH_LIMIT {
+        // What fails here leaves no room, and no text is empty.
+        let _ = text.try_reserve_exact(ROOM * content.len());
+    }
+    let mut answer = library::to_siin_within(content, table, &mut text);
+    if answer.number == 11 {
+        let refusal = Refusal {
+            needed: answer.length,
+            ..refusal(11, answer.offset)
+        };
+        let length = usize::try_from(answer.length).map_err(|_| refusal)?;
+        text = Vec::new();
+        text.try_reserve_exact(length).map_err(|_| refusal)?;
+        answer = library::to_siin_within(content, table, &mut text);
+    }
+    answered(answer.number, answer.offset)?;
+    text.shrink_to_fit();
+    Ok(text)
+}
+
+/// The SiiNunit text of a save, without a [`BsiiFile`] before: one reading less. Refused with 1 to
+/// 12; with 10 and 11 if there is no memory for the table or the text.
+pub fn to_siin(content: &[u8]) -> Result<Vec<u8>, Refusal> {
+    with_table(content, |table| text(content, table)).map(|(text, _)| text)
 }
 
 impl<'a> BsiiFile<'a> {
     /// Reads the whole file. Refused with 1 to 7 and 12, and with 10 if there is no memory for the
-    /// table; what passes is refused by the questions
-    /// below with 13 only, and by the text with 8, 9 and 11.
+    /// table; what passes is refused by the questions below with 13 only, and by the text with 8, 9
+    /// and 11.
     pub fn parse(content: &'a [u8]) -> Result<Self, Refusal> {
-        // Room for as many prototypes as can stand in the file. One that is too long is refused
-        // before any byte is read, and needs none.
-        let room = if content.len() <= LENGTH_LIMIT {
-            content.len() / SHORTEST_PROTOTYPE * WORDS
-        } else {
-            0
-        };
-        // Without memory for it the table stays empty, and the library refuses the first prototype
-        // with 10.
-        let mut table = Vec::new();
-        if table.try_reserve_exact(room).is_ok() {
-            table.resize(room, 0);
-        }
-        let reading = library::read(content, &mut table);
-        answered(reading.number, reading.offset)?;
+        let (reading, table) = with_table(content, |table| {
+            let reading = library::read(content, table);
+            answered(reading.number, reading.offset).map(|()| reading)
+        })?;
         Ok(BsiiFile {
             content,
             table: RefCell::new(table),
@@ -127,6 +198,14 @@ impl<'a> BsiiFile<'a> {
         })
     }
 
+    /// All blocks in order. Each costs a reading of the file.
+    pub fn blocks<'data>(&'data self) -> Blocks<'a, 'data> {
+        Blocks {
+            file: self,
+            number: 0,
+        }
+    }
+
     /// The number of the `n`-th block, from 0, whose prototype has that name by its last
     /// definition.
     pub fn nth_by_prototype_name(&self, name: impl AsRef<[u8]>, n: u64) -> Result<u64, Refusal> {
@@ -160,32 +239,9 @@ impl<'a> BsiiFile<'a> {
     }
 
     /// The SiiNunit text, in a buffer of exactly its length. Refused with 8 and 9, and with 11 if
-    /// there is no memory for it.
+    /// there is no memory for it. [`to_siin`] saves a reading where only the text is wanted.
     pub fn to_siin(&self) -> Result<Vec<u8>, Refusal> {
-        let mut table = self.table.borrow_mut();
-        let mut text = Vec::new();
-        // The first call has no room and only measures: no text is empty, so it is refused.
-        loop {
-            let answer = library::to_siin(self.content, &mut table, &mut text);
-            let refusal = Refusal {
-                number: answer.number,
-                offset: answer.offset,
-                needed: if answer.number == 11 {
-                    answer.length
-                } else {
-                    0
-                },
-            };
-            match answer.number {
-                0 => return Ok(text),
-                11 if text.is_empty() && answer.length > 0 => {
-                    let length = usize::try_from(answer.length).map_err(|_| refusal)?;
-                    text.try_reserve_exact(length).map_err(|_| refusal)?;
-                    text.resize(length, 0);
-                }
-                _ => return Err(refusal),
-            }
-        }
+        text(self.content, &mut self.table.borrow_mut())
     }
 
     fn place(&self, offset: u64, len: u64) -> &'a [u8] {
@@ -209,7 +265,44 @@ impl DataBlock {
     }
 }
 
+/// Counts, and none of the bytes.
+impl fmt::Debug for BsiiFile<'_> {
+    fn fmt(&self, f: &mut fmt::Formatter<'_>) -> fmt::Result {
+        f.debug_struct("BsiiFile")
+            .field("bytes", &self.content.len())
+            .field("prototypes", &self.prototypes)
+            .field("blocks", &self.blocks)
+            .field("end", &self.end)
+            .finish_non_exhaustive()
+    }
+}
+
+/// The blocks of a save.
+#[derive(Clone, Debug)]
+pub struct Blocks<'a, 'data> {
+    file: &'data BsiiFile<'a>,
+    number: u64,
+}
+
+impl Iterator for Blocks<'_, '_> {
+    type Item = DataBlock;
+
+    fn next(&mut self) -> Option<DataBlock> {
+        let block = self.file.block(self.number).ok()?;
+        self.number += 1;
+        Some(block)
+    }
+
+    fn size_hint(&self) -> (usize, Option<usize>) {
+        let left = (self.file.block_count() - self.number) as usize;
+        (left, Some(left))
+    }
+}
+
+impl ExactSizeIterator for Blocks<'_, '_> {}
+
 /// The numbers of the blocks under a prototype's name.
+#[derive(Clone, Debug)]
 pub struct BlocksByPrototypeName<'a, 'data> {
     file: &'data BsiiFile<'a>,
     name: &'data [u8],

@@ -2,10 +2,12 @@
 
 use std::fmt;
 
-/// A block's id, or one that is a value.
+/// A block's id, or one that is a value. `Display` shows it as the text does.
 #[derive(Clone, Debug, PartialEq, Eq, Hash)]
 pub enum Id {
+    /// A number.
     Nameless(u64),
+    /// Its words, of which there may be none: that is `null`.
     Named(Vec<String>),
 }
 

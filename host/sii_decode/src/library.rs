@@ -1,7 +1,8 @@
-//! The library's C functions, each with slices in place of pointers and lengths. All of the
-//! workspace's unsafe code that touches the library is here.
+//! The library's C functions, each with slices in place of pointers and lengths, for callers that
+//! lend table and output themselves. `include/sii_decode.h` says of each what it answers and what
+//! the members of the answers mean. All unsafe code that touches the library is here.
 
-use calls::{Block, Element, Field, Number, Prototype, Reading, Text};
+pub use calls::{kind, Block, Element, Field, Number, Prototype, Reading, Text};
 
 extern "C" {
     fn sii_read(file: *const u8, len: usize, table: *mut u32, words: usize) -> Reading;
@@ -42,6 +43,7 @@ extern "C" {
     ) -> Text;
 }
 
+/// `sii_read`: the whole file is read.
 pub fn read(file: &[u8], table: &mut [u32]) -> Reading {
     let (words, table) = (table.len(), table.as_mut_ptr());
     // SAFETY: each pointer comes from a slice and goes with its length. The library keeps none of
@@ -50,18 +52,21 @@ pub fn read(file: &[u8], table: &mut [u32]) -> Reading {
     unsafe { sii_read(file.as_ptr(), file.len(), table, words) }
 }
 
+/// `sii_get_prototype`: the prototype with this id, by its last definition.
 pub fn get_prototype(file: &[u8], table: &mut [u32], id: u32) -> Prototype {
     let (words, table) = (table.len(), table.as_mut_ptr());
     // SAFETY: as in `read`.
     unsafe { sii_get_prototype(file.as_ptr(), file.len(), table, words, id) }
 }
 
+/// `sii_block_at`: the `n`-th block, from 0.
 pub fn block_at(file: &[u8], table: &mut [u32], n: u64) -> Block {
     let (words, table) = (table.len(), table.as_mut_ptr());
     // SAFETY: as in `read`.
     unsafe { sii_block_at(file.as_ptr(), file.len(), table, words, n) }
 }
 
+/// `sii_blocks_by_prototype_name`: the `n`-th block, from 0, of the prototypes with this name.
 pub fn blocks_by_prototype_name(file: &[u8], table: &mut [u32], name: &[u8], n: u64) -> Number {
     let (words, table) = (table.len(), table.as_mut_ptr());
     let (len, file) = (file.len(), file.as_ptr());
@@ -69,6 +74,7 @@ pub fn blocks_by_prototype_name(file: &[u8], table: &mut [u32], name: &[u8], n: 
     unsafe { sii_blocks_by_prototype_name(file, len, table, words, name.as_ptr(), name.len(), n) }
 }
 
+/// `sii_field_of`: the value of a block under a name.
 pub fn field_of(file: &[u8], table: &mut [u32], block: u64, name: &[u8]) -> Field {
     let (words, table) = (table.len(), table.as_mut_ptr());
     let (len, file) = (file.len(), file.as_ptr());
@@ -76,14 +82,33 @@ pub fn field_of(file: &[u8], table: &mut [u32], block: u64, name: &[u8]) -> Fiel
     unsafe { sii_field_of(file, len, table, words, block, name.as_ptr(), name.len()) }
 }
 
+/// `sii_element_of`: an element of a value.
 pub fn element_of(type_id: u32, part: &[u8], index: u64) -> Element {
     // SAFETY: as in `read`.
     unsafe { sii_element_of(type_id, part.as_ptr(), part.len(), index) }
 }
 
+/// `sii_to_siin`: the text, if the output has room for it.
 pub fn to_siin(file: &[u8], table: &mut [u32], out: &mut [u8]) -> Text {
     let (words, table) = (table.len(), table.as_mut_ptr());
     let (len, file) = (file.len(), file.as_ptr());
     // SAFETY: as in `read`.
     unsafe { sii_to_siin(file, len, table, words, out.as_mut_ptr(), out.len()) }
+}
+
+/// The text in the place of what `out` held, if its capacity has room for it; otherwise `out` is
+/// empty. So the output need not be filled before: no memory is touched but the text's.
+pub fn to_siin_within(file: &[u8], table: &mut [u32], out: &mut Vec<u8>) -> Text {
+    let (words, table) = (table.len(), table.as_mut_ptr());
+    let (len, file) = (file.len(), file.as_ptr());
+    out.clear();
+    let (room, start) = (out.capacity(), out.as_mut_ptr());
+    // SAFETY: as in `read`; so many bytes may be written from `start` on. The library reads none of
+    // them, so they need not hold anything.
+    let answer = unsafe { sii_to_siin(file, len, table, words, start, room) };
+    if answer.number == 0 {
+        // SAFETY: the call has written the first `length` bytes, which is at most `room`.
+        unsafe { out.set_len(answer.length as usize) };
+    }
+    answer
 }

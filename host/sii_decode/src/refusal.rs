@@ -5,9 +5,14 @@ use std::fmt;
 
 /// A refusal of the library: its number from 1 to 13, and the offset that it is about, counted
 /// from the first byte of the input.
-#[derive(Clone, Copy, Debug, PartialEq, Eq)]
+///
+/// `Debug` shows the sentence as `Display` does: a refusal that `main` returns is printed by
+/// `Debug`, and is for the user to read.
+#[derive(Clone, Copy, PartialEq, Eq)]
 pub struct Refusal {
+    /// From 1 to 13.
     pub number: u32,
+    /// The byte that it is about; for 10 to 13 it says nothing about the bytes there.
     pub offset: u64,
     /// The text's length for number 11, else 0.
     pub needed: u64,
@@ -43,6 +48,12 @@ impl fmt::Display for Refusal {
             write!(f, ", which has {} bytes", self.needed)?;
         }
         Ok(())
+    }
+}
+
+impl fmt::Debug for Refusal {
+    fn fmt(&self, f: &mut fmt::Formatter<'_>) -> fmt::Result {
+        fmt::Display::fmt(self, f)
     }
 }
 

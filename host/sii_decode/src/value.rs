@@ -1,42 +1,113 @@
 //! A field's value and its elements.
 
-use crate::library;
+use crate::library::{self, kind, Element};
 use crate::{Id, Refusal};
-use calls::{kind, Element};
+use std::fmt;
 
 /// Eight floats, as they stand in the file: the text shows sums of them.
 pub type Placement = (f32, f32, f32, f32, f32, f32, f32, f32);
 
 /// One element: a single value, or one of an array.
+///
+/// `TryFrom` makes plain numbers and strings of it. `Display` shows a string as it is, floats as the
+/// shortest decimal number that reads back as the same one, several numbers with a space between
+/// two, and an id as the text does.
 #[derive(Clone, Debug, PartialEq)]
 pub enum DataValue<'a> {
+    /// Types 0x01 and 0x02.
     String(&'a str),
+    /// 0x03 and 0x04: an encoded word's characters.
     EncodedString(String),
+    /// 0x05 and 0x06.
     Float(f32),
+    /// 0x07.
     FloatVec2((f32, f32)),
+    /// 0x09.
     FloatVec3((f32, f32, f32)),
+    /// 0x11 and 0x12.
     Int32Vec3((i32, i32, i32)),
+    /// 0x18.
     FloatVec4((f32, f32, f32, f32)),
+    /// 0x19 and 0x1a.
     FloatVec8(Placement),
+    /// 0x25 and 0x26.
     Int32(i32),
+    /// 0x27, 0x28 and 0x2f. The largest one is `nil` in the text.
     UInt32(u32),
+    /// 0x2b and 0x2c. The largest one is `nil` in the text.
     UInt16(u16),
+    /// 0x31 and 0x32.
     Int64(i64),
+    /// 0x33 and 0x34. The largest one is `nil` in the text.
     UInt64(u64),
+    /// 0x35 and 0x36.
     Bool(bool),
-    /// The number as it stands: the strings are in the prototype.
+    /// 0x37: the number as it stands; the strings are in the prototype.
     Enum(u32),
+    /// 0x39 to 0x3d.
     Id(Id),
+}
+
+impl DataValue<'_> {
+    /// What it is, in a word: `string`, `word`, `f32`, `two-f32`, `three-f32`, `three-i32`,
+    /// `four-f32`, `placement`, `i32`, `u32`, `u16`, `i64`, `u64`, `bool`, `enum` or `id`.
+    pub fn kind_name(&self) -> &'static str {
+        match self {
+            DataValue::String(_) => "string",
+            DataValue::EncodedString(_) => "word",
+            DataValue::Float(_) => "f32",
+            DataValue::FloatVec2(_) => "two-f32",
+            DataValue::FloatVec3(_) => "three-f32",
+            DataValue::Int32Vec3(_) => "three-i32",
+            DataValue::FloatVec4(_) => "four-f32",
+            DataValue::FloatVec8(_) => "placement",
+            DataValue::Int32(_) => "i32",
+            DataValue::UInt32(_) => "u32",
+            DataValue::UInt16(_) => "u16",
+            DataValue::Int64(_) => "i64",
+            DataValue::UInt64(_) => "u64",
+            DataValue::Bool(_) => "bool",
+            DataValue::Enum(_) => "enum",
+            DataValue::Id(_) => "id",
+        }
+    }
+}
+
+impl fmt::Display for DataValue<'_> {
+    fn fmt(&self, out: &mut fmt::Formatter<'_>) -> fmt::Result {
+        match self {
+            DataValue::String(text) => out.write_str(text),
+            DataValue::EncodedString(word) => out.write_str(word),
+            DataValue::Float(a) => write!(out, "{a}"),
+            DataValue::FloatVec2((a, b)) => write!(out, "{a} {b}"),
+            DataValue::FloatVec3((a, b, c)) => write!(out, "{a} {b} {c}"),
+            DataValue::Int32Vec3((a, b, c)) => write!(out, "{a} {b} {c}"),
+            DataValue::FloatVec4((a, b, c, d)) => write!(out, "{a} {b} {c} {d}"),
+            DataValue::FloatVec8((a, b, c, d, e, f, g, h)) => {
+                write!(out, "{a} {b} {c} {d} {e} {f} {g} {h}")
+            }
+            DataValue::Int32(number) => write!(out, "{number}"),
+            DataValue::UInt32(number) | DataValue::Enum(number) => write!(out, "{number}"),
+            DataValue::UInt16(number) => write!(out, "{number}"),
+            DataValue::Int64(number) => write!(out, "{number}"),
+            DataValue::UInt64(number) => write!(out, "{number}"),
+            DataValue::Bool(truth) => write!(out, "{truth}"),
+            DataValue::Id(id) => write!(out, "{id}"),
+        }
+    }
 }
 
 /// A block's value under a name: its type, and the bytes of the file that encode it.
 #[derive(Clone, Copy, Debug, PartialEq, Eq)]
 pub struct DataField<'a> {
+    /// The type with which the block was read.
     pub type_id: u32,
+    /// Of a string with its length, of an array with its count.
     pub part: &'a [u8],
 }
 
 impl<'a> DataField<'a> {
+    /// Whether the type is an array's: then the part starts with the number of elements.
     pub fn is_array(&self) -> bool {
         matches!(
             self.type_id,
@@ -56,7 +127,8 @@ impl<'a> DataField<'a> {
         )
     }
 
-    /// What one element is, in a word.
+    /// What one element is, in the word of [`DataValue::kind_name`]; `unlisted` for a type that
+    /// the format does not list, which no value that was found has.
     pub fn kind_name(&self) -> &'static str {
         match self.type_id {
             0x01 | 0x02 => "string",

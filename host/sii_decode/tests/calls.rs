@@ -1,7 +1,8 @@
 //! Every call on the worked bytes and on the sample, and every refusal that a caller can meet.
 
 use generate::{worked_bytes, Random};
-use sii_decode::{BsiiFile, DataField, DataValue, Id, Refusal, LENGTH_LIMIT};
+use sii_decode::{to_siin, BsiiFile, DataField, DataValue, Id, OtherKind, Refusal, LENGTH_LIMIT};
+use std::error::Error;
 use std::path::Path;
 
 const WORKED: &str =
@@ -42,6 +43,9 @@ fn the_worked_bytes() {
     let counts = (file.prototype_count(), file.block_count(), file.end());
     assert_eq!(counts, (1, 1, 82));
     assert_eq!(file.to_siin().unwrap(), WORKED.as_bytes());
+    assert_eq!(to_siin(&bytes).unwrap(), WORKED.as_bytes());
+    let shown = "BsiiFile { bytes: 82, prototypes: 1, blocks: 1, end: 82, .. }";
+    assert_eq!(format!("{file:?}"), shown);
 
     let prototype = file.get_prototype(7).unwrap();
     let parts = (prototype.id, prototype.name, prototype.fields);
@@ -89,6 +93,11 @@ fn blocks_under_a_name_in_order() {
     let numbers = |name| file.blocks_by_prototype_name(name).collect::<Vec<_>>();
     assert_eq!(numbers("trip"), [0, 2]);
     assert_eq!(numbers("p"), [1]);
+    let blocks: Vec<_> = file.blocks().collect();
+    assert_eq!(file.blocks().len(), 3);
+    assert_eq!(blocks, [0, 1, 2].map(|number| file.block(number).unwrap()));
+    let ids: Vec<_> = blocks.iter().map(|block| block.prototype_id).collect();
+    assert_eq!(ids, [7, 9, 7]);
 }
 
 #[test]
@@ -106,6 +115,7 @@ fn refusals_of_a_file() {
     ];
     for (bytes, number, offset) in cases {
         assert_eq!(BsiiFile::parse(&bytes).err(), Some(refusal(number, offset)));
+        assert_eq!(to_siin(&bytes), Err(refusal(number, offset)));
     }
 }
 
@@ -139,6 +149,7 @@ fn a_text_that_no_memory_holds() {
     bytes.extend(vec![1; HALF]);
     bytes.extend([0; 5]);
     let refusal = BsiiFile::parse(&bytes).unwrap().to_siin().unwrap_err();
+    assert_eq!(to_siin(&bytes), Err(refusal));
     assert_eq!((refusal.number, refusal.offset), (11, 0));
     assert!(refusal.needed > 64_000_000_000_000);
     let shown = format!(
@@ -148,19 +159,50 @@ fn a_text_that_no_memory_holds() {
     assert_eq!(refusal.to_string(), shown);
 }
 
-/// As many prototypes as their bytes allow: the table has room for all.
-#[test]
-fn the_table_fits() {
+/// So many of the smallest prototypes: as many as their bytes allow.
+fn prototypes(count: u32) -> Vec<u8> {
     let mut bytes = b"BSII\x02\0\0\0".to_vec();
-    for id in 0..1000u32 {
+    for id in 0..count {
         bytes.extend(b"\0\0\0\0\x01");
         bytes.extend(id.to_le_bytes());
         bytes.extend([0; 8]);
     }
     bytes.extend([0; 5]);
-    let file = BsiiFile::parse(&bytes).unwrap();
-    assert_eq!(file.prototype_count(), 1000);
-    assert_eq!(file.get_prototype(999).unwrap().name, "");
+    bytes
+}
+
+/// The table has room for all, also for more than the first one has rows.
+#[test]
+fn the_table_fits() {
+    for count in [1, 1000, 4096, 4097, 20_000] {
+        let bytes = prototypes(count);
+        let file = BsiiFile::parse(&bytes).unwrap();
+        assert_eq!(file.prototype_count(), u64::from(count));
+        assert_eq!(file.get_prototype(count - 1).unwrap().name, "");
+        assert_eq!(file.get_prototype(count), Err(refusal(13, 0)));
+        assert_eq!(file.to_siin().unwrap(), b"SiiNunit\n{\n}\n");
+        assert_eq!(to_siin(&bytes).unwrap(), b"SiiNunit\n{\n}\n");
+    }
+}
+
+/// A text of more than four times the save's bytes is asked for twice, and no byte differs.
+#[test]
+fn texts_of_every_length() {
+    for count in [1, 10, 100, 10_000] {
+        let bytes = one_field(
+            0x36,
+            &[&u32::to_le_bytes(count)[..], &vec![1; count as usize]].concat(),
+        );
+        let mut text = format!("SiiNunit\n{{\np : null {{\n  x: {count}\n");
+        for index in 0..count {
+            text += &format!("  x[{index}]: true\n");
+        }
+        text += "}\n}\n";
+        assert_eq!(text.len() > 4 * bytes.len(), count > 10, "{count}");
+        let made = to_siin(&bytes).unwrap();
+        assert_eq!(made, text.as_bytes());
+        assert_eq!(made.capacity(), made.len());
+    }
 }
 
 #[test]
@@ -172,6 +214,128 @@ fn each_refusal_has_a_sentence() {
     assert!(!sentences.contains(&refusal(14, 0).sentence()));
     let shown = "refused 4 at 44: a string is not UTF-8";
     assert_eq!(refusal(4, 44).to_string(), shown);
+    // `main` prints what it returns by Debug, through a box too
+    let boxed: Box<dyn Error> = refusal(4, 44).into();
+    assert_eq!(format!("{boxed:?}"), shown);
+}
+
+#[test]
+fn values_are_shown() {
+    let shown = |value: DataValue| value.to_string();
+    assert_eq!(shown(DataValue::String("a \"b\"")), "a \"b\"");
+    assert_eq!(shown(DataValue::EncodedString("a1".into())), "a1");
+    assert_eq!(shown(DataValue::Float(-0.0)), "-0");
+    assert_eq!(shown(DataValue::FloatVec2((0.1, f32::INFINITY))), "0.1 inf");
+    assert_eq!(shown(DataValue::FloatVec3((1.0, 2.5, -3.0))), "1 2.5 -3");
+    assert_eq!(shown(DataValue::Int32Vec3((1, -2, 3))), "1 -2 3");
+    let four = DataValue::FloatVec4((1.0, 2.0, 3.0, f32::NAN));
+    assert_eq!(shown(four), "1 2 3 NaN");
+    let placement = (1.0, 2.0, 3.0, 4.0, 5.0, 6.0, 7.0, 8.5);
+    assert_eq!(shown(DataValue::FloatVec8(placement)), "1 2 3 4 5 6 7 8.5");
+    assert_eq!(shown(DataValue::Int32(-1)), "-1");
+    assert_eq!(shown(DataValue::UInt32(u32::MAX)), "4294967295");
+    assert_eq!(shown(DataValue::UInt16(7)), "7");
+    assert_eq!(shown(DataValue::Int64(i64::MIN)), "-9223372036854775808");
+    assert_eq!(shown(DataValue::UInt64(1)), "1");
+    assert_eq!(shown(DataValue::Bool(true)), "true");
+    assert_eq!(shown(DataValue::Enum(5)), "5");
+    assert_eq!(shown(DataValue::Id(Id::Nameless(0))), "_nameless.0");
+}
+
+#[test]
+fn plain_numbers_and_strings() {
+    assert_eq!(u16::try_from(DataValue::UInt16(7)), Ok(7));
+    for value in [
+        DataValue::UInt16(7),
+        DataValue::UInt32(7),
+        DataValue::Enum(7),
+    ] {
+        assert_eq!(u32::try_from(value.clone()), Ok(7));
+        assert_eq!(u64::try_from(value.clone()), Ok(7));
+        assert_eq!(i64::try_from(value), Ok(7));
+    }
+    assert_eq!(u32::try_from(DataValue::UInt32(u32::MAX)), Ok(u32::MAX));
+    assert_eq!(u64::try_from(DataValue::UInt64(u64::MAX)), Ok(u64::MAX));
+    assert_eq!(i32::try_from(DataValue::UInt16(7)), Ok(7));
+    assert_eq!(i32::try_from(DataValue::Int32(-7)), Ok(-7));
+    assert_eq!(i64::try_from(DataValue::Int32(-7)), Ok(-7));
+    assert_eq!(i64::try_from(DataValue::Int64(i64::MIN)), Ok(i64::MIN));
+    assert_eq!(f32::try_from(DataValue::Float(0.5)), Ok(0.5));
+    assert_eq!(f64::try_from(DataValue::Float(0.5)), Ok(0.5));
+    assert_eq!(bool::try_from(DataValue::Bool(true)), Ok(true));
+    let text: Result<&str, _> = DataValue::String("a").try_into();
+    assert_eq!(text, Ok("a"));
+    assert_eq!(String::try_from(DataValue::String("a")), Ok("a".into()));
+    let word = DataValue::EncodedString("a1".into());
+    assert_eq!(String::try_from(word.clone()), Ok("a1".into()));
+
+    // nothing is cut, and nothing is read as another kind
+    let other = |wanted, found| Some(OtherKind { wanted, found });
+    assert_eq!(
+        u16::try_from(DataValue::UInt32(7)).err(),
+        other("u16", "u32")
+    );
+    assert_eq!(
+        u32::try_from(DataValue::UInt64(7)).err(),
+        other("u32", "u64")
+    );
+    assert_eq!(
+        u32::try_from(DataValue::Int32(7)).err(),
+        other("u32", "i32")
+    );
+    assert_eq!(
+        i32::try_from(DataValue::UInt32(7)).err(),
+        other("i32", "u32")
+    );
+    assert_eq!(
+        i64::try_from(DataValue::UInt64(7)).err(),
+        other("i64", "u64")
+    );
+    assert_eq!(
+        f32::try_from(DataValue::UInt16(7)).err(),
+        other("f32", "u16")
+    );
+    assert_eq!(
+        bool::try_from(DataValue::UInt16(1)).err(),
+        other("bool", "u16")
+    );
+    let text: Result<&str, _> = word.try_into();
+    assert_eq!(text.err(), other("&str", "word"));
+    let id = String::try_from(DataValue::Id(Id::Nameless(0)));
+    let shown = "the value is of kind id, and String cannot hold every one of that kind";
+    assert_eq!(id.unwrap_err().to_string(), shown);
+}
+
+/// Every type of the raw calls has a name in this crate.
+#[test]
+fn the_raw_calls() {
+    use sii_decode::library::{
+        self, kind, Block, Element, Field, Number, Prototype, Reading, Text,
+    };
+    let (bytes, mut table, mut out) = (worked_bytes(), [7; 3], [9; 74]);
+    let reading: Reading = library::read(&bytes, &mut table);
+    assert_eq!((reading.number, reading.next, table), (0, 82, [0; 3]));
+    let prototype: Prototype = library::get_prototype(&bytes, &mut table, 7);
+    assert_eq!((prototype.name_offset, prototype.fields), (21, 2));
+    let block: Block = library::block_at(&bytes, &mut table, 0);
+    assert_eq!((block.prototype_id, block.id_offset), (7, 52));
+    let number: Number = library::blocks_by_prototype_name(&bytes, &mut table, b"trip", 1);
+    assert_eq!(number.number, 13);
+    let field: Field = library::field_of(&bytes, &mut table, 0, b"km");
+    assert_eq!((field.type_id, field.part_offset), (0x27, 61));
+    let element: Element = library::element_of(0x27, &bytes[61..65], 0);
+    assert_eq!((element.kind, element.value), (kind::U32, 300));
+    let text: Text = library::to_siin(&bytes, &mut table, &mut out);
+    assert_eq!((text.number, text.length), (0, 73));
+    assert_eq!((&out[..73], out[73]), (WORKED.as_bytes(), 9));
+
+    let mut short = vec![9; 5];
+    let text = library::to_siin_within(&bytes, &mut table, &mut short);
+    assert_eq!((text.number, text.length, short.len()), (11, 73, 0));
+    let mut long = Vec::with_capacity(100);
+    let text = library::to_siin_within(&bytes, &mut table, &mut long);
+    assert_eq!((text.number, text.length), (0, 73));
+    assert_eq!(long, WORKED.as_bytes());
 }
 
 #[test]
@@ -190,6 +354,7 @@ fn ids_are_shown_as_in_the_text() {
 fn walk_is_the_call(field: DataField) {
     let walked: Vec<_> = field.elements().collect();
     for (index, value) in walked.iter().enumerate() {
+        assert_eq!(value.kind_name(), field.kind_name());
         // a NaN is equal to nothing, so the shown forms are compared
         let called = field.element(index as u64).unwrap();
         assert_eq!(format!("{value:?}"), format!("{called:?}"));

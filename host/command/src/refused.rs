@@ -1,0 +1,165 @@
+//! The message of a refusal.
+
+use crate::arguments::Question;
+use crate::show::{self, Quoted};
+use crate::walk;
+use sii_decode::{BsiiFile, Refusal};
+
+/// For 10 and above the offset says nothing about the bytes there.
+const LAST_WITH_BYTES: u32 = 9;
+
+/// What was refused, where that is, and the bytes there.
+pub fn message(
+    name: &str,
+    content: &[u8],
+    question: Option<&Question>,
+    refusal: &Refusal,
+) -> Vec<u8> {
+    let Refusal { number, offset, .. } = *refusal;
+    let sentence = sentence(content, question, refusal);
+    if number > LAST_WITH_BYTES {
+        return format!("sii-decode: {name}: refused {number} at {offset}: {sentence}\n").into();
+    }
+    let first =
+        format!("sii-decode: {name}: refused {number} at {offset} (0x{offset:08x}): {sentence}\n");
+    let mut message = first.into_bytes();
+    // A fault of the first eight bytes lies in no block.
+    if let Some(place) = walk::place_of(content, offset).filter(|_| number > 2) {
+        message.extend(format!("  {}\n", in_words(&place)).bytes());
+    }
+    if !content.is_empty() {
+        show::around(&mut message, content, offset);
+    }
+    message
+}
+
+fn in_words(place: &walk::Place) -> String {
+    let mut words = format!(
+        "in block {}, of prototype {}",
+        place.block, place.prototype_id
+    );
+    if let Some(name) = place.prototype {
+        words += &format!(", {}", Quoted(name));
+    }
+    if let Some((name, type_id)) = place.field {
+        words += &format!("; field {} of type 0x{type_id:02x}", Quoted(name));
+    }
+    words
+}
+
+/// More of it than the number says, where the save or the question tell more.
+fn sentence(content: &[u8], question: Option<&Question>, refusal: &Refusal) -> String {
+    match refusal.number {
+        1 => not_bsii(content).unwrap_or(refusal.sentence()).into(),
+        11 => format!("{}, which has {} bytes", refusal.sentence(), refusal.needed),
+        13 => question
+            .and_then(|question| absent(content, question))
+            .unwrap_or(refusal.sentence().into()),
+        _ => refusal.sentence().into(),
+    }
+}
+
+/// What a file is that is not BSII, by its first bytes.
+fn not_bsii(content: &[u8]) -> Option<&'static str> {
+    match content {
+        [] => Some("the file is empty"),
+        [b'S', b'c', b's', b'C', ..] => {
+            Some("the save is encrypted (ScsC), and only BSII is read: decrypt it first")
+        }
+        [b'S', b'i', b'i', b'N', ..] => Some(
+            "the file is text already (SiiN), and only BSII is read: there is nothing to convert",
+        ),
+        [0x1f, 0x8b, ..] => {
+            Some("the file is compressed (gzip), and only BSII is read: decompress it first")
+        }
+        _ => None,
+    }
+}
+
+/// What was asked for and is not there.
+fn absent(content: &[u8], question: &Question) -> Option<String> {
+    let file = BsiiFile::parse(content).ok()?;
+    let no_block = |number: &u64| match file.block_count() {
+        1 => format!("there is no block {number}: the save has 1 block, with the number 0"),
+        count => format!("there is no block {number}: the save has {count} blocks, counted from 0"),
+    };
+    match question {
+        Question::Info => None,
+        Question::Prototype(id) => Some(format!("the save defines no prototype with the id {id}")),
+        Question::Block(number) => Some(no_block(number)),
+        Question::Blocks(name) => Some(format!(
+            "the save has no block whose prototype is named {}",
+            Quoted(name)
+        )),
+        Question::Field(number, _) if *number >= file.block_count() => Some(no_block(number)),
+        Question::Field(number, name) => {
+            let prototype = file.block(*number).ok()?.prototype(&file).ok()?;
+            let of = Quoted(prototype.name.as_bytes());
+            let at = prototype.name.as_ptr() as usize - content.as_ptr() as usize;
+            Some(match walk::defines(content, at, name) {
+                true => format!(
+                    "block {number} has no value for the field {}: the last definition of its prototype {of} has more fields than the block has values",
+                    Quoted(name)
+                ),
+                false => format!(
+                    "block {number}, of the prototype {of}, has no field named {}",
+                    Quoted(name)
+                ),
+            })
+        }
+    }
+}
+
+#[cfg(test)]
+mod tests {
+    use super::*;
+    use sii_decode::DataField;
+
+    fn garage() -> Vec<u8> {
+        let root = std::path::Path::new(env!("CARGO_MANIFEST_DIR")).join("../..");
+        std::fs::read(root.join("samples/garage.bsii")).unwrap()
+    }
+
+    /// How the place goes with the refusal's number.
+    fn check(bytes: &[u8], refusal: &Refusal) {
+        let Refusal { number, offset, .. } = *refusal;
+        let message = message("x", bytes, None, refusal);
+        let start = format!("sii-decode: x: refused {number} at {offset} (0x{offset:08x}): ");
+        assert!(message.starts_with(start.as_bytes()) && message.ends_with(b"\n"));
+        assert!(message.iter().filter(|byte| **byte == b'\n').count() <= 6);
+        let place = walk::place_of(bytes, offset);
+        let field = place.as_ref().and_then(|place| place.field);
+        let kind = field.map(|(_, type_id)| DataField { type_id, part: b"" }.kind_name());
+        match number {
+            6 => assert!(place.unwrap().prototype.is_none()),
+            7 => assert_eq!(kind, Some("unlisted")),
+            8 => assert!(place.unwrap().prototype.is_some() && field.is_none()),
+            9 => assert_eq!(kind, Some("enum")),
+            _ => assert_ne!(kind, Some("unlisted")),
+        }
+    }
+
+    /// Every byte of the sample replaced, and the sample cut at every byte.
+    #[test]
+    fn damaged_saves() {
+        let whole = garage();
+        let mut seen = [0; 14];
+        let mut try_one = |bytes: &[u8]| {
+            if let Err(refusal) = sii_decode::to_siin(bytes) {
+                seen[refusal.number as usize] += 1;
+                check(bytes, &refusal);
+            }
+        };
+        for at in 0..whole.len() {
+            try_one(&whole[..at]);
+            for byte in [0, 1, 2, 8, 0x26, 0x37, 0x7f, 0xff] {
+                let mut bytes = whole.clone();
+                bytes[at] = byte;
+                try_one(&bytes);
+            }
+        }
+        for number in [1, 2, 3, 4, 5, 6, 7, 9] {
+            assert!(seen[number] > 0, "{number}: {seen:?}");
+        }
+    }
+}

@@ -1,0 +1,93 @@
+/*
+ * How deep each call goes into the stack: it runs on a stack of its own, which was filled with a pattern, and the lowest byte that changed is
+ * looked for. The file is that of the first argument, which has every type. Prints the most bytes of all calls, and exits with 1 if that is
+ * more than the second argument, the number that the header promises, or if a call is refused.
+ */
+#define _XOPEN_SOURCE 700
+#include <stdio.h>
+#include <stdlib.h>
+#include <string.h>
+#include <ucontext.h>
+
+#include "sii_decode.h"
+
+enum { STACK = 65536, PATTERN = 0xa5, MOST = 1000000 };
+
+static uint8_t file[MOST], output[MOST], stack[STACK];
+static uint32_t table[3000];
+static size_t file_len;
+static ucontext_t here, there;
+static uintptr_t top;
+static int failed;
+
+#define FILE_AND_TABLE file, file_len, table, sizeof table / sizeof table[0]
+
+static void expect(uint32_t number)
+{
+    failed |= number != 0;
+}
+
+static void a_reading(void) { expect(sii_read(FILE_AND_TABLE).number); }
+static void a_prototype(void) { expect(sii_get_prototype(FILE_AND_TABLE, 1).number); }
+static void a_block(void) { expect(sii_block_at(FILE_AND_TABLE, 2).number); }
+static void a_named_block(void) { expect(sii_blocks_by_prototype_name(FILE_AND_TABLE, (const uint8_t *)"truck", 5, 1).number); }
+static void a_field(void) { expect(sii_field_of(FILE_AND_TABLE, 0, (const uint8_t *)"parent", 6).number); }
+static void a_text(void) { expect(sii_to_siin(FILE_AND_TABLE, output, sizeof output).number); }
+
+/* every element of the first block's fields that have these names */
+static void elements(void)
+{
+    static const char *const names[] = {"label", "remarks", "tags", "prices", "turns", "spots", "ledger", "keys", "lights", "state", "drivers"};
+    size_t at;
+    for (at = 0; at < sizeof names / sizeof names[0]; at++) {
+        SiiField field = sii_field_of(FILE_AND_TABLE, 0, (const uint8_t *)names[at], strlen(names[at]));
+        expect(field.number);
+        expect(sii_element_of(field.type_id, file + field.part_offset, field.part_len, 0).number);
+    }
+}
+
+static void (*asked)(void);
+
+static void on_its_own(void)
+{
+    /* what is deeper than this is the call's */
+    top = (uintptr_t)__builtin_frame_address(0);
+    asked();
+}
+
+static size_t depth_of(void (*call)(void))
+{
+    size_t at = 0;
+    asked = call;
+    memset(stack, PATTERN, sizeof stack);
+    getcontext(&there);
+    there.uc_stack.ss_sp = stack;
+    there.uc_stack.ss_size = sizeof stack;
+    there.uc_link = &here;
+    makecontext(&there, on_its_own, 0);
+    swapcontext(&here, &there);
+    while (at < sizeof stack && stack[at] == PATTERN)
+        at++;
+    return top - (uintptr_t)(stack + at);
+}
+
+int main(int count, char **words)
+{
+    static void (*const calls[])(void) = {a_reading, a_prototype, a_block, a_named_block, a_field, elements, a_text};
+    size_t at, most = 0, promised;
+    FILE *in;
+    if (count != 3 || (in = fopen(words[1], "rb")) == NULL) {
+        puts("stack FILE BYTES");
+        return 2;
+    }
+    file_len = fread(file, 1, sizeof file, in);
+    fclose(in);
+    promised = (size_t)strtoul(words[2], NULL, 10);
+    for (at = 0; at < sizeof calls / sizeof calls[0]; at++) {
+        size_t depth = depth_of(calls[at]);
+        if (depth > most)
+            most = depth;
+    }
+    printf("%lu\n", (unsigned long)most);
+    return failed || most > promised || most < 100;
+}
