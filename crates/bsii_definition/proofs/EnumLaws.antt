@@ -7,17 +7,20 @@ use mathlib.Core.Option.{Option, none, some}
 use mathlib.Core.List.{List, [], _∷_}
 use lib.Dec.{eqb}
 use lib.ListN.{length, take, drop}
-use Rattle.bsii_format.specs.Reader.{Result, ok, faultAt, Reader, _>>=_, success, repeat}
+use Rattle.bsii_format.specs.Replies.{Fault as Reason}
+use Rattle.bsii_format.specs.Reader.{Result, ok, fault, Reader, _>>=_, success, repeat}
 use Rattle.bsii_format.specs.Numbers.{number}
 use Rattle.bsii_format.specs.Strings.{strParser}
 use Rattle.bsii_format.specs.Prototypes.{EnumValue, enumValueParser, enumValuesParser}
 use Rattle.bsii_format.specs.Text.{firstSome, enumString}
-use Rattle.bsii_format.proofs.Readers.{after-ok, ok-val, ok-at, ok-rest}
+use Rattle.bsii_format.proofs.Readers.{after-ok, fault≢ok, ok-val, ok-at, ok-rest}
 use Rattle.bsii_format.proofs.Parsers.{enumValue-exact}
 use Rattle.bsii_format.proofs.Positions.{moved, bind-fault, bind-ok}
 use Rattle.bsii_value.specs.Answers.{endOf, uncheckedStr}
+use Rattle.bsii_value.specs.declared.answers.Refusal.{Refusal}
 use Rattle.bsii_value.specs.declared.answers.Parsed.{Parsed}
 use Rattle.bsii_value.specs.declared.answers.Parsed.the-variants.{Next, Fault}
+use Rattle.bsii_value.proofs.Ends.{next≢fault}
 use Rattle.bsii_value.proofs.Texts.{str-past-next}
 use Rattle.bsii_prototype.specs.Entries.{enumValuesWith}
 use Rattle.bsii_prototype.proofs.Unchecked.{checked-enum-value, checked-enum-values}
@@ -28,24 +31,18 @@ use Rattle.bsii_definition.specs.declared.enums.EnumString.{EnumString}
 use Rattle.bsii_definition.specs.declared.enums.EnumString.the-variants.{Text, Absent}
 use Rattle.bsii_definition.specs.declared.enums.EnumPair.the-variants.{Pair, NoPair}
 
-fault≢ok : {A P : Type 0} {k o n : ℕ} {v : A} {r : List ℕ} → _≡_ {A = Result A} (faultAt k o) (ok v n r) → P
-fault≢ok e = let z : _≡_ {A = ℕ} 0 1 = cc in let f : ⊥ = omega arith in absurd f
-
-next≢fault : {P : Type 0} {n k p : ℕ} → _≡_ {A = Parsed} (Next n) (Fault k p) → P
-next≢fault e = let z : _≡_ {A = ℕ} 0 1 = cc in let f : ⊥ = omega arith in absurd f
-
 next-same : {a b : ℕ} → _≡_ {A = Parsed} (Next a) (Next b) → a ≡ b
 next-same e = cc
 
 -- ---- one pair
 
 module _ (s : List ℕ) (at : ℕ) where
-  pub no-number : {k o : ℕ} → number 4 at (drop at s) ≡ faultAt k o → PairAt s at NoPair
+  pub no-number : {x : Reason} → number 4 at (drop at s) ≡ fault x → PairAt s at NoPair
   unfolding enumValueParser
   no-number e = record { is = λ p n t f. fault≢ok (sym (bind-fault (number 4) _ e) ∙ f); inside = tt }
 
   module _ {k i : ℕ} (e : number 4 at (drop at s) ≡ ok k i (drop i s)) where
-    pub no-string : {m o : ℕ} → Fault m o ≡ endOf (uncheckedStr i (drop i s)) → PairAt s at NoPair
+    pub no-string : {f : Refusal} → Fault f ≡ endOf (uncheckedStr i (drop i s)) → PairAt s at NoPair
     unfolding enumValueParser _>>=_
     no-string g = record {
       is = λ p n t f.
@@ -184,7 +181,7 @@ module _ (s : List ℕ) (at typeId wanted : ℕ) where
   }
 
   module _ (h : typeId ≡ 0x37) where
-    pub no-count : {k o : ℕ} → number 4 at (drop at s) ≡ faultAt k o → StringOf s at typeId wanted Absent
+    pub no-count : {x : Reason} → number 4 at (drop at s) ≡ fault x → StringOf s at typeId wanted Absent
     no-count e = record { is = λ l n t f. fault≢ok (sym (list-short strParser at (drop at s) typeId h e) ∙ list-with f); inside = tt }
 
     pub a-list : {count i : ℕ} {r : EnumString} → number 4 at (drop at s) ≡ ok count i (drop i s) → LastPair s i count wanted r → StringOf s at typeId wanted r

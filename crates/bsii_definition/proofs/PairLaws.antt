@@ -26,7 +26,7 @@ use Rattle.bsii_definition.specs.declared.pairs.Pair.the-variants.{Both,
 -- an answer that is no field, where a list is read: its end
 pub at-end : (s : List ℕ) (at : ℕ) {l : Fields} {n : ℕ} {t : List ℕ} → fieldsParser at (drop at s) ≡ ok l n t
     → (x : Entry) → OneOf (1 ∷ 2 ∷ []) (tagOf the-type x) → x ≡ entryOf (at + 8) (entryWith uncheckedStr at (drop at s)) → l .fields ≡ []
-at-end s at e x h f = unfielded x h (λ n z. turn-last s at e (sym z ∙ f) .0) (λ k o z. turn-bad s at e (sym z ∙ f))
+at-end s at e x h f = unfielded x h (λ n z. turn-last s at e (sym z ∙ f) .0) (λ g z. turn-bad s at e (sym z ∙ f))
 
 module _ (s : List ℕ) (at : ℕ) {type a b next : ℕ} (f : Field type a b next ≡ entryOf (at + 8) (entryWith uncheckedStr at (drop at s)))
     {l : Fields} {n : ℕ} {t : List ℕ} (e : fieldsParser at (drop at s) ≡ ok l n t) where

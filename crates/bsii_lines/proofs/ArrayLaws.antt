@@ -6,7 +6,8 @@ use mathlib.Core.Option.{Option, none, some, Option·map}
 use mathlib.Core.List.{List, [], _∷_, _++_, append-assoc, append-nil}
 use lib.ListN.{length, drop}
 use Rattle.bsii_format.specs.Ascii.{ascii}
-use Rattle.bsii_format.specs.Reader.{ok, faultAt, Consumed, consumed, repeat, success, fail, _>>=_}
+use Rattle.bsii_format.specs.Replies.{Fault}
+use Rattle.bsii_format.specs.Reader.{ok, fault, Consumed, consumed, repeat, success, fail, _>>=_}
 use Rattle.bsii_format.specs.Numbers.{number}
 use Rattle.bsii_format.specs.Digits.{decimal}
 use Rattle.bsii_format.specs.Types.{Kind, Shape, one, many, shapeOf}
@@ -176,7 +177,7 @@ elements s at k e f =
     (q .0, q .1, sym (bind-ok (number 4) (λ n. repeat n (consumed (elementParser k))) e) ∙ q .2)
 
 module _ (s : List ℕ) (at : ℕ) (k : Kind) (d : Definition) {old : List ℕ} {to : ℕ} where
-  pub array-short : {m o : ℕ} → number 4 at (drop at s) ≡ faultAt m o → ArrayWritten s at k d old to Absent old
+  pub array-short : {x : Fault} → number 4 at (drop at s) ≡ fault x → ArrayWritten s at k d old to Absent old
   array-short e = record { writes = λ v n f g q. fault≢ok (sym (many-short k at (drop at s) e) ∙ f); size = refl }
 
   module _ {count first : ℕ} (e : number 4 at (drop at s) ≡ ok count first (drop first s)) where

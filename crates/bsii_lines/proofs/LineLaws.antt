@@ -15,8 +15,10 @@ use Rattle.bsii_format.specs.Text.{elementText, indexed, fieldLine}
 use Rattle.bsii_format.proofs.Readers.{Exact, fits-well-formed}
 use Rattle.bsii_format.proofs.Parsers.{element-exact}
 use Rattle.bsii_value.specs.Answers.{endOf}
+use Rattle.bsii_value.specs.declared.answers.Refusal.{Refusal}
 use Rattle.bsii_value.specs.declared.answers.Parsed.{Parsed}
 use Rattle.bsii_value.specs.declared.answers.Parsed.the-variants.{Next as Past, Fault}
+use Rattle.bsii_value.proofs.Ends.{next≢fault}
 use Rattle.bsii_past.specs.Unchecked.{uncheckedElement}
 use Rattle.bsii_past.proofs.Values.{element-same}
 use Rattle.bsii_definition.specs.declared.pairs.Definition.{Definition}
@@ -45,9 +47,6 @@ own-bytes {A} {R} x s at {v} {n} e =
 next-same : {a b : ℕ} → _≡_ {A = Parsed} (Past a) (Past b) → a ≡ b
 next-same e = cc
 
-past≢fault : {P : Type 0} {n k p : ℕ} → _≡_ {A = Parsed} (Past n) (Fault k p) → P
-past≢fault e = let z : _≡_ {A = ℕ} 0 1 = cc in let f : ⊥ = omega arith in absurd f
-
 -- ---- the end of a line
 
 -- a contract at the case that was answered
@@ -67,8 +66,8 @@ end-some old to none n at p mid r new e h w = absurd h
 end-some old to (some v) n at p mid r new e h w = (e, then h w)
 
 module _ (s : List ℕ) (at : ℕ) (k : Kind) (d : Definition) (old : List ℕ) (to : ℕ) where
-  pub rest-refused : {m o : ℕ} → Fault m o ≡ endOf (uncheckedElement k at (drop at s)) → RestWritten s at k d old to Absent old
-  rest-refused e = record { writes = λ x n f g h. past≢fault (sym (element-same k at (drop at s) f) ∙ sym e); size = refl }
+  pub rest-refused : {f : Refusal} → Fault f ≡ endOf (uncheckedElement k at (drop at s)) → RestWritten s at k d old to Absent old
+  rest-refused e = record { writes = λ x n f g h. next≢fault (sym (element-same k at (drop at s) f) ∙ sym e); size = refl }
 
   module _ {next : ℕ} (e : Past next ≡ endOf (uncheckedElement k at (drop at s))) where
     behind : {x : Element} {n : ℕ} → elementParser k at (drop at s) ≡ ok x n (drop n s) → next ≡ n

@@ -68,10 +68,7 @@ fn write_rest(out: &mut [u8], to: usize, s: &[u8], at: usize, kind: Kind, d: Def
 {
     let end = element_end(s, at, kind);
     match end {
-        Parsed::Fault {
-            number: _,
-            offset: _,
-        } => return Lines::NotInList,
+        Parsed::Fault(_) => return Lines::NotInList,
         Parsed::Next(next) => {
             let scalar = write_scalar_data_value(out, to, &s[at..next], kind, s, d);
             match scalar {

@@ -17,7 +17,7 @@ use Rattle.bsii_value.specs.declared.answers.Word.the-variants.{Low63, R
 use Rattle.bsii_value.specs.declared.answers.Parsed.{Parsed}
 use Rattle.bsii_value.specs.declared.answers.Parsed.the-variants.{Next, Fault}
 
--- a refusal of the code and one of the specification: nothing else takes either apart
+-- what a refusal of the code means, and back: laws that only hand a refusal on name none of its fields
 abbrev pub faultIs : Refusal → replies.Fault
 faultIs f = record { number = f .number; offset = f .offset }
 

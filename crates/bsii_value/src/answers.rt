@@ -2,7 +2,7 @@
 ghost use mathlib.Core.Path.{_≡_};
 ghost use Rattle.bsii_value.specs.Answers.{refusedAt};
 
-// Why and where a file is refused. What hands a refusal on names none of its fields, and only specs/Answers takes it apart.
+// Why and where a file is refused. What hands a refusal on names none of its fields; specs/Answers says what they mean.
 pub struct Refusal {
     pub number: u32,
     pub offset: usize,

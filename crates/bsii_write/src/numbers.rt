@@ -18,7 +18,7 @@ fn write_or_nil(out: &mut [u8], at: usize, n: u64, largest: u64) -> usize
     write_decimal(out, at, n)
 }
 
-pub fn write_u16(out: &mut [u8], at: usize, n: u32) -> usize
+pub fn write_u16(out: &mut [u8], at: usize, n: u16) -> usize
     ensures { λ r. ⌜ Wrote (now (out .entry)) at (orNil 0xffff n) r (now (out .exit)) ⌝ }
 {
     write_or_nil(out, at, n as u64, 0xffff)

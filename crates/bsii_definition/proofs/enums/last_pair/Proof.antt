@@ -1,3 +1,4 @@
+-- `enums::last_pair`: Invariant: the string among the pairs left, or else the one found so far, is the whole list's. Measure: how many are left.
 use borrow.Author.Needs.{needs}
 use Prim.Native.Nat.{_-_}
 use mathlib.Core.Path.{sym, subst}

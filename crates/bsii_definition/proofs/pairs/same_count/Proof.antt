@@ -1,3 +1,5 @@
+-- `pairs::same_count`: Invariant: the lists from here on are equally long if the whole lists are. Measure: what is left of the file behind the first list's
+-- definitions passed.
 use mathlib.Core.Path.{subst}
 use native.Mathlib.Omega.{arith}
 use denote.Ref.{now}
