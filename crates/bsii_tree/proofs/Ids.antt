@@ -1,16 +1,16 @@
 -- The id of a prototype that was read stands five bytes behind its offset: `idOf` is its id.
 use Prim.Native.Nat.{ℕ, zero, suc, _+_}
 use native.Mathlib.Omega.{arith}
-use mathlib.Core.Path.{_≡_, sym, ap, ap₂, _∙_, subst}
+use mathlib.Core.Path.{_≡_, sym, ap, ap₂, _∙_}
 use mathlib.Core.Bool.{Bool, true, false, cond}
 use mathlib.Core.List.{List}
 use lib.ListN.{drop}
 use lib.Dec.{eqb, leb}
 use Rattle.bsii_format.specs.Replies.{malformed}
-use Rattle.bsii_format.specs.Reader.{Result, ok, _>>=_, success, verify}
+use Rattle.bsii_format.specs.Reader.{ok, _>>=_, success, verify}
 use Rattle.bsii_format.specs.Numbers.{number, leU8}
 use Rattle.bsii_format.specs.Strings.{strParser}
-use Rattle.bsii_format.specs.File.{Head, ending, defining, carrying, markParser, headParser}
+use Rattle.bsii_format.specs.File.{defining, carrying, markParser, headParser}
 use Rattle.bsii_format.proofs.Readers.{after-ok, cond-ok}
 use Rattle.bsii_value.proofs.NumbersAt.{number-moves, number-is}
 use Rattle.bsii_tree.specs.Table.{idOf}

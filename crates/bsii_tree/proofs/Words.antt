@@ -3,8 +3,8 @@ use Prim.Native.Nat.{ℕ, zero, suc, _+_, _*_, _≤_, _<_}
 use native.Mathlib.Decide.{ℕ-discrete}
 use native.Mathlib.Numerals.{add-one}
 use native.Mathlib.Omega.{arith}
-use mathlib.Core.Path.{_≡_, refl, sym, ap, ap₂, _∙_, subst}
-use mathlib.Core.Logic.{_⊎_, inl, inr, ⊎-elim}
+use mathlib.Core.Path.{_≡_, sym, ap, ap₂, _∙_, subst}
+use mathlib.Core.Logic.{_⊎_, ⊎-elim}
 use mathlib.Core.Bool.{cond}
 use mathlib.Core.Option.{none, some, Option·map}
 use mathlib.Core.List.{List}
@@ -13,7 +13,7 @@ use lib.Seq.{getD-set-same, getD-set-other}
 use lib.Dec.{eqb}
 use Rattle.bsii_table.specs.Rows.{Row, offsets}
 use Rattle.bsii_table.proofs.Lookups.{Once, finds, misses, replaced, appended}
-use Rattle.bsii_tree.specs.Tree.{search, Tree, Leaf, Place}
+use Rattle.bsii_tree.specs.Tree.{search, Leaf, Place}
 use Rattle.bsii_tree.specs.Table.{idOf, offsetOf, keyOf, linkOf, rowOf, Linked, lookupTree, Sought, Appended, rowsWith, Puts, Named}
 use Rattle.bsii_tree.specs.declared.Slot.{Slot}
 use Rattle.bsii_tree.specs.declared.Slot.the-variants as slot

@@ -96,10 +96,10 @@ cast-table : tie.Need-cast-table
 cast-table c = search needs
 
 mul-table-2 : tie.Need-mul-table-2
-mul-table-2 c = omega (arith, link-ends (c .before .before .before .before .before))
+mul-table-2 c = let appended = c .before .before in omega (arith, link-ends (appended .before .before .before))
 
 slice-write-table-2 : tie.Need-slice-write-table-2
-slice-write-table-2 c = omega (arith, link-ends (c .before .before .before .before .before), c .before .before .append-leaf2 .ensures .size)
+slice-write-table-2 c = let appended = c .before .before in omega (arith, link-ends (appended .before .before .before), appended .append-leaf2 .ensures .size)
 
 add-t20 : tie.Need-add-t20
 add-t20 c = search needs
