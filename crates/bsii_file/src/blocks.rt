@@ -33,7 +33,8 @@ pub enum NumberReply {
     Refused(Refusal),
 }
 
-// A block that was found.
+// A block that was found. Its head and its id were read on the way to it, so it alone is met here: `Block` doesn't hand on the prototype id and
+// where the id ends, which no other look-up needs, and they are read once more. The other arms stand for no input.
 fn block_found(s: &[u8], b: Block) -> BlockReply
     ensures { λ r. ⌜ BlockAnswered (now (s .entry)) b r ⌝ }
 {

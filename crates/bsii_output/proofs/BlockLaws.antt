@@ -21,9 +21,11 @@ use Rattle.bsii_format.specs.BlockText.{joined, blockOpening, closing, valuesOf
 use Rattle.bsii_format.proofs.Readers.{is-true, ok-at, ok-val}
 use Rattle.bsii_format.proofs.Parsers.{id-exact}
 use Rattle.bsii_format.proofs.Positions.{map-value}
-use Rattle.bsii_value.specs.Answers.{endOf}
+use Rattle.bsii_value.specs.Answers.{faultIs, refusedAt, endOf}
+use Rattle.bsii_value.specs.declared.answers.Refusal.{Refusal}
 use Rattle.bsii_value.specs.declared.answers.Parsed.{Parsed}
 use Rattle.bsii_value.specs.declared.answers.Parsed.the-variants.{Next as Past, Fault as Stopped}
+use Rattle.bsii_value.proofs.Ends.{next≢fault}
 use Rattle.bsii_prototype.specs.Entries.{uncheckedHead}
 use Rattle.bsii_prototype.proofs.Beginnings.{head-past}
 use Rattle.bsii_past.specs.Unchecked.{uncheckedElement}
@@ -36,6 +38,7 @@ use Rattle.bsii_lines.proofs.LineLaws.{own-bytes}
 use Rattle.bsii_window.specs.Window.{Wrote}
 use Rattle.bsii_window.proofs.Laws.{then, same}
 use Rattle.bsii_write.specs.Ids.{IdWritten}
+use Rattle.bsii_output.proofs.FieldLaws.{behind-text}
 use Rattle.bsii_output.specs.Blocks.{WrittenIs, FieldsWritten, OpeningWritten, BodyWritten, SameFields, BlockWritten}
 use Rattle.bsii_output.specs.declared.blocks.Written.{Written}
 use Rattle.bsii_output.specs.declared.blocks.Written.the-variants.{Next, Refused}
@@ -52,14 +55,6 @@ opened {name = name} {raw = raw} w₁ w₂ w₃ w₄ = record {
 
 -- ---- the fields between the opening and the end
 
--- one text behind another
-behind : {old : List ℕ} {to p : ℕ} {mid x : List ℕ} → Wrote old to x p mid → (o : Reply (List ℕ)) (n : ℕ) (r : Written) (new : List ℕ) → WrittenIs mid p o n r new → WrittenIs old to (joined (gives x) o) n r new
-unfolding joined
-behind w (gives t) n (Next at r) new h = (h .0, then w (h .1))
-behind w (gives t) n (Refused k o) new h = absurd h
-behind w (refuses f) n (Next at r) new h = absurd h
-behind w (refuses f) n (Refused k o) new h = h
-
 -- a text in front of another
 closed : (old : List ℕ) (to : ℕ) (o : Reply (List ℕ)) (n at p : ℕ) (mid : List ℕ) → WrittenIs old to o n (Next at p) mid → {x : List ℕ} {r : ℕ} {new : List ℕ} → Wrote mid p x r new
     → WrittenIs old to (joined o (gives x)) n (Next at r) new
@@ -67,17 +62,17 @@ unfolding joined
 closed old to (gives t) n at p mid h w = (h .0, then (h .1) w)
 closed old to (refuses f) n at p mid h w = absurd h
 
-refused : (old : List ℕ) (to : ℕ) (o x : Reply (List ℕ)) (n k i : ℕ) (new : List ℕ) → WrittenIs old to o n (Refused k i) new → WrittenIs old to (joined o x) n (Refused k i) new
+refused : (old : List ℕ) (to : ℕ) (o x : Reply (List ℕ)) (n : ℕ) (g : Refusal) (new : List ℕ) → WrittenIs old to o n (Refused g) new → WrittenIs old to (joined o x) n (Refused g) new
 unfolding joined
-refused old to (gives t) x n k i new h = absurd h
-refused old to (refuses f) x n k i new h = h
+refused old to (gives t) x n g new h = absurd h
+refused old to (refuses f) x n g new h = h
 
 module _ (s : List ℕ) (id start fields name lastFields : ℕ) {old : List ℕ} {to p : ℕ} {mid : List ℕ} (w : OpeningWritten (take (lastFields - name) (drop name s)) (take (start - id) (drop id s)) old to p mid) where
-  pub body-refused : {k o : ℕ} {new : List ℕ} → FieldsWritten s start fields lastFields mid p (Refused k o) new → BodyWritten s id start fields name lastFields old to (Refused k o) new
-  body-refused {k} {o} {new} h = record {
+  pub body-refused : {x : Refusal} {new : List ℕ} → FieldsWritten s start fields lastFields mid p (Refused x) new → BodyWritten s id start fields name lastFields old to (Refused x) new
+  body-refused {x} {new} h = record {
     writes = λ i f l n t e m q u g vs d c v.
-        refused old to (joined (gives (blockOpening (take (lastFields - name) (drop name s)) i)) (fieldsText valueText start (m .fields) vs)) (gives closing) d k o new
-        (behind (w .writes i (own-bytes id-exact s id f)) (fieldsText valueText start (m .fields) vs) d (Refused k o) new (h .writes l n t e m q u g vs d c v));
+        refused old to (joined (gives (blockOpening (take (lastFields - name) (drop name s)) i)) (fieldsText valueText start (m .fields) vs)) (gives closing) d x new
+        (behind-text (w .writes i (own-bytes id-exact s id f)) (fieldsText valueText start (m .fields) vs) d (Refused x) new (h .writes l n t e m q u g vs d c v));
     size = h .size ∙ w .size;
   }
 
@@ -86,7 +81,7 @@ module _ (s : List ℕ) (id start fields name lastFields : ℕ) {old : List ℕ}
   body-written {at} {r₁} {r} {m₁} {new} h x = record {
     writes = λ i f l n t e m q u g vs d c v.
         closed old to (joined (gives (blockOpening (take (lastFields - name) (drop name s)) i)) (fieldsText valueText start (m .fields) vs)) d at r₁ m₁
-        (behind (w .writes i (own-bytes id-exact s id f)) (fieldsText valueText start (m .fields) vs) d (Next at r₁) m₁ (h .writes l n t e m q u g vs d c v)) x;
+        (behind-text (w .writes i (own-bytes id-exact s id f)) (fieldsText valueText start (m .fields) vs) d (Next at r₁) m₁ (h .writes l n t e m q u g vs d c v)) x;
     size = same x ∙ h .size ∙ w .size;
   }
 
@@ -127,9 +122,6 @@ even-text : (offset : ℕ) (q : Prototype) (b : DataBlock) → eqb (length (q .f
 unfolding blockText
 even-text offset q b e = rw e refl
 
-past≢stopped : {P : Type 0} {n k i : ℕ} → _≡_ {A = Parsed} (Past n) (Stopped k i) → P
-past≢stopped e = let z : _≡_ {A = ℕ} 0 1 = cc in let f : ⊥ = omega arith in absurd f
-
 past-same : {a b : ℕ} → _≡_ {A = Parsed} (Past a) (Past b) → a ≡ b
 past-same e = cc
 
@@ -139,14 +131,14 @@ id-past s at {v} {n} e = element-same id at (drop at s) {v = ident v} (map-value
 
 module _ (s : List ℕ) (offset at inForce last : ℕ) (old : List ℕ) (to : ℕ) where
   -- what stands there was accepted, so that nothing of it runs out
-  pub no-definition : {x : Parsed} → x ≡ endOf (uncheckedHead inForce (drop inForce s)) → {k i : ℕ} → x ≡ Stopped k i → (r : Written) → BlockWritten s offset at inForce last old to r old
-  no-definition e f r = record { writes = λ p q h k b i j z d c v. past≢stopped (sym (standing s inForce e p h) ∙ f); size = refl }
+  pub no-definition : {x : Parsed} → x ≡ endOf (uncheckedHead inForce (drop inForce s)) → {f : Refusal} → x ≡ Stopped f → (r : Written) → BlockWritten s offset at inForce last old to r old
+  no-definition e f r = record { writes = λ p q h k b i j z d c v. next≢fault (sym (standing s inForce e p h) ∙ f); size = refl }
 
-  pub no-last : {x : Parsed} → x ≡ endOf (uncheckedHead last (drop last s)) → {k i : ℕ} → x ≡ Stopped k i → (r : Written) → BlockWritten s offset at inForce last old to r old
-  no-last e f r = record { writes = λ p q h k b i j z d c v. past≢stopped (sym (standing s last e q k) ∙ f); size = refl }
+  pub no-last : {x : Parsed} → x ≡ endOf (uncheckedHead last (drop last s)) → {f : Refusal} → x ≡ Stopped f → (r : Written) → BlockWritten s offset at inForce last old to r old
+  no-last e f r = record { writes = λ p q h k b i j z d c v. next≢fault (sym (standing s last e q k) ∙ f); size = refl }
 
-  pub no-id : {x : Parsed} → x ≡ endOf (uncheckedElement id at (drop at s)) → {k i : ℕ} → x ≡ Stopped k i → (r : Written) → BlockWritten s offset at inForce last old to r old
-  no-id e f r = record { writes = λ p q h k b i j z d c v. past≢stopped (sym (id-past s at d) ∙ sym e ∙ f); size = refl }
+  pub no-id : {x : Parsed} → x ≡ endOf (uncheckedElement id at (drop at s)) → {f : Refusal} → x ≡ Stopped f → (r : Written) → BlockWritten s offset at inForce last old to r old
+  no-id e f r = record { writes = λ p q h k b i j z d c v. next≢fault (sym (id-past s at d) ∙ sym e ∙ f); size = refl }
 
   module _ {x : Parsed} (e : x ≡ endOf (uncheckedHead inForce (drop inForce s))) {fields : ℕ} (f : x ≡ Past fields)
       {y : Parsed} (g : y ≡ endOf (uncheckedHead last (drop last s))) {lastFields : ℕ} (h : y ≡ Past lastFields) where
@@ -161,11 +153,11 @@ module _ (s : List ℕ) (offset at inForce last : ℕ) (old : List ℕ) (to : �
       counts : (p q : Prototype) → Stands s inForce p → Stands s last q → (vs : List DataValue) → length vs ≡ length (p .fields) → eqb (length (q .fields)) (length vs) ≡ r
       counts p q k l vs v = ap (eqb (length (q .fields))) v ∙ sym (w .is p q k l (fields-are p k) (last-are q l))
 
-      pub other-count : not r ≡ true → BlockWritten s offset at inForce last old to (Refused 8 offset) old
-      other-count z = record {
+      pub other-count : {x : Refusal} → x ≡ refusedAt fieldCount offset → not r ≡ true → BlockWritten s offset at inForce last old to (Refused x) old
+      other-count {x} a z = record {
         writes = λ p q k l b i j u d c v.
-            subst (λ (t : Reply (List ℕ)). WrittenIs old to t c (Refused 8 offset) old)
-            (sym (uneven-text offset q b (counts p q k l (b .values) (values-length (p .fields) s j v) ∙ not-true r z))) (refl, refl);
+            subst (λ (t : Reply (List ℕ)). WrittenIs old to t c (Refused x) old)
+            (sym (uneven-text offset q b (counts p q k l (b .values) (values-length (p .fields) s j v) ∙ not-true r z))) (ap faultIs a);
         size = refl;
       }
         where

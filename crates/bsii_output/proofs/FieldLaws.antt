@@ -1,4 +1,4 @@
--- A block's fields one by one: what a turn of the loop keeps.
+-- A block's fields one by one: what a turn says of all that are left.
 use mathlib.Core.Path.{_≡_, refl, sym, ap, ap₂, _∙_, subst}
 use Prim.Native.Nat.{ℕ, _+_, _-_, _≤_, _<_}
 use native.Mathlib.Omega.{arith}
@@ -16,6 +16,8 @@ use Rattle.bsii_format.specs.Text.{valueText}
 use Rattle.bsii_format.specs.BlockText.{joined, orRefuse, fieldsText}
 use Rattle.bsii_format.proofs.Readers.{map-ok}
 use Rattle.bsii_format.proofs.Parsers.{value-exact}
+use Rattle.bsii_value.specs.Answers.{faultIs, refusedAt}
+use Rattle.bsii_value.specs.declared.answers.Refusal.{Refusal}
 use Rattle.bsii_past.proofs.Blocks.{turn, done as no-values}
 use Rattle.bsii_element.proofs.Standing.{step}
 use Rattle.bsii_definition.specs.Pairs.{definition, Paired, PairIs, both, ends, last-longer, last-shorter, PairOf}
@@ -28,7 +30,9 @@ use Rattle.bsii_lines.specs.declared.fields.Lines.the-variants.{Next as More, N
 use Rattle.bsii_window.specs.Window.{Wrote}
 use Rattle.bsii_window.proofs.Laws.{then, being}
 use Rattle.bsii_window.proofs.Loops.{begin, end}
-use Rattle.bsii_output.specs.Blocks.{WrittenIs, FieldsWritten}
+use Rattle.bsii_output.specs.Blocks.{WrittenIs, FieldsWritten, FieldTurned}
+use Rattle.bsii_output.specs.declared.blocks.FieldPlace.{FieldPlace}
+use Rattle.bsii_output.specs.declared.blocks.FieldTurn.{FieldTurn}
 use Rattle.bsii_output.specs.declared.blocks.Written.{Written}
 use Rattle.bsii_output.specs.declared.blocks.Written.the-variants.{Next, Refused}
 
@@ -43,6 +47,14 @@ pub joined-behind : (x y : List ℕ) (r : Reply (List ℕ)) → joined (gives (x
 unfolding joined
 joined-behind x y (gives t) = ap gives (append-assoc x y t)
 joined-behind x y (refuses f) = refl
+
+-- what is written behind a text is written with it
+pub behind-text : {old : List ℕ} {to p : ℕ} {mid x : List ℕ} → Wrote old to x p mid → (o : Reply (List ℕ)) (n : ℕ) (r : Written) (new : List ℕ) → WrittenIs mid p o n r new → WrittenIs old to (joined (gives x) o) n r new
+unfolding joined
+behind-text w (gives t) n (Next at r) new h = (h .0, then w (h .1))
+behind-text w (gives t) n (Refused g) new h = absurd h
+behind-text w (refuses f) n (Next at r) new h = absurd h
+behind-text w (refuses f) n (Refused g) new h = h
 
 -- ---- the first of the values that are left
 
@@ -75,73 +87,26 @@ first s at type f g gs fs {vs} {e} t h =
           ∙ ap (fieldsText valueText at (g ∷ gs)) (sym (w .both));
     }
 
--- ---- the loop: the fields in front are written, and the others stand from `at` on
-
-pub record Rest (s : List ℕ) (old : List ℕ) (to field lastField at here : ℕ) (out : List ℕ) (whole : Reply (List ℕ)) (n : ℕ) (t : List ℕ) (o : ℕ) (u : List ℕ) (e : ℕ) : Type 0 where
-  pub fields : Fields
-  pub read : fieldsParser field (drop field s) ≡ ok fields n t
-  pub lastFields : Fields
-  pub lastRead : fieldsParser lastField (drop lastField s) ≡ ok lastFields o u
-  pub values : List DataValue
-  pub carried : dataValuesParser (fields .fields) at (drop at s) ≡ ok values e (drop e s)
-  pub even : eqb (length (lastFields .fields)) (length (fields .fields)) ≡ true
-  pub done : List ℕ
-  pub wrote : Wrote old to done here out
-  pub text : joined (gives done) (fieldsText valueText at (lastFields .fields) values) ≡ whole
-
-pub record Going (s : List ℕ) (start fields lastFields : ℕ) (old : List ℕ) (to field lastField at here : ℕ) (out : List ℕ) : Type 0 where
-  pub rest : (l : Fields) (n : ℕ) (t : List ℕ) → fieldsParser fields (drop fields s) ≡ ok l n t → (m : Fields) (o : ℕ) (u : List ℕ) → fieldsParser lastFields (drop lastFields s) ≡ ok m o u
-      → (vs : List DataValue) (e : ℕ) → dataValuesParser (l .fields) start (drop start s) ≡ ok vs e (drop e s) → eqb (length (m .fields)) (length (l .fields)) ≡ true
-      → Rest s old to field lastField at here out (fieldsText valueText start (m .fields) vs) n t o u e
-  pub size : length out ≡ length old
-
-pub go-start : (s : List ℕ) (start fields lastFields : ℕ) (old : List ℕ) (to : ℕ) → to ≤ 0xffff_ffff_ffff_ffff → length old < 0x8000_0000_0000_0000
-    → Going s start fields lastFields old to fields lastFields start to old
-go-start s start fields lastFields old to h r = record {
-  rest = λ l n t e m o u f vs d g k. record {
-    fields = l;
-    read = e;
-    lastFields = m;
-    lastRead = f;
-    values = vs;
-    carried = g;
-    even = k;
-    done = [];
-    wrote = end (begin {x = []} h r) refl;
-    text = joined-none (fieldsText valueText start (m .fields) vs);
-  };
-  size = refl;
-}
+-- ---- a turn
 
 true≢false : {P : Type 0} → true ≡ false → P
 true≢false e = let z : _≡_ {A = ℕ} 0 1 = cc in let f : ⊥ = omega arith in absurd f
 
-module _ (s : List ℕ) (start fields lastFields : ℕ) (old : List ℕ) (to field lastField at here : ℕ) (out : List ℕ) (g : Going s start fields lastFields old to field lastField at here out) where
+module _ (s : List ℕ) (field lastField at here : ℕ) (out : List ℕ) where
   -- both lists are at their end
-  pub go-ends : PairOf s field lastField Ends → FieldsWritten s start fields lastFields old to (Next at here) out
-  unfolding fieldsText joined
-  go-ends p = record {
-    writes = λ l n t e m o u f vs d c k.
-        let x = g .rest l n t e m o u f vs d c k in
-        close (x .done) (x .wrote) (p .is (x .fields) n t (x .read) (x .lastFields) o u (x .lastRead)) (x .carried) (x .text);
-    size = g .size;
-  }
+  pub turn-ends : here ≤ 0xffff_ffff_ffff_ffff → length out < 0x8000_0000_0000_0000 → PairOf s field lastField Ends → FieldsWritten s at field lastField out here (Next at here) out
+  unfolding fieldsText
+  turn-ends a b p = record { writes = λ l n t e m o u f vs d c k. close (p .is l n t e m o u f) c; size = refl }
     where
-      close : {a b : Fields} {n : ℕ} {t : List ℕ} {o : ℕ} {u : List ℕ} {vs : List DataValue} {e : ℕ} {whole : Reply (List ℕ)} (done : List ℕ) → Wrote old to done here out → PairIs s a n t b o u Ends
-          → dataValuesParser (a .fields) at (drop at s) ≡ ok vs e (drop e s) → joined (gives done) (fieldsText valueText at (b .fields) vs) ≡ whole → WrittenIs old to whole e (Next at here) out
-      close {vs = vs} {e = e} done w (ends p q) c x =
+      close : {a b : Fields} {n : ℕ} {t : List ℕ} {o : ℕ} {u : List ℕ} {vs : List DataValue} {e : ℕ} → PairIs s a n t b o u Ends
+          → dataValuesParser (a .fields) at (drop at s) ≡ ok vs e (drop e s) → WrittenIs out here (fieldsText valueText at (b .fields) vs) e (Next at here) out
+      close {vs = vs} {e = e} (ends p q) c =
           let z = no-values (ap (λ (fs : List (Consumed ValuePrototype)). dataValuesParser fs at (drop at s)) (sym p) ∙ c) in
-          subst (λ (r : Reply (List ℕ)). WrittenIs old to r e (Next at here) out)
-          (ap (λ (fs : List (Consumed ValuePrototype)). joined (gives done) (fieldsText valueText at fs vs)) (sym q) ∙ x)
-          (sym (z .1), being (sym (append-nil done)) w)
+          subst (λ (fs : List (Consumed ValuePrototype)). WrittenIs out here (fieldsText valueText at fs vs) e (Next at here) out) (sym q)
+          (sym (z .1), end (begin {x = []} a b) refl)
 
-  pub go-uneven : PairOf s field lastField Uneven → (r : Written) → FieldsWritten s start fields lastFields old to r out
-  go-uneven p r = record {
-    writes = λ l n t e m o u f vs d c k.
-        let x = g .rest l n t e m o u f vs d c k in
-        no (p .is (x .fields) n t (x .read) (x .lastFields) o u (x .lastRead)) (x .even);
-    size = g .size;
-  }
+  pub turn-uneven : PairOf s field lastField Uneven → (r : Written) → FieldsWritten s at field lastField out here r out
+  turn-uneven p r = record { writes = λ l n t e m o u f vs d c k. no (p .is l n t e m o u f) k; size = refl }
     where
       no : {P : Type 0} {a b : Fields} {n : ℕ} {t : List ℕ} {o : ℕ} {u : List ℕ} → PairIs s a n t b o u Uneven → eqb (length (b .fields)) (length (a .fields)) ≡ true → P
       no (last-longer p {fs = fs} q) k = true≢false (sym k ∙ ap₂ (λ (c d : List (Consumed ValuePrototype)). eqb (length c) (length d)) q p ∙ eqb·suc-zero (length fs))
@@ -156,70 +121,65 @@ module _ (s : List ℕ) (start fields lastFields : ℕ) (old : List ℕ) (to fie
         go : PairIs s a n t b o u (Both type lastType name nameEnd next lastNext) → Paired s type (definition lastType name nameEnd) next lastNext a n t b o u
         go (both q) = q
 
-    -- the value that stands first
-    here-first : {whole : Reply (List ℕ)} {n : ℕ} {t : List ℕ} {o : ℕ} {u : List ℕ} {e : ℕ} (x : Rest s old to field lastField at here out whole n t o u e)
-        → let y = paired (x .read) (x .lastRead) in First s at type (y .last) (y .lastBegins .rest .fields) (y .begins .rest .fields) (x .values) e
-    here-first x =
-        let y = paired (x .read) (x .lastRead) in
-        first s at type (y .inForce) (y .last) (y .lastBegins .rest .fields) (y .begins .rest .fields) (y .typed)
-        (ap (λ (fs : List (Consumed ValuePrototype)). dataValuesParser fs at (drop at s)) (sym (y .begins .fields)) ∙ x .carried)
+    module _ {l : Fields} {n : ℕ} {t : List ℕ} (e : fieldsParser field (drop field s) ≡ ok l n t) {m : Fields} {o : ℕ} {u : List ℕ} (f : fieldsParser lastField (drop lastField s) ≡ ok m o u)
+        {vs : List DataValue} {z : ℕ} (c : dataValuesParser (l .fields) at (drop at s) ≡ ok vs z (drop z s)) where
+      pair : Paired s type (definition lastType name nameEnd) next lastNext l n t m o u
+      pair = paired e f
 
-    -- the text of what is left, from that value on
-    here-text : {whole : Reply (List ℕ)} {n : ℕ} {t : List ℕ} {o : ℕ} {u : List ℕ} {e : ℕ} (x : Rest s old to field lastField at here out whole n t o u e)
-        → let y = paired (x .read) (x .lastRead) in let v = here-first x in
-        joined (gives (x .done)) (joined (orRefuse enumValue at (valueText (y .last .value) (v .value .value))) (fieldsText valueText (v .next) (y .lastBegins .rest .fields) (v .values))) ≡ whole
-    here-text x =
-        let y = paired (x .read) (x .lastRead) in
-        ap (joined (gives (x .done))) (here-first x .text ∙ ap (λ (fs : List (Consumed ValuePrototype)). fieldsText valueText at fs (x .values)) (sym (y .lastBegins .fields))) ∙ x .text
+      value : First s at type (pair .last) (pair .lastBegins .rest .fields) (pair .begins .rest .fields) vs z
+      value =
+          first s at type (pair .inForce) (pair .last) (pair .lastBegins .rest .fields) (pair .begins .rest .fields) (pair .typed)
+          (ap (λ (fs : List (Consumed ValuePrototype)). dataValuesParser fs at (drop at s)) (sym (pair .begins .fields)) ∙ c)
 
-    pub go-absent : {new : List ℕ} → FieldWritten s at type (definition lastType name nameEnd) out here NotInList new → FieldsWritten s start fields lastFields old to (Refused 9 at) new
+      -- the text of the values, the first one's in front
+      text-is : joined (orRefuse enumValue at (valueText (pair .last .value) (value .value .value))) (fieldsText valueText (value .next) (pair .lastBegins .rest .fields) (value .values))
+          ≡ fieldsText valueText at (m .fields) vs
+      text-is = value .text ∙ ap (λ (fs : List (Consumed ValuePrototype)). fieldsText valueText at fs vs) (sym (pair .lastBegins .fields))
+
+      -- and the lists behind it have the same number of definitions, if these have
+      even : eqb (length (m .fields)) (length (l .fields)) ≡ true → eqb (length (pair .lastBegins .rest .fields)) (length (pair .begins .rest .fields)) ≡ true
+      even k =
+          sym (eqb·suc-suc (length (pair .lastBegins .rest .fields)) (length (pair .begins .rest .fields)))
+          ∙ sym (ap₂ (λ (a b : List (Consumed ValuePrototype)). eqb (length a) (length b)) (pair .lastBegins .fields) (pair .begins .fields)) ∙ k
+
+    pub turn-absent : {x : Refusal} {new : List ℕ} → x ≡ refusedAt enumValue at → FieldWritten s at type (definition lastType name nameEnd) out here NotInList new
+        → FieldsWritten s at field lastField out here (Refused x) new
     unfolding joined orRefuse
-    go-absent {new} w = record {
+    turn-absent {x} {new} z w = record {
       writes = λ l n t e m o u f vs i c k.
-          let x = g .rest l n t e m o u f vs i c k in
-          let y = paired (x .read) (x .lastRead) in
-          let v = here-first x in
-          stop (x .done) (valueText (y .last .value) (v .value .value)) (fieldsText valueText (v .next) (y .lastBegins .rest .fields) (v .values)) i (v .next)
-          (w .writes (v .value .value) (v .next) (v .reads) (y .last .value) (y .describes)) (here-text x);
-      size = w .size ∙ g .size;
+          let y = pair e f c in
+          let v = value e f c in
+          stop (valueText (y .last .value) (v .value .value)) (fieldsText valueText (v .next) (y .lastBegins .rest .fields) (v .values)) i (v .next)
+          (w .writes (v .value .value) (v .next) (v .reads) (y .last .value) (y .describes)) (text-is e f c);
+      size = w .size;
     }
       where
-        stop : {whole : Reply (List ℕ)} (done : List ℕ) (v : Option (List ℕ)) (more : Reply (List ℕ)) (e m : ℕ) → LinesAre out here v m NotInList new
-            → joined (gives done) (joined (orRefuse enumValue at v) more) ≡ whole → WrittenIs old to whole e (Refused 9 at) new
-        stop done none more e m a h = subst (λ (r : Reply (List ℕ)). WrittenIs old to r e (Refused 9 at) new) h (refl, refl)
-        stop done (some v) more e m a h = absurd a
+        stop : {whole : Reply (List ℕ)} (v : Option (List ℕ)) (more : Reply (List ℕ)) (e m : ℕ) → LinesAre out here v m NotInList new → joined (orRefuse enumValue at v) more ≡ whole
+            → WrittenIs out here whole e (Refused x) new
+        stop none more e m a h = subst (λ (r : Reply (List ℕ)). WrittenIs out here r e (Refused x) new) h (ap faultIs z)
+        stop (some v) more e m a h = absurd a
 
-    pub go-on : {behind r : ℕ} {new : List ℕ} → FieldWritten s at type (definition lastType name nameEnd) out here (More behind r) new → Going s start fields lastFields old to next lastNext behind r new
+    pub turn-on : {behind to : ℕ} {new : List ℕ} → FieldWritten s at type (definition lastType name nameEnd) out here (More behind to) new
+        → (r : Written) (last : List ℕ) → FieldsWritten s behind next lastNext new to r last → FieldsWritten s at field lastField out here r last
     unfolding orRefuse
-    go-on {behind} {r} {new} w = record {
-      rest = λ l n t e m o u f vs i c k.
-          let x = g .rest l n t e m o u f vs i c k in
-          let y = paired (x .read) (x .lastRead) in
-          let v = here-first x in
-          on (x .done) (x .wrote) (y .begins .rest) (y .begins .more) (y .lastBegins .rest) (y .lastBegins .more) (v .next) (v .values) (v .more)
-          (sym (eqb·suc-suc (length (y .lastBegins .rest .fields)) (length (y .begins .rest .fields)))
-          ∙ sym (ap₂ (λ (a b : List (Consumed ValuePrototype)). eqb (length a) (length b)) (y .lastBegins .fields) (y .begins .fields)) ∙ x .even)
-          (valueText (y .last .value) (v .value .value)) (w .writes (v .value .value) (v .next) (v .reads) (y .last .value) (y .describes)) (here-text x);
-      size = w .size ∙ g .size;
+    turn-on {behind} {to} {new} w r last h = record {
+      writes = λ l n t e m o u f vs i c k.
+          let y = pair e f c in
+          let v = value e f c in
+          on (y .begins .rest) n t (y .begins .more) (y .lastBegins .rest) o u (y .lastBegins .more) (v .next) (v .values) i (v .more) (even e f c k)
+          (valueText (y .last .value) (v .value .value)) (w .writes (v .value .value) (v .next) (v .reads) (y .last .value) (y .describes)) (text-is e f c);
+      size = h .size ∙ w .size;
     }
       where
-        on : {whole : Reply (List ℕ)} {n : ℕ} {t : List ℕ} {o : ℕ} {u : List ℕ} {e : ℕ} (done : List ℕ) → Wrote old to done here out → (a : Fields) → fieldsParser next (drop next s) ≡ ok a n t
-            → (b : Fields) → fieldsParser lastNext (drop lastNext s) ≡ ok b o u → (m : ℕ) (vs : List DataValue) → dataValuesParser (a .fields) m (drop m s) ≡ ok vs e (drop e s)
-            → eqb (length (b .fields)) (length (a .fields)) ≡ true → (v : Option (List ℕ)) → LinesAre out here v m (More behind r) new
-            → joined (gives done) (joined (orRefuse enumValue at v) (fieldsText valueText m (b .fields) vs)) ≡ whole → Rest s old to next lastNext behind r new whole n t o u e
-        on done x a f b g m vs c k none q h = absurd q
-        on {whole = whole} {e = e} done x a f b g m vs c k (some v) q h = record {
-          fields = a;
-          read = f;
-          lastFields = b;
-          lastRead = g;
-          values = vs;
-          carried = ap (λ (j : ℕ). dataValuesParser (a .fields) j (drop j s)) (q .0) ∙ c;
-          even = k;
-          done = done ++ v;
-          wrote = then x (q .1);
-          text = joined-behind done v (fieldsText valueText behind (b .fields) vs) ∙ ap (λ (j : ℕ). joined (gives done) (joined (gives v) (fieldsText valueText j (b .fields) vs))) (q .0) ∙ h;
-        }
+        on : {whole : Reply (List ℕ)} (a : Fields) (n : ℕ) (t : List ℕ) → fieldsParser next (drop next s) ≡ ok a n t → (b : Fields) (o : ℕ) (u : List ℕ) → fieldsParser lastNext (drop lastNext s) ≡ ok b o u
+            → (m : ℕ) (vs : List DataValue) (e : ℕ) → dataValuesParser (a .fields) m (drop m s) ≡ ok vs e (drop e s)
+            → eqb (length (b .fields)) (length (a .fields)) ≡ true → (v : Option (List ℕ)) → LinesAre out here v m (More behind to) new
+            → joined (orRefuse enumValue at v) (fieldsText valueText m (b .fields) vs) ≡ whole → WrittenIs out here whole e r last
+        on a n t f b o u g m vs e c k none q x = absurd q
+        on a n t f b o u g m vs e c k (some v) q x =
+            subst (λ (y : Reply (List ℕ)). WrittenIs out here y e r last) (ap (λ (j : ℕ). joined (gives v) (fieldsText valueText j (b .fields) vs)) (q .0) ∙ x)
+            (behind-text (q .1) (fieldsText valueText behind (b .fields) vs) e r last
+            (h .writes a n t f b o u g vs e (ap (λ (j : ℕ). dataValuesParser (a .fields) j (drop j s)) (q .0) ∙ c) k))
 
 -- contracts at the case that was answered
 pub pair-by : {s : List ℕ} {a b : ℕ} {x r : Pair} → x ≡ r → PairOf s a b x → PairOf s a b r
@@ -227,3 +187,6 @@ pair-by {s} {a} {b} e h = subst (PairOf s a b) e h
 
 pub field-by : {s : List ℕ} {at type : ℕ} {d : Definition} {old : List ℕ} {to : ℕ} {x r : Lines} {new : List ℕ} → x ≡ r → FieldWritten s at type d old to x new → FieldWritten s at type d old to r new
 field-by {s} {at} {type} {d} {old} {to} {x} {r} {new} e h = subst (λ (y : Lines). FieldWritten s at type d old to y new) e h
+
+pub turned-by : (s : List ℕ) (p : FieldPlace) (old new : List ℕ) {x r : FieldTurn} → x ≡ r → FieldTurned s p old x new → FieldTurned s p old r new
+turned-by s p old new e h = subst (λ (y : FieldTurn). FieldTurned s p old y new) e h

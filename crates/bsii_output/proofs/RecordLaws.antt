@@ -54,13 +54,13 @@ some-is e = cc
 -- the same answer in the record's terms
 abbrev pub stepOf : Written → Step
 stepOf (Next at r) = Go at r
-stepOf (Not k o) = Refused k o
+stepOf (Not f) = Refused f
 
 step-is : (old : List ℕ) (to : ℕ) (x : Reply (List ℕ)) (n : ℕ) (w : Written) (new : List ℕ) → WrittenIs old to x n w new → StepIs old to x n (stepOf w) new
 step-is old to (gives t) n (Next at r) new h = h
-step-is old to (gives t) n (Not k o) new h = absurd h
+step-is old to (gives t) n (Not g) new h = absurd h
 step-is old to (refuses f) n (Next at r) new h = absurd h
-step-is old to (refuses f) n (Not k o) new h = h
+step-is old to (refuses f) n (Not g) new h = h
 
 module _ (s : List ℕ) (offset : ℕ) (t : List ℕ) (rows prototypeId at : ℕ) (old : List ℕ) (to : ℕ) {f : Found} (e : foundRow f ≡ lookup t rows prototypeId) where
   pub block-unknown : f ≡ NotFound → BlockStep s offset t rows prototypeId at old to End old
@@ -121,10 +121,10 @@ finish : (s : List ℕ) (at rows : ℕ) (old : List ℕ) (to rooms : ℕ) (last 
 unfolding joined
 finish s at rows old to rooms last env rest n b l (Go m r) new t (gives x) a e w p q =
     subst (λ (i : ℕ). Stepped s rooms rows last at env rest old to (Go i r) t new) (sym (a .0)) (went (block b) l x w p q e (a .1))
-finish s at rows old to rooms last env rest n b l (Refused k o) new t (gives x) a e w p q = absurd a
+finish s at rows old to rooms last env rest n b l (Refused g) new t (gives x) a e w p q = absurd a
 finish s at rows old to rooms last env rest n b l End new t (gives x) a e w p q = absurd a
 finish s at rows old to rooms last env rest n b l (Go m r) new t (refuses f) a e w p q = absurd a
-finish s at rows old to rooms last env rest n b l (Refused k o) new t (refuses f) a e w p q = refused (e ∙ ap₂ (λ (k o : ℕ). refuses (record { number = k; offset = o })) (sym (a .0)) (sym (a .1)))
+finish s at rows old to rooms last env rest n b l (Refused g) new t (refuses f) a e w p q = refused (e ∙ ap refuses (sym a))
 finish s at rows old to rooms last env rest n b l End new t (refuses f) a e w p q = absurd a
 
 module _ (s : List ℕ) (at : ℕ) (t : List ℕ) (rows : ℕ) (old : List ℕ) (to : ℕ) (inside : at ≤ length s) {k : Kind} (e : KindAt s at k) where

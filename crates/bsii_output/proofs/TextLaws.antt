@@ -1,5 +1,5 @@
 -- The text call: measured, written, answered.
-use mathlib.Core.Path.{_≡_, refl, sym, ap, _∙_, subst}
+use mathlib.Core.Path.{_≡_, refl, sym, ap, ap₂, _∙_, subst}
 use Prim.Native.Nat.{ℕ, _+_, _-_, _/_, _≤_, _<_}
 use native.Mathlib.Nat.{zero-add}
 use native.Mathlib.Omega.{arith}
@@ -7,14 +7,17 @@ use mathlib.Core.List.{List, [], _∷_, _++_}
 use lib.ListN.{length, getD, drop}
 use lib.Seq.{sets-eq}
 use borrow.Author.Tests.{le-leb, lt-leb}
-use Rattle.bsii_format.specs.Replies.{Reply, gives, refuses}
+use Rattle.bsii_format.specs.Replies.{Reply, gives, refuses, outputShort}
 use Rattle.bsii_format.specs.Prototypes.{Prototype}
 use Rattle.bsii_format.specs.File.{Record, prototypesOf}
 use Rattle.bsii_format.specs.Text.{valueText}
 use Rattle.bsii_format.specs.BlockText.{joined, fileOpening, closing, recordsText, fileText}
 use Rattle.bsii_format.specs.Calls.{textAnswer, textOf, textCall}
+use Rattle.bsii_value.specs.Answers.{faultIs, refusedAt}
+use Rattle.bsii_value.specs.declared.answers.Refusal.{Refusal}
 use Rattle.bsii_table.specs.Relation.{Entered}
 use Rattle.bsii_parse.specs.Walks.{Stands, ReadFile}
+use Rattle.bsii_parse.specs.declared.walk.Totals.{Totals}
 use Rattle.bsii_parse.specs.declared.walk.Walked.{Walked}
 use Rattle.bsii_parse.specs.declared.walk.Walked.the-variants.{Done, Fault as Stopped}
 use Rattle.bsii_again.specs.Seek.{Standing, Readable}
@@ -45,7 +48,7 @@ module _ {s t : List ℕ} {rows : ℕ} {old : List ℕ} {e : ℕ} {t′ new : Li
 
 -- ---- the text that was measured
 
-pub too-long : (old x : List ℕ) → length old < length x → textIs (Refused 11 0 (length x)) old ≡ textAnswer old (gives x)
+pub too-long : (old x : List ℕ) → length old < length x → textIs (Refused (refusedAt outputShort 0) (length x)) old ≡ textAnswer old (gives x)
 unfolding textAnswer
 too-long old x h = rw (lt-leb (length x) (length old) h) refl
 
@@ -64,11 +67,11 @@ module _ (s t : List ℕ) (rows : ℕ) (old : List ℕ) (end : ℕ) where
   pub measured-early : end < 0x8000_0000_0000_0000 → (r : TextReply) → TextWritten s t rows old end r old
   measured-early h r = record { answers = λ rooms last rest w x e f. absurd (omega arith) }
 
-  pub measured-long : length old < end - 0x8000_0000_0000_0000 → TextWritten s t rows old end (Refused 11 0 (end - 0x8000_0000_0000_0000)) old
-  measured-long h = record {
+  pub measured-long : {f : Refusal} → f ≡ refusedAt outputShort 0 → length old < end - 0x8000_0000_0000_0000 → TextWritten s t rows old end (Refused f (end - 0x8000_0000_0000_0000)) old
+  measured-long a h = record {
     answers = λ rooms last rest w x e f.
         let z : end - 0x8000_0000_0000_0000 ≡ length x = omega arith in
-        ap (λ (n : ℕ). textIs (Refused 11 0 n) old) z ∙ too-long old x (omega arith);
+        ap₂ (λ (f : Refusal) (n : ℕ). textIs (Refused f n) old) a z ∙ too-long old x (omega arith);
   }
 
   pub measured-fits : 0x8000_0000_0000_0000 ≤ end → end - 0x8000_0000_0000_0000 ≤ length old → {r : Texts} {t′ new : List ℕ} → BsiiWritten s 8 t rows old r t′ new
@@ -82,7 +85,7 @@ module _ (s t : List ℕ) (rows : ℕ) (old : List ℕ) (end : ℕ) where
     where
       go : (r : Texts) (x : List ℕ) → TextsAre old 0x8000_0000_0000_0000 (gives x) r new → length x ≤ length old → new ≡ x ++ drop (length x) old
       go (To n) x w l = whole old x l w
-      go (Not k o) x w l = absurd w
+      go (Not f) x w l = absurd w
 
 -- ---- the text of a file that was read
 
@@ -102,13 +105,13 @@ module _ (s t : List ℕ) (rows : ℕ) (old : List ℕ) {m : Texts} {t′ lent :
   pub measured-again : {e : ℕ} → m ≡ To e → Readable s 8 t rows → Readable s 8 t′ rows
   measured-again z w = read-again (walk-by z h) w
 
-  pub text-refused : {k o : ℕ} → m ≡ Not k o → TextRead s t rows old (Refused k o 0) (lent ++ old)
+  pub text-refused : {f : Refusal} → m ≡ Not f → TextRead s t rows old (Refused f 0) (lent ++ old)
   unfolding textAnswer
-  text-refused {k} {o} z = record { answers = λ rooms last rest w b. go (framedText last rest) (walk-by z h .writes rooms last rest w .0) }
+  text-refused {f} z = record { answers = λ rooms last rest w b. go (framedText last rest) (walk-by z h .writes rooms last rest w .0) }
     where
-      go : (x : Reply (List ℕ)) → TextsAre [] 0x8000_0000_0000_0000 x (Not k o) lent → textIs (Refused k o 0) (lent ++ old) ≡ textAnswer old x
+      go : (x : Reply (List ℕ)) → TextsAre [] 0x8000_0000_0000_0000 x (Not f) lent → textIs (Refused f 0) (lent ++ old) ≡ textAnswer old x
       go (gives x) a = absurd a
-      go (refuses f) a = rw (a .0, a .1, untouched) refl
+      go (refuses x) a = rw (a, untouched) refl
 
   pub text-measured : {e : ℕ} → m ≡ To e → {r : TextReply} {new : List ℕ} → TextWritten s t′ rows (lent ++ old) e r new → TextRead s t rows old r new
   text-measured {e} z {r} {new} v = record { answers = λ rooms last rest w b. go rooms last rest w b (framedText last rest) refl (walk-by z h .writes rooms last rest w .0) }
@@ -123,11 +126,11 @@ module _ (s t : List ℕ) (rows : ℕ) (old : List ℕ) {m : Texts} {t′ lent :
 -- ---- the call
 
 module _ (s t out : List ℕ) {r : Walked} {t′ : List ℕ} (h : ReadFile s t r t′) where
-  pub call-refused : {k o : ℕ} → r ≡ Stopped k o → textIs (Refused k o 0) out ≡ textCall (length t) s out
+  pub call-refused : {f : Refusal} → r ≡ Stopped f → textIs (Refused f 0) out ≡ textCall (length t) s out
   unfolding textCall textOf textAnswer
-  call-refused {k} {o} z = ap (textAnswer out) (sym (unread-refuses (λ f at. fileText valueText f) h z))
+  call-refused z = ap (textAnswer out) (sym (unread-refuses (λ f at. fileText valueText f) h z))
 
-  module _ {rows blocks n : ℕ} (z : r ≡ Done rows blocks n) where
+  module _ {n : Totals} (z : r ≡ Done n) where
     -- the file's text, from the records that the walk starts from
     file-is : let w = was-read h z in textOf (length t) s ≡ framedText (prototypesOf (w .file .records)) (w .file .records)
     unfolding textOf fileText
@@ -136,7 +139,7 @@ module _ (s t out : List ℕ) {r : Walked} {t′ : List ℕ} (h : ReadFile s t r
         read-answers (λ f at. fileText valueText f) w
         ∙ ap (λ (k : ℕ). joined (joined (gives fileOpening) (recordsText valueText (prototypesOf (w .file .records)) k (w .file .records))) (gives closing)) (file-parts (length t) s (w .parsed) .header)
 
-    pub call-answers : ((i : ℕ) → getD s i 0 < 256) → {reply : TextReply} {new : List ℕ} → TextRead s t′ rows out reply new → textIs reply new ≡ textCall (length t) s out
+    pub call-answers : ((i : ℕ) → getD s i 0 < 256) → {reply : TextReply} {new : List ℕ} → TextRead s t′ (n .rows) out reply new → textIs reply new ≡ textCall (length t) s out
     unfolding textCall
     call-answers bytes v =
         let w = was-read h z in

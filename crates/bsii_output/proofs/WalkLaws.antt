@@ -9,6 +9,8 @@ use Rattle.bsii_format.specs.Prototypes.{Prototype}
 use Rattle.bsii_format.specs.File.{Record, define}
 use Rattle.bsii_format.specs.Text.{valueText}
 use Rattle.bsii_format.specs.BlockText.{joined, fileOpening, closing, recordsText}
+use Rattle.bsii_value.specs.Answers.{faultIs}
+use Rattle.bsii_value.specs.declared.answers.Refusal.{Refusal}
 use Rattle.bsii_table.specs.Rows.{Rows}
 use Rattle.bsii_table.proofs.Relation.{entered-again}
 use Rattle.bsii_parse.specs.Walks.{Stands}
@@ -84,22 +86,21 @@ module _ (s : List ℕ) (start : ℕ) (t₀ : List ℕ) (rows : ℕ) (old : List
             entered-again (Stands s) f,
           )
 
-      pub go-refused : {k o : ℕ} → r ≡ Refused k o → RecordsWritten s start t₀ rows old to (Not k o) t′ new
+      pub go-refused : {f : Refusal} → r ≡ Refused f → RecordsWritten s start t₀ rows old to (Not f) t′ new
       unfolding joined
-      go-refused {k} {o} z = record {
+      go-refused {f} z = record {
         writes = λ rooms last rest w. let x = g .walk rooms last rest w in (finish rooms last (x .done) (stepped rooms last rest w) z (x .text), tt);
         size = h .size ∙ g .size;
         tableSize = h .tableSize ∙ g .tableSize;
       }
         where
           finish : (rooms : ℕ) (last : List Prototype) {env : List Prototype} {rest : List Record} {r : Step} {whole : Reply (List ℕ)} (done : List ℕ)
-              → Stepped s rooms rows last at env rest out here r t′ new → r ≡ Refused k o → whole ≡ joined (gives done) (recordsText valueText last at rest) → TextsAre old to whole (Not k o) new
+              → Stepped s rooms rows last at env rest out here r t′ new → r ≡ Refused f → whole ≡ joined (gives done) (recordsText valueText last at rest) → TextsAre old to whole (Not f) new
           finish rooms last done (went i l x a b c e f) z h = let y : _≡_ {A = ℕ} 0 1 = cc in let f : ⊥ = omega arith in absurd f
           finish rooms last done (ended e v f) z h = let y : _≡_ {A = ℕ} 0 1 = cc in let f : ⊥ = omega arith in absurd f
-          finish rooms last done (refused {k = i} {o = p} e) z h =
-              let a : i ≡ k = cc in
-              let b : p ≡ o = cc in
-              subst (λ (x : Reply (List ℕ)). TextsAre old to x (Not k o) new) (sym (h ∙ ap (joined (gives done)) e)) (sym a, sym b)
+          finish rooms last done (refused {f = g} e) z h =
+              let a : g ≡ f = cc in
+              subst (λ (x : Reply (List ℕ)). TextsAre old to x (Not f) new) (sym (h ∙ ap (joined (gives done)) e)) (ap faultIs (sym a))
 
       record On (rooms : ℕ) (last : List Prototype) (rest : List Record) (n m : ℕ) : Type 0 where
         on : at < n
@@ -148,10 +149,10 @@ unfolding joined
 framed w (gives t) e out h v = then (then w h) v
 framed w (refuses f) e out h v = absurd h
 
-unframed : (old : List ℕ) (to p : ℕ) (mid x y : List ℕ) (o : Reply (List ℕ)) (k i : ℕ) (new : List ℕ) → TextsAre mid p o (Not k i) new → TextsAre old to (joined (joined (gives x) o) (gives y)) (Not k i) new
+unframed : (old : List ℕ) (to p : ℕ) (mid x y : List ℕ) (o : Reply (List ℕ)) (g : Refusal) (new : List ℕ) → TextsAre mid p o (Not g) new → TextsAre old to (joined (joined (gives x) o) (gives y)) (Not g) new
 unfolding joined
-unframed old to p mid x y (gives t) k i new h = absurd h
-unframed old to p mid x y (refuses f) k i new h = h
+unframed old to p mid x y (gives t) g new h = absurd h
+unframed old to p mid x y (refuses f) g new h = h
 
 module _ (s : List ℕ) (start : ℕ) (t : List ℕ) (rows : ℕ) {old : List ℕ} {p : ℕ} {mid : List ℕ} (w : Wrote old 0x8000_0000_0000_0000 fileOpening p mid) where
   pub file-written : {e : ℕ} {t′ out : List ℕ} → RecordsWritten s start t rows mid p (To e) t′ out → {r : ℕ} {new : List ℕ} → Wrote out e closing r new → BsiiWritten s start t rows old (To r) t′ new
@@ -161,9 +162,9 @@ module _ (s : List ℕ) (start : ℕ) (t : List ℕ) (rows : ℕ) {old : List �
     tableSize = h .tableSize;
   }
 
-  pub file-refused : {k o : ℕ} {t′ new : List ℕ} → RecordsWritten s start t rows mid p (Not k o) t′ new → BsiiWritten s start t rows old (Not k o) t′ new
-  file-refused {k} {o} {t′} {new} h = record {
-    writes = λ rooms last rest x. (unframed old 0x8000_0000_0000_0000 p mid fileOpening closing (recordsText valueText last start rest) k o new (h .writes rooms last rest x .0), tt);
+  pub file-refused : {f : Refusal} {t′ new : List ℕ} → RecordsWritten s start t rows mid p (Not f) t′ new → BsiiWritten s start t rows old (Not f) t′ new
+  file-refused {f} {t′} {new} h = record {
+    writes = λ rooms last rest x. (unframed old 0x8000_0000_0000_0000 p mid fileOpening closing (recordsText valueText last start rest) f new (h .writes rooms last rest x .0), tt);
     size = h .size ∙ same w;
     tableSize = h .tableSize;
   }

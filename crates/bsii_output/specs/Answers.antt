@@ -3,12 +3,13 @@ use mathlib.Core.Path.{_≡_}
 use Prim.Native.Nat.{ℕ, _+_, _<_}
 use mathlib.Core.List.{List, []}
 use lib.ListN.{length}
-use Rattle.bsii_format.specs.Replies.{Reply, gives, refusal}
+use Rattle.bsii_format.specs.Replies.{Reply, gives, refuses}
 use Rattle.bsii_format.specs.Prototypes.{Prototype}
 use Rattle.bsii_format.specs.File.{Record}
 use Rattle.bsii_format.specs.Text.{valueText}
 use Rattle.bsii_format.specs.BlockText.{joined, fileOpening, closing, recordsText}
 use Rattle.bsii_format.specs.Calls.{TextAnswer, textAnswer}
+use Rattle.bsii_value.specs.Answers.{faultIs}
 use Rattle.bsii_again.specs.Seek.{Standing}
 use Rattle.bsii_output.specs.declared.text.TextReply.{TextReply}
 use Rattle.bsii_output.specs.declared.text.TextReply.the-variants.{Text, Refused}
@@ -16,7 +17,7 @@ use Rattle.bsii_output.specs.declared.text.TextReply.the-variants.{Text,
 -- with the output after the call
 abbrev pub textIs : TextReply → List ℕ → TextAnswer
 textIs (Text n) output = record { reply = gives n; needed = 0; output = output }
-textIs (Refused number offset needed) output = record { reply = refusal number offset; needed = needed; output = output }
+textIs (Refused f needed) output = record { reply = refuses (faultIs f); needed = needed; output = output }
 
 -- the text of records that start at the offset 8
 abbrev pub framedText : List Prototype → List Record → Reply (List ℕ)

@@ -1,6 +1,6 @@
 -- What the writers of blocks answer for blocks that were accepted.
 use mathlib.Core.Path.{_≡_}
-use Prim.Native.Nat.{ℕ, _+_, _-_}
+use Prim.Native.Nat.{ℕ, _+_, _-_, _≤_, _<_}
 use mathlib.Core.Bool.{Bool, true}
 use mathlib.Core.Option.{some}
 use mathlib.Core.List.{List}
@@ -13,16 +13,20 @@ use Rattle.bsii_format.specs.Prototypes.{Prototype, Fields, fieldsParser}
 use Rattle.bsii_format.specs.Blocks.{DataValue, DataBlock, dataValuesParser}
 use Rattle.bsii_format.specs.Text.{valueText}
 use Rattle.bsii_format.specs.BlockText.{joined, blockOpening, closing, fieldsText, blockText}
+use Rattle.bsii_value.specs.Answers.{faultIs}
 use Rattle.bsii_parse.specs.Walks.{Stands}
 use Rattle.bsii_window.specs.Window.{Wrote}
 use Rattle.bsii_output.specs.declared.blocks.Written.{Written}
 use Rattle.bsii_output.specs.declared.blocks.Written.the-variants.{Next, Refused}
+use Rattle.bsii_output.specs.declared.blocks.FieldPlace.{FieldPlace}
+use Rattle.bsii_output.specs.declared.blocks.FieldTurn.{FieldTurn}
+use Rattle.bsii_output.specs.declared.blocks.FieldTurn.the-variants.{Go, End, Refused as Stop}
 
 -- a text, with the offset n behind what it is of; or the refusal
 abbrev pub WrittenIs : List ℕ → ℕ → Reply (List ℕ) → ℕ → Written → List ℕ → Type 0
 WrittenIs old to (gives t) n (Next at r) new = (at ≡ n) × Wrote old to t r new
-WrittenIs old to (refuses f) n (Refused k o) new = (k ≡ f .number) × (o ≡ f .offset)
-WrittenIs old to (gives t) n (Refused k o) new = ⊥
+WrittenIs old to (refuses f) n (Refused g) new = faultIs g ≡ f
+WrittenIs old to (gives t) n (Refused g) new = ⊥
 WrittenIs old to (refuses f) n (Next at r) new = ⊥
 
 -- The fields vs under the definitions l in force, read up to e, with the names of the last definitions m: as many as there are values, or 8
@@ -32,6 +36,17 @@ pub record FieldsWritten (s : List ℕ) (start fields lastFields : ℕ) (old : L
       → (vs : List DataValue) (e : ℕ) → dataValuesParser (l .fields) start (drop start s) ≡ ok vs e (drop e s) → eqb (length (m .fields)) (length (l .fields)) ≡ true
       → WrittenIs old to (fieldsText valueText start (m .fields) vs) e r new
   pub size : length new ≡ length old
+
+-- the same from a place on
+abbrev pub FieldsFrom : List ℕ → FieldPlace → List ℕ → Written → List ℕ → Type 0
+FieldsFrom s p old r new = FieldsWritten s (p .at) (p .field) (p .«last_field») old (p .to) r new
+
+-- A turn: no field is left; or one is refused, and with it all; or one is written, and what is written of the fields behind it is written of all
+abbrev pub FieldTurned : List ℕ → FieldPlace → List ℕ → FieldTurn → List ℕ → Type 0
+FieldTurned s p old End new = FieldsFrom s p old (Next (p .at) (p .to)) new
+FieldTurned s p old (Stop f) new = FieldsFrom s p old (Refused f) new
+FieldTurned s p old (Go q) new =
+    (p .field < q .field) × (q .field ≤ length s) × (length new ≡ length old) × ((r : Written) (last : List ℕ) → FieldsFrom s q new r last → FieldsFrom s p old r last)
 
 pub record OpeningWritten (name raw old : List ℕ) (to r : ℕ) (new : List ℕ) : Type 0 where
   pub writes : (i : Id) → WellFormed idParser i raw → Wrote old to (blockOpening name i) r new

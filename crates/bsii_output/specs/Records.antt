@@ -12,6 +12,8 @@ use Rattle.bsii_format.specs.Blocks.{DataBlock, getPrototype, dataValuesParser}
 use Rattle.bsii_format.specs.File.{Record, define}
 use Rattle.bsii_format.specs.Text.{valueText}
 use Rattle.bsii_format.specs.BlockText.{joined, fileOpening, closing, blockText, recordsText}
+use Rattle.bsii_value.specs.Answers.{faultIs}
+use Rattle.bsii_value.specs.declared.answers.Refusal.{Refusal}
 use Rattle.bsii_table.specs.Relation.{Entered}
 use Rattle.bsii_parse.specs.Walks.{Stands}
 use Rattle.bsii_again.specs.Seek.{Standing}
@@ -26,8 +28,8 @@ use Rattle.bsii_output.specs.declared.records.Texts.the-variants.{To, Re
 -- a block's text, with the offset n behind it; or the refusal
 abbrev pub StepIs : List ℕ → ℕ → Reply (List ℕ) → ℕ → Step → List ℕ → Type 0
 StepIs old to (gives t) n (Go at r) new = (at ≡ n) × Wrote old to t r new
-StepIs old to (refuses f) n (Refused k o) new = (k ≡ f .number) × (o ≡ f .offset)
-StepIs old to (gives t) n (Refused k o) new = ⊥
+StepIs old to (refuses f) n (Refused g) new = faultIs g ≡ f
+StepIs old to (gives t) n (Refused g) new = ⊥
 StepIs old to (gives t) n End new = ⊥
 StepIs old to (refuses f) n (Go at r) new = ⊥
 StepIs old to (refuses f) n End new = ⊥
@@ -49,7 +51,7 @@ pub data Stepped (s : List ℕ) (rooms rows : ℕ) (last : List Prototype) (at :
   went : (i : Record) (l : List Record) {n r : ℕ} {t new : List ℕ} (x : List ℕ) → Standing s rooms rows last t n (define i env) l → at < n → n ≤ length s
       → recordsText valueText last at rest ≡ joined (gives x) (recordsText valueText last n l) → Wrote old to x r new → Stepped s rooms rows last at env rest old to (Go n r) t new
   ended : {t new : List ℕ} → rest ≡ [] → new ≡ old → Entered (Stands s) t rows env last → Stepped s rooms rows last at env rest old to End t new
-  refused : {k o : ℕ} {t new : List ℕ} → recordsText valueText last at rest ≡ refuses (record { number = k; offset = o }) → Stepped s rooms rows last at env rest old to (Refused k o) t new
+  refused : {f : Refusal} {t new : List ℕ} → recordsText valueText last at rest ≡ refuses (faultIs f) → Stepped s rooms rows last at env rest old to (Refused f) t new
 
 pub record RecordWritten (s : List ℕ) (at : ℕ) (t : List ℕ) (rows : ℕ) (old : List ℕ) (to : ℕ) (r : Step) (t′ new : List ℕ) : Type 0 where
   pub steps : (rooms : ℕ) (last env : List Prototype) (rest : List Record) → Standing s rooms rows last t at env rest → Stepped s rooms rows last at env rest old to r t′ new
@@ -60,14 +62,14 @@ pub record RecordWritten (s : List ℕ) (at : ℕ) (t : List ℕ) (rows : ℕ) (
 
 abbrev pub TextsAre : List ℕ → ℕ → Reply (List ℕ) → Texts → List ℕ → Type 0
 TextsAre old to (gives t) (To r) new = Wrote old to t r new
-TextsAre old to (refuses f) (Not k o) new = (k ≡ f .number) × (o ≡ f .offset)
-TextsAre old to (gives t) (Not k o) new = ⊥
+TextsAre old to (refuses f) (Not g) new = faultIs g ≡ f
+TextsAre old to (gives t) (Not g) new = ⊥
 TextsAre old to (refuses f) (To r) new = ⊥
 
 -- a text that is written leaves the table fit for one more walk
 abbrev pub Serves : List ℕ → ℕ → List Prototype → Texts → List ℕ → Type 0
 Serves s rows last (To r) t = Entered (Stands s) t rows [] last
-Serves s rows last (Not k o) t = Unit {0}
+Serves s rows last (Not f) t = Unit {0}
 
 pub record RecordsWritten (s : List ℕ) (start : ℕ) (t : List ℕ) (rows : ℕ) (old : List ℕ) (to : ℕ) (r : Texts) (t′ new : List ℕ) : Type 0 where
   pub writes : (rooms : ℕ) (last : List Prototype) (rest : List Record) → Standing s rooms rows last t start [] rest

@@ -7,18 +7,76 @@ use bsii_lines::fields::Lines;
 use bsii_lines::fields::write_field;
 use bsii_past::element_past;
 use bsii_prototype::past::fields_at;
+use bsii_value::answers::ENUM_VALUE;
+use bsii_value::answers::FIELD_COUNT;
 use bsii_value::answers::Parsed;
+use bsii_value::answers::Refusal;
+use bsii_value::answers::refused;
 use bsii_value::types::Kind;
 use bsii_window::window::put_all;
 use bsii_write::ids::write_id;
 ghost use Prim.Native.Nat.{_+_, _≤_};
 ghost use lib.ListN.{length};
-ghost use Rattle.bsii_output.specs.Blocks.{FieldsWritten, OpeningWritten, BodyWritten, BlockWritten, SameFields};
+ghost use Rattle.bsii_output.specs.Blocks.{FieldTurned, FieldsWritten, OpeningWritten, BodyWritten, BlockWritten, SameFields};
 
 // The offset behind what was written, and the position behind its text; or a refusal.
 pub enum Written {
     Next { at: usize, to: usize },
-    Refused { number: u32, offset: usize },
+    Refused(Refusal),
+}
+
+// Where the walk along a block's fields is: at these definitions, in force and last, at this value, with its text behind this position.
+pub struct FieldPlace {
+    pub field: usize,
+    pub last_field: usize,
+    pub at: usize,
+    pub to: usize,
+}
+
+pub enum FieldTurn {
+    Go(FieldPlace),
+    End,
+    Refused(Refusal),
+}
+
+// The next field.
+fn write_next(out: &mut [u8], s: &[u8], p: FieldPlace) -> FieldTurn
+    ensures { λ r. ⌜ FieldTurned (now (s .entry)) p (now (out .entry)) r (now (out .exit)) ⌝ }
+{
+    let at = p.at;
+    let pair = pair_at(s, p.field, p.last_field);
+    match pair {
+        Pair::Ends => return FieldTurn::End,
+        // Lists of two lengths are refused before.
+        Pair::Uneven => return FieldTurn::End,
+        Pair::Both {
+            type_id,
+            last_type,
+            name,
+            name_end,
+            next,
+            last_next,
+        } => {
+            let last = Definition {
+                type_id: last_type,
+                name,
+                name_end,
+            };
+            let lines = write_field(out, p.to, s, at, type_id, last);
+            match lines {
+                Lines::NotInList => return FieldTurn::Refused(refused(ENUM_VALUE, at)),
+                Lines::Next {
+                    at: behind,
+                    to: end,
+                } => return FieldTurn::Go(FieldPlace {
+                    field: next,
+                    last_field: last_next,
+                    at: behind,
+                    to: end,
+                }),
+            }
+        }
+    }
 }
 
 // The fields of the values from `start` on, which stand under the definitions from `fields` on and are named by those from `last_fields` on.
@@ -32,45 +90,19 @@ fn write_fields(
 ) -> Written
     ensures { λ r. ⌜ FieldsWritten (now (s .entry)) start fields «last_fields» (now (out .entry)) to r (now (out .exit)) ⌝ }
 {
-    let mut field = fields;
-    let mut last_field = last_fields;
-    let mut at = start;
-    let mut here = to;
+    let mut p = FieldPlace {
+        field: fields,
+        last_field: last_fields,
+        at: start,
+        to,
+    };
     loop {
-        let pair = pair_at(s, field, last_field);
-        match pair {
-            Pair::Ends => return Written::Next { at, to: here },
-            // Lists of two lengths are refused before.
-            Pair::Uneven => return Written::Next { at, to: here },
-            Pair::Both {
-                type_id,
-                last_type,
-                name,
-                name_end,
-                next,
-                last_next,
-            } => {
-                let last = Definition {
-                    type_id: last_type,
-                    name,
-                    name_end,
-                };
-                let lines = write_field(out, here, s, at, type_id, last);
-                match lines {
-                    Lines::NotInList => return Written::Refused {
-                        number: 9,
-                        offset: at,
-                    },
-                    Lines::Next {
-                        at: behind,
-                        to: end,
-                    } => {
-                        at = behind;
-                        here = end;
-                        field = next;
-                        last_field = last_next;
-                    }
-                }
+        let turn = write_next(out, s, p);
+        match turn {
+            FieldTurn::End => return Written::Next { at: p.at, to: p.to },
+            FieldTurn::Refused(f) => return Written::Refused(f),
+            FieldTurn::Go(next) => {
+                p = next;
             }
         }
     }
@@ -103,7 +135,7 @@ fn write_body(
     let opening = write_opening(out, to, &s[name..last_fields], &s[id..start]);
     let body = write_fields(out, opening, s, start, fields, last_fields);
     match body {
-        Written::Refused { number, offset } => return Written::Refused { number, offset },
+        Written::Refused(f) => return Written::Refused(f),
         Written::Next { at, to: end } => {
             return Written::Next {
                 at,
@@ -137,18 +169,18 @@ pub fn write_data_block(
 {
     let list = fields_at(s, in_force);
     let Parsed::Next(fields) = list else {
-        return Written::Refused { number: 8, offset };
+        return Written::Refused(refused(FIELD_COUNT, offset));
     };
     let last_list = fields_at(s, last);
     let Parsed::Next(last_fields) = last_list else {
-        return Written::Refused { number: 8, offset };
+        return Written::Refused(refused(FIELD_COUNT, offset));
     };
     let end = element_past(s, id, Kind::Id);
     let Parsed::Next(start) = end else {
-        return Written::Refused { number: 8, offset };
+        return Written::Refused(refused(FIELD_COUNT, offset));
     };
     if !same_fields(s, in_force, last, fields, last_fields) {
-        return Written::Refused { number: 8, offset };
+        return Written::Refused(refused(FIELD_COUNT, offset));
     }
     let name = last + 13;
     write_body(out, to, s, id, start, fields, name, last_fields)

@@ -7,10 +7,12 @@ use bsii_again::records::kind_at;
 use bsii_again::records::prototype_again;
 use bsii_table::Found;
 use bsii_table::find;
+use bsii_value::answers::Refusal;
 use bsii_value::numbers::size;
 use bsii_window::window::put_all;
 ghost use Prim.Native.Nat.{_≤_};
 ghost use lib.ListN.{length};
+ghost use Rattle.bsii_format.specs.File.{lengthLimit};
 ghost use Rattle.bsii_table.specs.Rows.{Rows};
 ghost use Rattle.bsii_again.specs.Seek.{Readable};
 ghost use Rattle.bsii_output.specs.Records.{BlockStep, PrototypeStep, RecordWritten, RecordsWritten, BsiiWritten};
@@ -19,13 +21,13 @@ ghost use Rattle.bsii_output.specs.Records.{BlockStep, PrototypeStep, Re
 pub enum Step {
     Go { at: usize, to: usize },
     End,
-    Refused { number: u32, offset: usize },
+    Refused(Refusal),
 }
 
 // The position behind the text, or a refusal.
 pub enum Texts {
     To(usize),
-    Refused { number: u32, offset: usize },
+    Refused(Refusal),
 }
 
 // The block at an offset, of that prototype id, whose id starts at `id`.
@@ -50,10 +52,7 @@ fn write_block(
             let named = size(last);
             let written = write_data_block(out, to, s, offset, id, under, named);
             match written {
-                Written::Refused { number, offset: at } => return Step::Refused {
-                    number,
-                    offset: at,
-                },
+                Written::Refused(f) => return Step::Refused(f),
                 Written::Next { at, to: end } => return Step::Go { at, to: end },
             }
         }
@@ -62,7 +61,7 @@ fn write_block(
 
 // A prototype writes nothing, and is in force from here on.
 fn pass_prototype(to: usize, s: &[u8], at: usize, table: &mut [u32], rows: usize, id: u32) -> Step
-    requires { ⌜ (length (now s) ≤ 16_777_216) × (at ≤ length (now s)) × Rows (now table) rows ⌝ }
+    requires { ⌜ (length (now s) ≤ lengthLimit) × (at ≤ length (now s)) × Rows (now table) rows ⌝ }
     ensures { λ r. ⌜ PrototypeStep (now (s .entry)) at (now (table .entry)) rows id to r (now (table .exit)) ⌝ }
 {
     let met = prototype_again(s, at, table, rows, id);
@@ -80,7 +79,7 @@ fn write_record(
     table: &mut [u32],
     rows: usize,
 ) -> Step
-    requires { ⌜ (length (now s) ≤ 16_777_216) × (at ≤ length (now s)) × Rows (now table) rows ⌝ }
+    requires { ⌜ (length (now s) ≤ lengthLimit) × (at ≤ length (now s)) × Rows (now table) rows ⌝ }
     ensures { λ r. ⌜ RecordWritten (now (s .entry)) at (now (table .entry)) rows (now (out .entry)) to r (now (table .exit)) (now (out .exit)) ⌝ }
 {
     let kind = kind_at(s, at);
@@ -109,7 +108,7 @@ fn write_records(
         let step = write_record(out, here, s, at, table, rows);
         match step {
             Step::End => return Texts::To(here),
-            Step::Refused { number, offset } => return Texts::Refused { number, offset },
+            Step::Refused(f) => return Texts::Refused(f),
             Step::Go { at: next, to: end } => {
                 at = next;
                 here = end;
@@ -126,7 +125,7 @@ pub fn write_bsii(out: &mut [u8], s: &[u8], start: usize, table: &mut [u32], row
     let opening = put_all(out, 0x8000_0000_0000_0000, b"SiiNunit\n{\n");
     let blocks = write_records(out, opening, s, start, table, rows);
     match blocks {
-        Texts::Refused { number, offset } => return Texts::Refused { number, offset },
+        Texts::Refused(f) => return Texts::Refused(f),
         Texts::To(end) => return Texts::To(put_all(out, end, b"}\n")),
     }
 }

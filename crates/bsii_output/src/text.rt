@@ -4,6 +4,9 @@ use crate::records::write_bsii;
 use bsii_parse::reading::bsii_parser;
 use bsii_parse::walk::Walked;
 use bsii_table::clear;
+use bsii_value::answers::OUTPUT_SHORT;
+use bsii_value::answers::Refusal;
+use bsii_value::answers::refused;
 ghost use mathlib.Core.Path.{_≡_};
 ghost use lib.ListN.{length};
 ghost use Rattle.bsii_format.specs.Calls.{textCall, tableAfter};
@@ -13,11 +16,7 @@ ghost use Rattle.bsii_output.specs.Answers.{textIs, TextWritten, TextRea
 // The text's length; or a refusal, with the needed length where it is 11, else 0.
 pub enum TextReply {
     Text(usize),
-    Refused {
-        number: u32,
-        offset: usize,
-        needed: usize,
-    },
+    Refused { refusal: Refusal, needed: usize },
 }
 
 // The text that was measured to end at `end`.
@@ -37,8 +36,7 @@ fn write_measured(
     let length = end - 0x8000_0000_0000_0000;
     if output.len() < length {
         return TextReply::Refused {
-            number: 11,
-            offset: 0,
+            refusal: refused(OUTPUT_SHORT, 0),
             needed: length,
         };
     }
@@ -53,9 +51,8 @@ fn write_read(file: &[u8], table: &mut [u32], rows: usize, output: &mut [u8]) ->
 {
     let measured = write_bsii(&mut output[..0], file, 8, table, rows);
     match measured {
-        Texts::Refused { number, offset } => return TextReply::Refused {
-            number,
-            offset,
+        Texts::Refused(f) => return TextReply::Refused {
+            refusal: f,
             needed: 0,
         },
         Texts::To(end) => return write_measured(file, table, rows, output, end),
@@ -68,16 +65,11 @@ fn write_text(file: &[u8], table: &mut [u32], output: &mut [u8]) -> TextReply
 {
     let walked = bsii_parser(file, table);
     match walked {
-        Walked::Fault { number, offset } => return TextReply::Refused {
-            number,
-            offset,
+        Walked::Fault(f) => return TextReply::Refused {
+            refusal: f,
             needed: 0,
         },
-        Walked::Done {
-            rows,
-            blocks: _,
-            next: _,
-        } => return write_read(file, table, rows, output),
+        Walked::Done(t) => return write_read(file, table, t.rows, output),
     }
 }
 

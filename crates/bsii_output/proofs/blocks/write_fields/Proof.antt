@@ -1,23 +1,29 @@
+-- What is written of the fields from here on is written of all of them: so it is at the start, and each turn keeps it.
+use mathlib.Core.Path.{_≡_, refl, _∙_}
+use Prim.Native.Nat.{ℕ, _-_}
 use native.Mathlib.Omega.{arith}
-use denote.Ref.{now}
-use Rattle.bsii_output.proofs.FieldLaws.{Going, go-start, go-ends, go-uneven, go-absent, go-on, pair-by, field-by}
-use borrow.Author.Needs.{needs}
-use Prim.Native.Nat.{_-_}
+use mathlib.Core.List.{List}
 use lib.ListN.{length}
+use denote.Ref.{now}
+use Rattle.bsii_output.specs.Blocks.{FieldsFrom, FieldsWritten}
+use Rattle.bsii_output.specs.declared.blocks.Written.{Written}
+use Rattle.bsii_output.proofs.FieldLaws.{turned-by}
+use borrow.Author.Needs.{needs}
 use Rattle.bsii_output.proofs.blocks.write_fields.Statement.{statement}
 use Rattle.bsii_output.proofs.blocks.write_fields.Tie as tie
 
 abbrev Inv-loop : tie.InvT-loop
-Inv-loop out₀ to s start fields last-fields field₀ last-field₀ at₀ here₀ out field last-field at here = Going s start fields last-fields out₀ to field last-field at here out
+Inv-loop out₀ to s start fields last-fields p₀ out p =
+    ((r : Written) (new : List ℕ) → FieldsFrom s p out r new → FieldsWritten s start fields last-fields out₀ to r new) × (length out ≡ length out₀)
 
 abbrev μ-loop : tie.MeasureT-loop
-μ-loop out₀ to s start fields last-fields field₀ last-field₀ at₀ here₀ out field last-field at here = length s - field
+μ-loop out₀ to s start fields last-fields p₀ out p = length s - p .field
 
 loop-holds : tie.Need-loop-holds Inv-loop μ-loop
-loop-holds c = let a = c .before .before .args in go-start (now (a .s)) (a .start) (a .fields) (a .last-fields) (now (a .out)) (a .to) (omega arith) (omega arith)
+loop-holds c = (λ r new h. h, refl)
 
-pair-at-requires : tie.Need-pair-at-requires Inv-loop μ-loop
-pair-at-requires c κs = search needs
+write-next-requires : tie.Need-write-next-requires Inv-loop μ-loop
+write-next-requires c κs = search needs
 
 enum-told : tie.Need-enum-told Inv-loop μ-loop
 enum-told c = search needs
@@ -27,63 +33,41 @@ same-length c = search needs
 
 returns : tie.Need-returns Inv-loop μ-loop
 returns c =
-    let l = c .before .before .before in
-    let a = l .before .before .before .args in
-    let x = l .loop in
-    go-ends (now (a .s)) (a .start) (a .fields) (a .last-fields) (now (a .out)) (a .to) (x .field) (x .last-field) (x .at) (x .here) (x .out) (x .inv) (pair-by (c .enum-told .given .1) (c .before .before .pair-at .ensures))
+    let walked = c .before .before .before .before in
+    let here = walked .before .before in
+    here .loop .inv .0 _ _ (turned-by (now (here .before .before .before .args .s)) (here .loop .p) (here .loop .out) _ (c .enum-told .given .1) (walked .write-next .ensures))
 
-enum-told-2 : tie.Need-enum-told-2 Inv-loop μ-loop
-enum-told-2 c = search needs
+enum-known-turn : tie.Need-enum-known-turn Inv-loop μ-loop
+enum-known-turn c = search needs
 
 same-length-2 : tie.Need-same-length-2 Inv-loop μ-loop
 same-length-2 c = search needs
 
 returns-2 : tie.Need-returns-2 Inv-loop μ-loop
 returns-2 c =
-    let l = c .before .before .before in
-    let a = l .before .before .before .args in
-    let x = l .loop in
-    go-uneven (now (a .s)) (a .start) (a .fields) (a .last-fields) (now (a .out)) (a .to) (x .field) (x .last-field) (x .at) (x .here) (x .out) (x .inv) (pair-by (c .enum-told2 .given .1) (c .before .before .pair-at .ensures)) _
+    let told = c .before in
+    let walked = told .before .before .before .before in
+    let here = walked .before .before in
+    here .loop .inv .0 _ _ (turned-by (now (here .before .before .before .args .s)) (here .loop .p) (here .loop .out) _ (told .turn .given .1) (walked .write-next .ensures))
 
-enum-known-pair : tie.Need-enum-known-pair Inv-loop μ-loop
-enum-known-pair c = search needs
-
-write-field-requires : tie.Need-write-field-requires Inv-loop μ-loop
-write-field-requires c κs =
-    let l = c .before .before .before .before .before in
-    let a = l .before .before .before .args in
-    let x = l .loop in
-    let p = pair-by (c .before .before .pair .given .1) (c .before .before .before .before .pair-at .ensures) in (p .inside .2, p .inside .3)
-
-enum-told-3 : tie.Need-enum-told-3 Inv-loop μ-loop
-enum-told-3 c = search needs
-
-same-length-3 : tie.Need-same-length-3 Inv-loop μ-loop
-same-length-3 c = search needs
-
-returns-3 : tie.Need-returns-3 Inv-loop μ-loop
-returns-3 c =
-    let l = c .before .before .before .before .before .before .before .before .before .before in
-    let a = l .before .before .before .args in
-    let x = l .loop in
-    go-absent (now (a .s)) (a .start) (a .fields) (a .last-fields) (now (a .out)) (a .to) (x .field) (x .last-field) (x .at) (x .here) (x .out) (x .inv) (pair-by (c .before .before .before .before .before .before .before .pair .given .1) (c .before .before .before .before .before .before .before .before .before .pair-at .ensures)) (field-by (c .enum-told3 .given .1) (c .before .before .before .before .write-field .ensures))
-
-enum-known-lines : tie.Need-enum-known-lines Inv-loop μ-loop
-enum-known-lines c = search needs
+enum-known-turn-2 : tie.Need-enum-known-turn-2 Inv-loop μ-loop
+enum-known-turn-2 c = search needs
 
 loop-less : tie.Need-loop-less Inv-loop μ-loop
 loop-less c =
-    let l = c .before .before .before .before .before .before .before .before .before .before .before in
-    let a = l .before .before .before .args in
-    let x = l .loop in
-    let p = pair-by (c .before .before .before .before .before .before .before .before .pair .given .1) (c .before .before .before .before .before .before .before .before .before .before .pair-at .ensures) in omega (arith, p .inside)
+    let told = c .before in
+    let walked = told .before .before .before .before in
+    let here = walked .before .before in
+    let t = turned-by (now (here .before .before .before .args .s)) (here .loop .p) (here .loop .out) _ (told .turn2 .given .1) (walked .write-next .ensures) in
+    omega (arith, t .0, t .1)
 
 loop-again : tie.Need-loop-again Inv-loop μ-loop
 loop-again c =
-    let l = c .before .before .before .before .before .before .before .before .before .before .before in
-    let a = l .before .before .before .args in
-    let x = l .loop in
-    go-on (now (a .s)) (a .start) (a .fields) (a .last-fields) (now (a .out)) (a .to) (x .field) (x .last-field) (x .at) (x .here) (x .out) (x .inv) (pair-by (c .before .before .before .before .before .before .before .before .pair .given .1) (c .before .before .before .before .before .before .before .before .before .before .pair-at .ensures)) (field-by (c .before .lines .given .1) (c .before .before .before .before .before .write-field .ensures))
+    let told = c .before in
+    let walked = told .before .before .before .before in
+    let here = walked .before .before in
+    let t = turned-by (now (here .before .before .before .args .s)) (here .loop .p) (here .loop .out) _ (told .turn2 .given .1) (walked .write-next .ensures) in
+    (λ r new h. here .loop .inv .0 r new (t .3 r new h), t .2 ∙ here .loop .inv .1)
 
 pub write-fields-spec : {M : Type 1} → statement M
 write-fields-spec =
@@ -92,18 +76,13 @@ write-fields-spec =
     Inv-loop
     μ-loop
     loop-holds
-    pair-at-requires
+    write-next-requires
     enum-told
     same-length
     returns
-    enum-told-2
+    enum-known-turn
     same-length-2
     returns-2
-    enum-known-pair
-    write-field-requires
-    enum-told-3
-    same-length-3
-    returns-3
-    enum-known-lines
+    enum-known-turn-2
     loop-less
     loop-again)

@@ -8,8 +8,14 @@ use Rattle.bsii_output.proofs.text.write_measured.Tie as tie
 returns : tie.Need-returns
 returns c = let a = c .before .before .before .before .args in measured-early (now (a .file)) (now (a .table)) (a .rows) (now (a .output)) (a .end) (c .if1 .taken) _
 
+refused-requires : tie.Need-refused-requires
+refused-requires c κs = search needs
+
 returns-2 : tie.Need-returns-2
-returns-2 c = let a = c .before .before .before .before .before .args in measured-long (now (a .file)) (now (a .table)) (a .rows) (now (a .output)) (a .end) (c .if2 .taken)
+returns-2 c =
+    let long = c .before in
+    let a = long .before .before .before .before .before .args in
+    measured-long (now (a .file)) (now (a .table)) (a .rows) (now (a .output)) (a .end) (c .refused .ensures) (long .if2 .taken)
 
 write-bsii-requires : tie.Need-write-bsii-requires
 write-bsii-requires c κs = search needs
@@ -25,4 +31,12 @@ returns-3 c = let a = c .before .before .before .before .before .before .before 
 
 pub write-measured-spec : {M : Type 1} → statement M
 write-measured-spec =
-    tie.close (tie.spec returns returns-2 write-bsii-requires same-length same-length-2 returns-3)
+    tie.close
+    (tie.spec
+    returns
+    refused-requires
+    returns-2
+    write-bsii-requires
+    same-length
+    same-length-2
+    returns-3)
