@@ -5,14 +5,16 @@ use native.Mathlib.Omega.{arith}
 use mathlib.Core.Bool.{Bool, true, false, cond}
 use mathlib.Core.Option.{Option, none, some, Option·map}
 use mathlib.Core.List.{List, [], _∷_, _++_, map}
-use lib.ListN.{length}
+use lib.ListN.{length, drop}
 use lib.Dec.{eqb}
 use Rattle.bsii_format.specs.Prototypes.{Prototype}
 use Rattle.bsii_format.specs.Blocks.{findBy}
-use Rattle.bsii_format.specs.File.{Record, prototype, block, recordBytes, define, defineAll}
+use Rattle.bsii_format.specs.Reader.{ok}
+use Rattle.bsii_format.specs.File.{Record, prototype, block, recordBytes, define, defineAll, defining, headParser}
 use Rattle.bsii_format.specs.Calls.{Placed, placed, consPrototype, prototypesIn}
 use Rattle.bsii_table.specs.Rows.{Row, offsets, lookupFrom}
-use Rattle.bsii_tree.specs.Table.{idOf, lookupTree, Puts, Named}
+use Rattle.bsii_tree.specs.Table.{lookupTree, Puts, Named}
+use Rattle.bsii_tree.proofs.Ids.{head-id}
 use Rattle.bsii_tree.proofs.Relation.{grows-none}
 use Rattle.bsii_order.specs.Ordered.{Ordered}
 use Rattle.bsii_order.proofs.Rows.{order-holds}
@@ -32,8 +34,9 @@ kept-ordered {s} g w = record {
 }
 
 -- what `define` asks of a definition that is read here
-pub named-at : {s : List ℕ} {p : Progress} {t : List ℕ} {id o : ℕ} → Ready s p t → idOf s (p .at) ≡ id → o ≡ p .at → Named s (p .rows) id o
-named-at {s} r h e = record { named = ap (idOf s) e ∙ h; behind = omega (arith, r .few) }
+pub named-at : {s : List ℕ} {p : Progress} {t : List ℕ} {id : ℕ} {name : List ℕ} {n : ℕ} {r : List ℕ} → Ready s p t
+    → headParser (p .at) (drop (p .at) s) ≡ ok (defining id name) n r → Named s (p .rows) id (p .at)
+named-at {s} {p} h e = let i = head-id s (p .at) e in record { named = i .0; inside = i .1; behind = h .few }
 
 cond-map : {A B : Type 0} (f : A → B) (b : Bool) (a : A) (o : Option A) → Option·map f (cond b (some a) o) ≡ cond b (some (f a)) (Option·map f o)
 cond-map f true a o = refl

@@ -20,7 +20,7 @@ ghost use lib.ListN.{length};
 ghost use mathlib.Core.Path.{_≡_};
 ghost use lib.ListN.{drop};
 ghost use Rattle.bsii_format.specs.File.{lengthLimit};
-ghost use Rattle.bsii_tree.specs.Table.{idOf};
+ghost use Rattle.bsii_tree.specs.Table.{Named};
 ghost use Rattle.bsii_parse.specs.Walks.{Ready, Defining, Carrying, Stepped, Walks, StandingEnd};
 
 // How far the walk is: the next record's offset, the table's rows, and the blocks so far.
@@ -58,7 +58,7 @@ fn word(x: usize) -> u32
 
 // A prototype of this id, whose definitions start at `fields`. A new id without room is refused once the prototype is read whole.
 fn prototype_step(s: &[u8], p: Progress, table: &mut [u32], id: u32, fields: usize) -> Step
-    requires { ⌜ Ready (now s) p (now table) × (idOf (now s) (p .at) ≡ id) ⌝ }
+    requires { ⌜ Ready (now s) p (now table) × Named (now s) (p .rows) id (p .at) ⌝ }
     ensures { λ r. ⌜ Defining (now (s .entry)) p (now (table .entry)) id fields r (now (table .exit)) ⌝ }
 {
     let at = p.at;

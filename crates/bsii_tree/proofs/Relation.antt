@@ -40,7 +40,7 @@ module _ (At : ℕ → Prototype → Type 0) where
   grows-none f t = record { valid = bare; count = refl; each = λ id. tt }
     where
       bare : Linked f t 0
-      bare = record { room = omega arith; tree = bare-tree _ _ }
+      bare = record { room = omega arith; tree = bare-tree _ _; inside = λ r l. absurd (omega arith) }
 
   matches-put : (b : Bool) (o : Option Prototype) (l : Option Row) (p : Prototype) (r : Row) → Matches At o l → At (r .inForce) p → At (r .last) p
       → Matches At (cond b (some p) o) (cond b (some r) l)

@@ -1,5 +1,6 @@
 -- The laws of the words: what the functions write, as rows of a tree.
 use Prim.Native.Nat.{ℕ, zero, suc, _+_, _*_, _≤_, _<_}
+use native.Mathlib.Nat.{eq-or-lt-of-le}
 use native.Mathlib.Decide.{ℕ-discrete}
 use native.Mathlib.Numerals.{add-one}
 use native.Mathlib.Omega.{arith}
@@ -13,7 +14,7 @@ use lib.Seq.{getD-set-same, getD-set-other}
 use lib.Dec.{eqb}
 use Rattle.bsii_table.specs.Rows.{Row, offsets}
 use Rattle.bsii_table.proofs.Lookups.{Once, finds, misses, replaced, appended}
-use Rattle.bsii_tree.specs.Tree.{search, Leaf, Place}
+use Rattle.bsii_tree.specs.Tree.{search, Tree, Leaf, Place}
 use Rattle.bsii_tree.specs.Table.{idOf, offsetOf, keyOf, linkOf, rowOf, Linked, lookupTree, Sought, Appended, rowsWith, Puts, Named}
 use Rattle.bsii_tree.specs.declared.Slot.{Slot}
 use Rattle.bsii_tree.specs.declared.Slot.the-variants as slot
@@ -73,7 +74,11 @@ module _ {f t : List ℕ} {rows : ℕ} (h : Linked f t rows) where
   redefines : {id o : ℕ} → Named f rows id o → (i : ℕ) → i < rows → keyOf f t i ≡ id → Puts f t rows id o (set t (3 * i) o) rows
   redefines {id} {o} s i l e =
       record {
-        valid = record { room = omega (arith, size, h .room); tree = replanted (h .tree) keys (λ r b m n. same (3 * r + 1 + b) (omega arith)) };
+        valid = record {
+          room = omega (arith, size, h .room);
+          tree = replanted (h .tree) keys (λ r b m n. same (3 * r + 1 + b) (omega arith));
+          inside = inside;
+        };
         size = size;
         count = sym (ap (rowsWith rows) (row-found i l e));
         looks = λ x. replaced once i l e keys rows-same x ∙ ap (λ (o : ℕ). cond (eqb x id) (some (offsets o o)) (lookupTree f t rows x)) here;
@@ -97,6 +102,13 @@ module _ {f t : List ℕ} {rows : ℕ} (h : Linked f t rows) where
       rows-same : (r : ℕ) → (r ≡ i → ⊥) → rowOf t′ r ≡ rowOf t r
       rows-same r n = ap₂ offsets (offset r n) (offset r n)
 
+      inside : (r : ℕ) → r < rows → offsetOf t′ r + 9 ≤ length f
+      inside r m = go (ℕ-discrete r i)
+        where
+          go : Dec (r ≡ i) → offsetOf t′ r + 9 ≤ length f
+          go (yes y) = rw y (omega (arith, here, s .inside))
+          go (no n) = omega (arith, offset r n, h .inside r m)
+
       keys : (r : ℕ) → r < rows → keyOf f t′ r ≡ keyOf f t r
       keys r m = go (ℕ-discrete r i)
         where
@@ -105,14 +117,23 @@ module _ {f t : List ℕ} {rows : ℕ} (h : Linked f t rows) where
           go (no n) = ap (idOf f) (offset r n)
 
   -- one row more, behind the others
-  appends : {t′ : List ℕ} {id o : ℕ} → Linked f t′ (suc rows) → ((i : ℕ) → i < rows → keyOf f t i ≡ id → ⊥) → length t′ ≡ length t
-      → ((r : ℕ) → r < rows → offsetOf t′ r ≡ offsetOf t r) → offsetOf t′ rows ≡ o → idOf f o ≡ id → Puts f t rows id o t′ (suc rows)
-  appends {id = id} valid new size kept here named = record {
-    valid = valid;
+  appends : {t′ : List ℕ} {id o : ℕ} → 3 * rows + 3 ≤ length t → Tree (keyOf f t′) (linkOf t′) (suc rows)
+      → ((i : ℕ) → i < rows → keyOf f t i ≡ id → ⊥) → length t′ ≡ length t → ((r : ℕ) → r < rows → offsetOf t′ r ≡ offsetOf t r) → offsetOf t′ rows ≡ o
+      → Named f rows id o → Puts f t rows id o t′ (suc rows)
+  appends {t′} {id} {o} room tree new size kept here s = record {
+    valid = record {
+      room = omega (arith, size);
+      tree = tree;
+      inside = λ r l.
+          ⊎-elim
+          (λ e. rw e (omega (arith, here, s .inside)))
+          (λ m. omega (arith, kept r m, h .inside r m))
+          (eq-or-lt-of-le (let m : r ≤ rows = omega arith in m));
+    };
     size = size;
     count = sym (ap (rowsWith rows) (row-missed id new));
     looks = λ x.
-        appended once (tree-once (valid .tree)) (ap (idOf f) here ∙ named) (λ r l. ap (idOf f) (kept r l)) (λ r l. ap₂ offsets (kept r l) (kept r l)) x
+        appended once (tree-once tree) (ap (idOf f) here ∙ s .named) (λ r l. ap (idOf f) (kept r l)) (λ r l. ap₂ offsets (kept r l) (kept r l)) x
         ∙ ap (λ (o : ℕ). cond (eqb x id) (some (offsets o o)) (lookupTree f t rows x)) here;
   }
 
@@ -120,7 +141,7 @@ module _ {f t : List ℕ} {rows : ℕ} (h : Linked f t rows) where
   hangs : {id o p b : ℕ} → Place (keyOf f t) (linkOf t) rows id p b → Named f rows id o → 3 * rows + 3 ≤ length t → {u : List ℕ} → Appended t rows o u
       → Puts f t rows id o (set u (3 * p + 1 + b) rows) (suc rows)
   hangs {id} {o} {p} {b} g s room {u} a =
-      appends (record { room = omega (arith, size); tree = g .grows (keyOf f t′) (linkOf t′) leaf }) (g .new) size kept here (s .named)
+      appends room (g .grows (keyOf f t′) (linkOf t′) leaf) (g .new) size kept here s
     where
       t′ : List ℕ
       t′ = set u (3 * p + 1 + b) rows
@@ -156,8 +177,8 @@ module _ {f t : List ℕ} {rows : ℕ} (h : Linked f t rows) where
 pub plants : {f t : List ℕ} {rows : ℕ} → rows ≡ 0 → Linked f t rows → {id o : ℕ} → Named f rows id o → 3 ≤ length t → {u : List ℕ} → Appended t 0 o u → Puts f t rows id o u 1
 plants {f} {t} {rows} e h {id} {o} s room {u} a =
     subst (λ (n : ℕ). Puts f t n id o u 1) (sym e)
-    (appends (subst (Linked f t) e h) (record { room = omega (arith, a .size); tree = planted (keyOf f u) (linkOf u) (a .ends) })
-    (λ i l. absurd (omega arith)) (a .size) (λ r l. absurd (omega arith)) (a .here) (s .named))
+    (appends (subst (Linked f t) e h) room (planted (keyOf f u) (linkOf u) (a .ends)) (λ i l. absurd (omega arith)) (a .size) (λ r l. absurd (omega arith))
+    (a .here) (subst (λ (n : ℕ). Named f n id o) e s))
 
 -- ---- by the word that `seek` answered
 

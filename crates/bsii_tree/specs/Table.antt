@@ -32,10 +32,12 @@ linkOf t r b = getD t (3 * r + 1 + b) 0
 abbrev pub rowOf : List ℕ → ℕ → Row
 rowOf t r = offsets (offsetOf t r) (offsetOf t r)
 
--- What a number of rows means while a file is read. Callers carry it and never look into it.
+-- What a number of rows means while a file is read: the words are there, and a tree, and the ids are in the file. Callers carry it and never
+-- look into it.
 pub record Linked (f : List ℕ) (t : List ℕ) (rows : ℕ) : Type 0 where
   pub room : 3 * rows ≤ length t
   pub tree : Tree (keyOf f t) (linkOf t) rows
+  pub inside : (r : ℕ) → r < rows → offsetOf t r + 9 ≤ length f
 
 abbrev pub lookupTree : List ℕ → List ℕ → ℕ → ℕ → Option Row
 lookupTree f t rows id = lookupFrom (keyOf f t) (rowOf t) 0 rows id
@@ -78,4 +80,5 @@ pub data Defines (f : List ℕ) (t : List ℕ) (rows : ℕ) (id : ℕ) (offset :
 -- a definition of the id stands at the offset, behind more bytes than there are rows: so a row's number fits in a word
 pub record Named (f : List ℕ) (rows : ℕ) (id : ℕ) (offset : ℕ) : Type 0 where
   pub named : idOf f offset ≡ id
+  pub inside : offset + 9 ≤ length f
   pub behind : rows ≤ offset

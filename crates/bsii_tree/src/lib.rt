@@ -6,7 +6,7 @@
 // `find` and `define` require `Linked`, that the rows are in the table and such a tree: callers have it from the relation to the
 // definitions so far that they carry anyway.
 use bsii_table::Found;
-use bsii_value::at::u32_at;
+use bsii_value::numbers::quad;
 ghost use Prim.Native.Nat.{_+_, _*_, _≤_, _<_};
 ghost use mathlib.Core.Path.{_≡_};
 ghost use lib.ListN.{length};
@@ -28,10 +28,11 @@ enum Slot {
 
 // The id of the prototype at an offset: behind its u32 zero and its mark.
 pub fn id_at(file: &[u8], offset: u32) -> u32
+    requires { ⌜ offset + 9 ≤ length (now file) ⌝ }
     ensures { λ r. ⌜ r ≡ idOf (now (file .entry)) offset ⌝ }
 {
     let at = offset as usize;
-    u32_at(file, at + 5)
+    quad(file, at + 5)
 }
 
 fn seek(file: &[u8], table: &[u32], rows: usize, id: u32) -> Slot

@@ -47,7 +47,10 @@ shared-slice-read-id-at : tie.Need-shared-slice-read-id-at Inv-loop μ-loop
 shared-slice-read-id-at c = omega (arith, ends (c .before))
 
 id-at-requires : tie.Need-id-at-requires Inv-loop μ-loop
-id-at-requires c κs = search needs
+id-at-requires c κs =
+    let turn = c .before in
+    let start = turn .before .before .before in
+    start .pre .0 .inside (turn .loop .row) (turn .loop .inv .1 .row)
 
 returns : tie.Need-returns Inv-loop μ-loop
 returns c = let turn = c .before .before .before in (turn .loop .row, turn .loop .inv .1 .row, refl, sym (c .before .id-at .ensures) ∙ c .if1 .taken)

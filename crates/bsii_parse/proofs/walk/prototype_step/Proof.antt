@@ -1,5 +1,4 @@
 use mathlib.Core.Path.{sym, _∙_}
-use Rattle.bsii_parse.proofs.Tables.{named-at}
 use Rattle.bsii_parse.proofs.Passing.{defining-fault, defining-full, defining-passed}
 use borrow.Author.Needs.{needs}
 use Rattle.bsii_parse.proofs.walk.prototype_step.Statement.{statement}
@@ -23,7 +22,7 @@ word-requires c κs = search needs
 define-requires : tie.Need-define-requires
 define-requires c κs =
     let a = c .before .before .before .before .before .before .before .before in
-    (a .pre .0 .rows, named-at (a .pre .0) (a .pre .1) (c .word .ensures))
+    (a .pre .0 .rows, rw (c .word .ensures) (a .pre .1))
 
 enum-told : tie.Need-enum-told
 enum-told c = search needs

@@ -1,7 +1,7 @@
 use mathlib.Core.Path.{sym, ap, _∙_}
 use denote.Ref.{now}
 use Rattle.bsii_prototype.specs.Answers.{headIs}
-use Rattle.bsii_tree.proofs.Ids.{head-id}
+use Rattle.bsii_parse.proofs.Tables.{named-at}
 use Rattle.bsii_parse.proofs.Passing.{stepped-end, stepped-bad, stepped-defining, stepped-carrying}
 use borrow.Author.Needs.{needs}
 use Rattle.bsii_parse.proofs.walk.record_step.Statement.{statement}
@@ -30,7 +30,7 @@ prototype-step-requires c κs =
     let told = c .before .before in
     let parsed = told .before .before in
     let a = parsed .before .before .before in
-    (a .pre, head-id (now (a .args .s)) (a .args .p .at) (sym (parsed .head-parser .ensures) ∙ ap (headIs (now (a .args .s))) (told .head3 .given .1)))
+    (a .pre, named-at (a .pre) (sym (parsed .head-parser .ensures) ∙ ap (headIs (now (a .args .s))) (told .head3 .given .1)))
 
 same-length : tie.Need-same-length
 same-length c = search needs
