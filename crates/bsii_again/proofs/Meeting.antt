@@ -22,7 +22,7 @@ use Rattle.bsii_prototype.specs.declared.answers.Counted.the-variants.{Fields a
 use Rattle.bsii_prototype.proofs.Turns.{fields-again}
 use Rattle.bsii_prototype.proofs.Beginnings.{head-next}
 use Rattle.bsii_table.specs.Rows.{lookup}
-use Rattle.bsii_table.specs.Table.{foundRow, Puts, Enters}
+use Rattle.bsii_table.specs.Table.{foundRow, Enters}
 use Rattle.bsii_table.specs.Relation.{Entered}
 use Rattle.bsii_table.specs.declared.Found.{Found}
 use Rattle.bsii_table.specs.declared.Found.the-variants.{At, Nothing as NotFound}

@@ -1,22 +1,25 @@
 -- The reading walk as a whole: what holds at each turn of its loop, and what follows at its end.
 use mathlib.Core.Path.{_≡_, refl, sym, ap, _∙_, subst}
-use Prim.Native.Nat.{ℕ, _+_, _-_, _/_, _≤_, _<_}
+use Prim.Native.Nat.{ℕ, suc, _+_, _-_, _/_, _≤_, _<_}
 use native.Mathlib.Nat.{add-zero}
 use native.Mathlib.Omega.{arith}
+use mathlib.Core.Bool.{Bool, true, false, cond}
 use mathlib.Core.List.{List, [], _∷_, _++_, append-nil}
 use lib.ListN.{length, drop, length-append}
 use Rattle.bsii_format.specs.Reader.{Result, ok, fault}
+use Rattle.bsii_format.specs.Strings.{isSome}
 use Rattle.bsii_format.specs.Prototypes.{Prototype}
-use Rattle.bsii_format.specs.File.{Record, prototype, block, recordBytes, recordsBytes, Records, lengthLimit}
+use Rattle.bsii_format.specs.Blocks.{getPrototype}
+use Rattle.bsii_format.specs.File.{Record, prototype, block, recordBytes, recordsBytes, Records, lengthLimit, define, distinctIds}
 use Rattle.bsii_format.specs.Calls.{Placed, placed, consPrototype, prototypesIn}
 use Rattle.bsii_value.specs.declared.answers.Refusal.{Refusal}
-use Rattle.bsii_parse.specs.Walks.{blockCount, behind, recordsAt, bare, Kept, Ready, Steps, passed, ended, refused, Walks, done, stopped}
+use Rattle.bsii_parse.specs.Walks.{blockCount, behind, recordsAt, bare, Growing, Ready, Steps, passed, ended, refused, Walks, done, stopped}
 use Rattle.bsii_parse.specs.declared.walk.Progress.{Progress}
 use Rattle.bsii_parse.specs.declared.walk.Step.{Step}
 use Rattle.bsii_parse.specs.declared.walk.Step.the-variants.{Go, End, Refused}
 use Rattle.bsii_parse.specs.declared.walk.Walked.the-variants.{Done, Fault as Stopped}
 use Rattle.bsii_parse.proofs.Records.{behind-behind, blockCount-append}
-use Rattle.bsii_parse.proofs.Tables.{kept-none}
+use Rattle.bsii_parse.proofs.Tables.{growing-none, bare-cons}
 
 abbrev sizeOf : Record → ℕ
 sizeOf r = length (recordBytes r)
@@ -46,7 +49,8 @@ pub record Along (s : List ℕ) (start : ℕ) (t₀ : List ℕ) (p : Progress) (
   pub counted : p .blocks ≤ p .at
   pub blocks : p .blocks ≡ blockCount so
   pub size : length t ≡ length t₀
-  pub kept : Kept s t (p .rows) (defsFrom start so)
+  pub few : p .rows ≤ p .at
+  pub kept : Growing s t (p .rows) (defsFrom start so)
   pub rest : recordsAt (length t₀ / 3) [] start s ≡ behind so (recordsAt (length t₀ / 3) (bare (defsFrom start so)) (p .at) s)
 
 behind-none : (q : Result Records) → q ≡ behind [] q
@@ -63,12 +67,13 @@ along-start s start t h = record {
   counted = omega arith;
   blocks = refl;
   size = refl;
-  kept = kept-none s t;
+  few = omega arith;
+  kept = growing-none s t;
   rest = behind-none (recordsAt (length t / 3) [] start s);
 }
 
 pub along-ready : {s : List ℕ} {start : ℕ} {t₀ : List ℕ} {p : Progress} {t : List ℕ} → length s ≤ lengthLimit → Along s start t₀ p t → Ready s p t
-along-ready h a = record { short = h; inside = a .inside; counted = a .counted; rows = a .kept .holds .valid }
+along-ready h a = record { short = h; inside = a .inside; counted = a .counted; rows = a .kept .holds .valid; few = a .few }
 
 go≢end : {P : Type 0} {q : Progress} {n : ℕ} → _≡_ {A = Step} (Go q) (End n) → P
 go≢end e = let z : _≡_ {A = ℕ} 0 1 = cc in let f : ⊥ = omega arith in absurd f
@@ -81,6 +86,16 @@ end≢refused e = let z : _≡_ {A = ℕ} 0 1 = cc in let f : ⊥ = omega arith 
 
 go-inj : {p q : Progress} → _≡_ {A = Step} (Go p) (Go q) → p ≡ q
 go-inj e = cc
+
+-- a record defines one id at most
+distinct-more : (i : Record) (env : List Prototype) → distinctIds (define i env) ≤ suc (distinctIds env)
+unfolding distinctIds define
+distinct-more (prototype p) env = go (isSome (getPrototype (p .id) env))
+  where
+    go : (b : Bool) → cond b (distinctIds env) (suc (distinctIds env)) ≤ suc (distinctIds env)
+    go true = omega arith
+    go false = omega arith
+distinct-more (block b) env = omega arith
 
 -- one more record; the position rises, so the loop ends
 pub record Further (s : List ℕ) (start : ℕ) (t₀ : List ℕ) (p q : Progress) (t : List ℕ) : Type 0 where
@@ -109,7 +124,16 @@ module _ {s : List ℕ} {start : ℕ} {t₀ : List ℕ} {p : Progress} {t : List
           counted = more-blocks i (p .blocks) (a .counted) on;
           blocks = ap (λ m. m + blockCount (i ∷ [])) (a .blocks) ∙ sym (blockCount-append (a .so) (i ∷ []));
           size = size ∙ a .size;
-          kept = subst (λ w. Kept s t′ rows w) (sym defs) kept;
+          few = omega (
+            arith,
+            kept .holds .count,
+            a .kept .holds .count,
+            ap distinctIds (bare-cons (p .at) i (defsFrom start (a .so))),
+            distinct-more i (bare (defsFrom start (a .so))),
+            a .few,
+            on,
+          );
+          kept = subst (λ w. Growing s t′ rows w) (sym defs) kept;
           rest = from-here (e ∙ ap (λ m. behind (i ∷ []) (recordsAt m (bare (consPrototype (p .at) i (defsFrom start (a .so)))) n s)) rooms)
               ∙ behind-behind (a .so) (i ∷ []) (recordsAt (length t₀ / 3) (bare (consPrototype (p .at) i (defsFrom start (a .so)))) n s)
               ∙ ap (λ w. behind (a .so ++ (i ∷ [])) (recordsAt (length t₀ / 3) (bare w) n s)) (sym defs);

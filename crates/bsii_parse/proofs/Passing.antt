@@ -22,18 +22,19 @@ use Rattle.bsii_value.specs.declared.answers.Refusal.{Refusal}
 use Rattle.bsii_value.specs.declared.answers.Parsed.{Parsed}
 use Rattle.bsii_value.specs.declared.answers.Parsed.the-variants.{Next, Fault}
 use Rattle.bsii_value.proofs.Ends.{next-ended, fault-ended}
-use Rattle.bsii_table.specs.Rows.{lookup}
-use Rattle.bsii_table.specs.Table.{foundRow, Defines}
+use Rattle.bsii_table.specs.Table.{foundRow}
 use Rattle.bsii_table.specs.declared.Found.{Found}
 use Rattle.bsii_table.specs.declared.Found.the-variants.{At, Nothing}
-use Rattle.bsii_table.specs.declared.Defined.{Defined}
-use Rattle.bsii_table.specs.declared.Defined.the-variants.{Rows, Full}
-use Rattle.bsii_table.proofs.Relation.{is-put, is-full, define-holds, define-room, define-full, found-at, found-nothing}
+use Rattle.bsii_table.proofs.Relation.{found-at, found-nothing}
+use Rattle.bsii_tree.specs.Table.{lookupTree, Defines}
+use Rattle.bsii_tree.specs.declared.Defined.{Defined}
+use Rattle.bsii_tree.specs.declared.Defined.the-variants.{Rows, Full}
+use Rattle.bsii_tree.proofs.Relation.{is-put, is-full, define-grows, define-room, define-full}
 use Rattle.bsii_prototype.specs.Answers.{countOf, headIs}
 use Rattle.bsii_prototype.specs.declared.answers.Counted.the-variants.{Fields as Counted-Fields, Fault as Counted-Fault}
 use Rattle.bsii_prototype.specs.declared.answers.Head.{Head as HeadAnswer}
 use Rattle.bsii_prototype.specs.declared.answers.Head.the-variants.{End as HeadEnd, Prototype as HeadPrototype, Block as HeadBlock, BadHead}
-use Rattle.bsii_parse.specs.Walks.{Stands, StandingEnd, blockCount, behind, recordsAt, bare, Kept, Steps, passed, ended as atEnd, refused, Stepped, Defining, Carrying}
+use Rattle.bsii_parse.specs.Walks.{Stands, StandingEnd, blockCount, behind, recordsAt, bare, Growing, Steps, passed, ended as atEnd, refused, Stepped, Defining, Carrying}
 use Rattle.bsii_parse.specs.declared.walk.Progress.{Progress}
 use Rattle.bsii_parse.specs.declared.walk.Step.{Step}
 use Rattle.bsii_parse.specs.declared.walk.Step.the-variants.{Go, End, Refused}
@@ -69,7 +70,7 @@ module _ {s : List ℕ} {p : Progress} {t : List ℕ} {env : List (Placed Protot
   step-fault e l = refused (records-fault (length t / 3) (bare env) (p .at) s e) l
 
   step-passed : (i : Record) {n rows : ℕ} {t′ : List ℕ} → recordParser (bare env) (p .at) (drop (p .at) s) ≡ ok (more i) n (drop n s) → hasRoom (length t / 3) (bare env) i ≡ true
-      → Kept s t′ rows (consPrototype (p .at) i env) → length t′ ≡ length t → Steps s p t env (Go (record { at = n; rows = rows; blocks = p .blocks + blockCount (i ∷ []) })) t′
+      → Growing s t′ rows (consPrototype (p .at) i env) → length t′ ≡ length t → Steps s p t env (Go (record { at = n; rows = rows; blocks = p .blocks + blockCount (i ∷ []) })) t′
   unfolding stepBytes
   step-passed i {n} e h k l =
       let m = moved-on (record-exact (bare env)) (record-empty (bare env) 0) s (p .at) e in
@@ -92,16 +93,16 @@ module _ {s : List ℕ} {p : Progress} {t : List ℕ} {env : List (Placed Protot
     pub prototype-fault : {f : Refusal} → fieldsParser fields (drop fields s) ≡ fault (faultIs f) → Steps s p t env (Refused f) t
     prototype-fault e = step-fault (record-fields-fault (bare env) (p .at) (drop (p .at) s) h e) refl
 
-    pub prototype-full : {l : Fields} {n : ℕ} {d : Defined} {t′ : List ℕ} → fieldsParser fields (drop fields s) ≡ ok l n (drop n s) → Kept s t (p .rows) env → d ≡ Full
-        → Defines t (p .rows) id (p .at) d t′ → Steps s p t env (Refused (refusedAt tableFull (p .at))) t′
+    pub prototype-full : {l : Fields} {n : ℕ} {d : Defined} {t′ : List ℕ} → fieldsParser fields (drop fields s) ≡ ok l n (drop n s) → Growing s t (p .rows) env → d ≡ Full
+        → Defines s t (p .rows) id (p .at) d t′ → Steps s p t env (Refused (refusedAt tableFull (p .at))) t′
     unfolding prototypeOf
     prototype-full {l} {n} e k f d =
         let x = is-full f d in
         let one = prototypeOf (bare env) (p .at) (drop (p .at) s) id name fields l in
         refused (records-full (length t / 3) (bare env) (p .at) s (record-prototype (bare env) (p .at) (drop (p .at) s) h e) (define-full (Stands s) (k .holds) one refl f d)) (ap length (x .same))
 
-    pub prototype-passed : {l : Fields} {n rows : ℕ} {d : Defined} {t′ : List ℕ} → fieldsParser fields (drop fields s) ≡ ok l n (drop n s) → Kept s t (p .rows) env → d ≡ Rows rows
-        → Defines t (p .rows) id (p .at) d t′ → Steps s p t env (Go (record { at = n; rows = rows; blocks = p .blocks })) t′
+    pub prototype-passed : {l : Fields} {n rows : ℕ} {d : Defined} {t′ : List ℕ} → fieldsParser fields (drop fields s) ≡ ok l n (drop n s) → Growing s t (p .rows) env → d ≡ Rows rows
+        → Defines s t (p .rows) id (p .at) d t′ → Steps s p t env (Go (record { at = n; rows = rows; blocks = p .blocks })) t′
     unfolding prototypeOf blockCount consPrototype
     prototype-passed {l} {n} {rows} {d} {t′} e k f w =
         let x = is-put f w in
@@ -109,16 +110,16 @@ module _ {s : List ℕ} {p : Progress} {t : List ℕ} {env : List (Placed Protot
         let stands : Stands s (p .at) one = record { fields = fields; next = n; head = h; list = e } in
         subst (λ b. Steps s p t env (Go (record { at = n; rows = rows; blocks = b })) t′) (add-zero (p .blocks))
         (step-passed (prototype one) (record-prototype (bare env) (p .at) (drop (p .at) s) h e) (define-room (Stands s) (k .holds) one refl f w)
-        (record { holds = define-holds (Stands s) (k .holds) one refl stands f w; offsets = offsets-put t (p .rows) t′ rows env one (p .at) x (k .offsets) })
-        (x .puts .size))
+        (record { holds = define-grows (Stands s) (k .holds) one refl stands f w; offsets = offsets-put s t (p .rows) t′ rows env one (p .at) x (k .offsets) })
+        (x .size))
 
   -- ---- a block
 
-  module _ {id at : ℕ} (h : headParser (p .at) (drop (p .at) s) ≡ ok (carrying id) at (drop at s)) (k : Kept s t (p .rows) env) where
-    pub block-undefined : {r : Found} → r ≡ Nothing → foundRow r ≡ lookup t (p .rows) id → Steps s p t env (Refused (refusedAt undefinedPrototype (p .at))) t
+  module _ {id at : ℕ} (h : headParser (p .at) (drop (p .at) s) ≡ ok (carrying id) at (drop at s)) (k : Growing s t (p .rows) env) where
+    pub block-undefined : {r : Found} → r ≡ Nothing → foundRow r ≡ lookupTree s t (p .rows) id → Steps s p t env (Refused (refusedAt undefinedPrototype (p .at))) t
     block-undefined e f = step-fault (record-undefined (bare env) (p .at) (drop (p .at) s) h (found-nothing (Stands s) (k .holds) id e f)) refl
 
-    module _ {r : Found} {a b : ℕ} (e : r ≡ At a b) (f : foundRow r ≡ lookup t (p .rows) id) {q : Parsed} (w : StandingEnd s a at q) where
+    module _ {r : Found} {a b : ℕ} (e : r ≡ At a b) (f : foundRow r ≡ lookupTree s t (p .rows) id) {q : Parsed} (w : StandingEnd s a at q) where
       pub block-fault : {x : Refusal} → q ≡ Fault x → Steps s p t env (Refused x) t
       block-fault z =
           let x = found-at (Stands s) (k .holds) id e f in
@@ -150,14 +151,14 @@ module _ {s : List ℕ} {p : Progress} {t : List ℕ} {id fields : ℕ} where
   pub defining-fault : {f : Refusal} → Counted-Fault f ≡ countOf (fieldsParser fields (drop fields s)) → Defining s p t id fields (Refused f) t
   defining-fault e = record { steps = λ env k name h. prototype-fault h (counted-fault (fieldsParser fields (drop fields s)) e) }
 
-  module _ {c n : ℕ} (e : Counted-Fields c n ≡ countOf (fieldsParser fields (drop fields s))) {o : ℕ} (w : o ≡ p .at) {d : Defined} {t′ : List ℕ} (x : Defines t (p .rows) id o d t′) where
+  module _ {c n : ℕ} (e : Counted-Fields c n ≡ countOf (fieldsParser fields (drop fields s))) {o : ℕ} (w : o ≡ p .at) {d : Defined} {t′ : List ℕ} (x : Defines s t (p .rows) id o d t′) where
     pub defining-full : d ≡ Full → Defining s p t id fields (Refused (refusedAt tableFull (p .at))) t′
-    defining-full f = record { steps = λ env k name h. prototype-full h (counted-is s fields e .1) k f (subst (λ z. Defines t (p .rows) id z d t′) w x) }
+    defining-full f = record { steps = λ env k name h. prototype-full h (counted-is s fields e .1) k f (subst (λ z. Defines s t (p .rows) id z d t′) w x) }
 
     pub defining-passed : {rows : ℕ} → d ≡ Rows rows → Defining s p t id fields (Go (record { at = n; rows = rows; blocks = p .blocks })) t′
-    defining-passed f = record { steps = λ env k name h. prototype-passed h (counted-is s fields e .1) k f (subst (λ z. Defines t (p .rows) id z d t′) w x) }
+    defining-passed f = record { steps = λ env k name h. prototype-passed h (counted-is s fields e .1) k f (subst (λ z. Defines s t (p .rows) id z d t′) w x) }
 
-module _ {s : List ℕ} {p : Progress} {t : List ℕ} {id at : ℕ} {r : Found} (f : foundRow r ≡ lookup t (p .rows) id) where
+module _ {s : List ℕ} {p : Progress} {t : List ℕ} {id at : ℕ} {r : Found} (f : foundRow r ≡ lookupTree s t (p .rows) id) where
   pub carrying-undefined : r ≡ Nothing → Carrying s p t id at (Refused (refusedAt undefinedPrototype (p .at)))
   carrying-undefined e = record { steps = λ env k h. block-undefined h k e f }
 

@@ -16,17 +16,20 @@ use Rattle.bsii_format.proofs.Positions.{moved-on}
 use Rattle.bsii_format.proofs.File.{parse-short}
 use Rattle.bsii_value.specs.Answers.{faultIs, refusedAt}
 use Rattle.bsii_value.specs.declared.answers.Refusal.{Refusal}
-use Rattle.bsii_parse.specs.Walks.{blockCount, recordsAt, Kept, Walks, done, stopped, ReadFile, read, unread}
+use Rattle.bsii_parse.specs.Walks.{blockCount, recordsAt, Growing, Walks, done, stopped, read, unread, ReadTree, ReadFile}
+use Rattle.bsii_tree.specs.Table.{Linked}
+use Rattle.bsii_order.specs.Ordered.{Ordered}
 use Rattle.bsii_parse.specs.Answers.{readingIs}
+use Rattle.bsii_parse.specs.declared.walk.Totals.{Totals}
 use Rattle.bsii_parse.specs.declared.walk.Walked.{Walked}
 use Rattle.bsii_parse.specs.declared.walk.Walked.the-variants.{Done, Fault as Stopped}
 use Rattle.bsii_parse.specs.declared.reading.Reading.{Reading}
 use Rattle.bsii_parse.specs.declared.reading.Reading.the-variants.{Read, Refused}
-use Rattle.bsii_parse.proofs.Tables.{bare-all}
+use Rattle.bsii_parse.proofs.Tables.{bare-all, kept-ordered}
 
 -- ---- in front of the records
 
-pub file-long : (s t : List ℕ) → lengthLimit < length s → ReadFile s t (Stopped (refusedAt inputLong 0)) t
+pub file-long : (s t : List ℕ) → lengthLimit < length s → ReadTree s t (Stopped (refusedAt inputLong 0)) t
 unfolding parse
 file-long s t h =
     let l : T (leb (length s) lengthLimit) → ⊥ = λ k. let z : length s ≤ lengthLimit = leb→le (length s) lengthLimit k in omega arith in
@@ -38,7 +41,7 @@ unfolding headerParser _>>=_ after tag same
 header-empty = refl
 
 module _ (s t : List ℕ) (short : length s ≤ lengthLimit) where
-  pub header-fault : {f : Refusal} → headerParser 0 s ≡ fault (faultIs f) → ReadFile s t (Stopped f) t
+  pub header-fault : {f : Refusal} → headerParser 0 s ≡ fault (faultIs f) → ReadTree s t (Stopped f) t
   unfolding bsiiParser _>>=_ after consumed
   header-fault {f} e =
       let z : parse (length t) s ≡ fault (faultIs f) = parse-short (length t) s short ∙ rw e in
@@ -56,12 +59,12 @@ module _ (s t : List ℕ) (short : length s ≤ lengthLimit) where
     header-long = moved-on header-exact header-empty s 0 h .1
 
     -- the walk from the first record on is the file
-    pub file-walked : {r : Walked} {t′ : List ℕ} → Walks s 8 t r t′ → ReadFile s t r t′
+    pub file-walked : {r : Walked} {t′ : List ℕ} → Walks s 8 t r t′ → ReadTree s t r t′
     unfolding after success bsiiFile header placedRecords
     file-walked {t′ = t′} (done q {rows = rows} {n = n} e k l) =
         let is : parse (length t) s ≡ ok (bsiiFile header q) n (drop n s) = parse-is ∙ rw e in
         let start : 8 ≡ length (take 8 s) = sym (length-take-le 8 s header-long) in
-        read (bsiiFile header q) is (subst (λ m. Kept s t′ rows (prototypesIn (placed (λ r. length (recordBytes r)) m (q .records)) [])) start k) l
+        read (bsiiFile header q) is (subst (λ m. Growing s t′ rows (prototypesIn (placed (λ r. length (recordBytes r)) m (q .records)) [])) start k) l
     file-walked (stopped {f = f} e l) =
         let z : parse (length t) s ≡ fault (faultIs f) = parse-is ∙ rw e in
         unread z l
@@ -79,7 +82,7 @@ unfoldable pub reported : Walked → Reading
 reported (Done t) = Read (t .rows) (t .blocks) (t .next)
 reported (Stopped f) = Refused f
 
-pub read-answer : {s t : List ℕ} {r : Walked} {t′ : List ℕ} → ReadFile s t r t′ → readingIs (reported r) ≡ readingCall (length t) s
+pub read-answer : {s t : List ℕ} {r : Walked} {t′ : List ℕ} → ReadTree s t r t′ → readingIs (reported r) ≡ readingCall (length t) s
 unfolding readingCall ofFile readingOf blocksOf placedRecords prototypesOf reported
 read-answer (read f {rows = rows} {n = n} e k l) =
     let rowsAre : rows ≡ distinctIds (defineAll (f .records) []) =
@@ -92,6 +95,26 @@ read-answer (read f {rows = rows} {n = n} e k l) =
 read-answer (unread e l) = rw e
 
 -- the table keeps its length, so that it is cleared whole
-pub read-size : {s t : List ℕ} {r : Walked} {t′ : List ℕ} → ReadFile s t r t′ → length t′ ≡ length t
+pub read-size : {s t : List ℕ} {r : Walked} {t′ : List ℕ} → ReadTree s t r t′ → length t′ ≡ length t
 read-size (read f e k l) = l
 read-size (unread e l) = l
+
+-- ---- in the order of the ids
+
+done≢stopped : {P : Type 0} {w : Totals} {f : Refusal} → _≡_ {A = Walked} (Done w) (Stopped f) → P
+done≢stopped e = let z : _≡_ {A = ℕ} 0 1 = cc in absurd (omega arith)
+
+module _ {s t : List ℕ} where
+  pub tree-linked : {r : Walked} {t′ : List ℕ} {w : Totals} → r ≡ Done w → ReadTree s t r t′ → Linked s t′ (w .rows)
+  tree-linked {t′ = t′} {w = w} z (read f {rows = rows} e k l) = let q : rows ≡ w .rows = cc in subst (Linked s t′) q (k .holds .valid)
+  tree-linked z (unread e l) = done≢stopped (sym z)
+
+  pub tree-ordered : {r : Walked} {t′ t″ : List ℕ} {w : Totals} → r ≡ Done w → ReadTree s t r t′ → Ordered s t′ (w .rows) t″ → ReadFile s t (Done w) t″
+  tree-ordered {t′ = t′} {t″ = t″} {w = w} z (read f {rows = rows} e k l) o =
+      let q : w .rows ≡ rows = cc in
+      subst (λ r. ReadFile s t r t″) z (read f e (kept-ordered k (subst (λ n. Ordered s t′ n t″) q o)) (o .size ∙ l))
+  tree-ordered z (unread e l) o = done≢stopped (sym z)
+
+  pub tree-stopped : {r : Walked} {t′ : List ℕ} {f : Refusal} → r ≡ Stopped f → ReadTree s t r t′ → ReadFile s t (Stopped f) t′
+  tree-stopped z (read f e k l) = done≢stopped z
+  tree-stopped {t′ = t′} z (unread e l) = subst (λ r. ReadFile s t r t′) z (unread e l)

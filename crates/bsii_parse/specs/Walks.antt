@@ -1,7 +1,7 @@
 -- What the walks over a file's records know of it.
 use mathlib.Core.Path.{_≡_}
 use Prim.Native.Nat.{ℕ, suc, _+_, _/_, _≤_, _<_}
-use mathlib.Core.Option.{Option·map}
+use mathlib.Core.Option.{Option, Option·map}
 use mathlib.Core.List.{List, [], _∷_, _++_, map}
 use lib.ListN.{length, drop}
 use Rattle.bsii_format.specs.Reader.{Result, ok, fault, _>>=_}
@@ -14,7 +14,8 @@ use Rattle.bsii_value.specs.Answers.{faultIs, endOf}
 use Rattle.bsii_value.specs.declared.answers.Refusal.{Refusal}
 use Rattle.bsii_value.specs.declared.answers.Parsed.{Parsed}
 use Rattle.bsii_table.specs.Rows.{Row, lookup, Rows}
-use Rattle.bsii_table.specs.Relation.{Holds}
+use Rattle.bsii_table.specs.Relation.{Represents}
+use Rattle.bsii_tree.specs.Table.{Linked, lookupTree}
 use Rattle.bsii_parse.specs.declared.walk.Progress.{Progress}
 use Rattle.bsii_parse.specs.declared.walk.Step.{Step}
 use Rattle.bsii_parse.specs.declared.walk.Step.the-variants.{Go, End, Refused}
@@ -67,40 +68,49 @@ recordsAt rooms env at s = recordsFrom rooms (length (drop at s)) env at (drop a
 abbrev pub bare : List (Placed Prototype) → List Prototype
 bare = map (λ (p : Placed Prototype). p .it)
 
--- The table's rows are the definitions so far, the last one first. `offsets` says which of two equal prototypes a row stands for.
-pub record Kept (s t : List ℕ) (rows : ℕ) (env : List (Placed Prototype)) : Type 0 where
-  pub holds : Holds (Stands s) t rows (bare env)
-  pub offsets : (id : ℕ) → Option·map (λ (r : Row). r .last) (lookup t rows id) ≡ Option·map (λ (p : Placed Prototype). p .offset) (findBy (λ (p : Placed Prototype). p .it .id) id env)
+-- The rows are the definitions so far, the last one first. `offsets` says which of two equal prototypes a row stands for.
+pub record Keeps (s : List ℕ) (Valid : Type 0) (look : ℕ → Option Row) (rows : ℕ) (env : List (Placed Prototype)) : Type 0 where
+  pub holds : Represents (Stands s) Valid look rows (bare env)
+  pub offsets : (id : ℕ) → Option·map (λ (r : Row). r .last) (look id) ≡ Option·map (λ (p : Placed Prototype). p .offset) (findBy (λ (p : Placed Prototype). p .it .id) id env)
+
+-- the table while the file is read, a tree
+abbrev pub Growing : List ℕ → List ℕ → ℕ → List (Placed Prototype) → Type 0
+Growing s t rows env = Keeps s (Linked s t rows) (lookupTree s t rows) rows env
+
+-- the table once it is read, rows in order
+abbrev pub Kept : List ℕ → List ℕ → ℕ → List (Placed Prototype) → Type 0
+Kept s t rows env = Keeps s (Rows t rows) (lookup t rows) rows env
 
 -- ---- a step of the reading walk
 
--- what it needs: the file within the length limit, a position in it, the table's rows
+-- what it needs: the file within the length limit, a position in it, the table's tree, with no more rows than bytes passed
 pub record Ready (s : List ℕ) (p : Progress) (t : List ℕ) : Type 0 where
   pub short : length s ≤ lengthLimit
   pub inside : p .at ≤ length s
   pub counted : p .blocks ≤ p .at
-  pub rows : Rows t (p .rows)
+  pub rows : Linked s t (p .rows)
+  pub few : p .rows ≤ p .at
 
 -- For the definitions that the table holds: the records from here on are the one that was passed and those from there on; or they are the end
 -- record; or they are refused. Behind the step the table holds the definitions with the record's.
 pub data Steps (s : List ℕ) (p : Progress) (t : List ℕ) (env : List (Placed Prototype)) : Step → List ℕ → Type 0 where
   passed : (i : Record) {n rows : ℕ} {t′ : List ℕ}
       → recordsAt (length t / 3) (bare env) (p .at) s ≡ behind (i ∷ []) (recordsAt (length t / 3) (bare (consPrototype (p .at) i env)) n s)
-      → p .at < n → n ≤ length s → n ≡ p .at + length (recordBytes i) → Kept s t′ rows (consPrototype (p .at) i env) → length t′ ≡ length t
+      → p .at < n → n ≤ length s → n ≡ p .at + length (recordBytes i) → Growing s t′ rows (consPrototype (p .at) i env) → length t′ ≡ length t
       → Steps s p t env (Go (record { at = n; rows = rows; blocks = p .blocks + blockCount (i ∷ []) })) t′
   ended : {l : List ℕ} {n : ℕ} → recordsAt (length t / 3) (bare env) (p .at) s ≡ ok (record { records = []; end = l }) n (drop n s) → Steps s p t env (End n) t
   refused : {f : Refusal} {t′ : List ℕ} → recordsAt (length t / 3) (bare env) (p .at) s ≡ fault (faultIs f) → length t′ ≡ length t → Steps s p t env (Refused f) t′
 
 pub record Stepped (s : List ℕ) (p : Progress) (t : List ℕ) (r : Step) (t′ : List ℕ) : Type 0 where
-  pub steps : (env : List (Placed Prototype)) → Kept s t (p .rows) env → Steps s p t env r t′
+  pub steps : (env : List (Placed Prototype)) → Growing s t (p .rows) env → Steps s p t env r t′
 
 -- the same where the head is read already: a prototype's definitions start at `fields`, a block's id at `at`
 pub record Defining (s : List ℕ) (p : Progress) (t : List ℕ) (id fields : ℕ) (r : Step) (t′ : List ℕ) : Type 0 where
-  pub steps : (env : List (Placed Prototype)) → Kept s t (p .rows) env → (name : List ℕ) → headParser (p .at) (drop (p .at) s) ≡ ok (defining id name) fields (drop fields s)
+  pub steps : (env : List (Placed Prototype)) → Growing s t (p .rows) env → (name : List ℕ) → headParser (p .at) (drop (p .at) s) ≡ ok (defining id name) fields (drop fields s)
       → Steps s p t env r t′
 
 pub record Carrying (s : List ℕ) (p : Progress) (t : List ℕ) (id at : ℕ) (r : Step) : Type 0 where
-  pub steps : (env : List (Placed Prototype)) → Kept s t (p .rows) env → headParser (p .at) (drop (p .at) s) ≡ ok (carrying id) at (drop at s) → Steps s p t env r t
+  pub steps : (env : List (Placed Prototype)) → Growing s t (p .rows) env → headParser (p .at) (drop (p .at) s) ≡ ok (carrying id) at (drop at s) → Steps s p t env r t
 
 -- ---- the whole walk from `start` on, and the whole file: the table holds the definitions of what was read
 
@@ -110,11 +120,18 @@ totalsOf rows l n = record { rows = rows; blocks = blockCount l; next = n }
 
 pub data Walks (s : List ℕ) (start : ℕ) (t : List ℕ) : Walked → List ℕ → Type 0 where
   done : (q : Records) {rows n : ℕ} {t′ : List ℕ} → recordsAt (length t / 3) [] start s ≡ ok q n (drop n s)
-      → Kept s t′ rows (prototypesIn (placed (λ r. length (recordBytes r)) start (q .records)) []) → length t′ ≡ length t
+      → Growing s t′ rows (prototypesIn (placed (λ r. length (recordBytes r)) start (q .records)) []) → length t′ ≡ length t
       → Walks s start t (Done (totalsOf rows (q .records) n)) t′
   stopped : {f : Refusal} {t′ : List ℕ} → recordsAt (length t / 3) [] start s ≡ fault (faultIs f) → length t′ ≡ length t → Walks s start t (Stopped f) t′
 
-pub data ReadFile (s : List ℕ) (t : List ℕ) : Walked → List ℕ → Type 0 where
-  read : (f : BsiiFile) {rows n : ℕ} {t′ : List ℕ} → parse (length t) s ≡ ok f n (drop n s) → Kept s t′ rows (prototypesIn (placedRecords f) [])
-      → length t′ ≡ length t → ReadFile s t (Done (totalsOf rows (f .records) n)) t′
-  unread : {f : Refusal} {t′ : List ℕ} → parse (length t) s ≡ fault (faultIs f) → length t′ ≡ length t → ReadFile s t (Stopped f) t′
+-- `Table t′ rows env` is what the table holds then
+pub data ReadAs (Table : List ℕ → ℕ → List (Placed Prototype) → Type 0) (s : List ℕ) (t : List ℕ) : Walked → List ℕ → Type 0 where
+  read : (f : BsiiFile) {rows n : ℕ} {t′ : List ℕ} → parse (length t) s ≡ ok f n (drop n s) → Table t′ rows (prototypesIn (placedRecords f) [])
+      → length t′ ≡ length t → ReadAs Table s t (Done (totalsOf rows (f .records) n)) t′
+  unread : {f : Refusal} {t′ : List ℕ} → parse (length t) s ≡ fault (faultIs f) → length t′ ≡ length t → ReadAs Table s t (Stopped f) t′
+
+abbrev pub ReadTree : List ℕ → List ℕ → Walked → List ℕ → Type 0
+ReadTree s t r t′ = ReadAs (Growing s) s t r t′
+
+abbrev pub ReadFile : List ℕ → List ℕ → Walked → List ℕ → Type 0
+ReadFile s t r t′ = ReadAs (Kept s) s t r t′

@@ -1,6 +1,7 @@
 // The reading call: the whole file, its header and its records.
 use crate::walk::Walked;
 use crate::walk::walk;
+use bsii_order::order;
 use bsii_prototype::answers::Header;
 use bsii_prototype::heads::header_parser;
 use bsii_table::clear;
@@ -11,7 +12,7 @@ use bsii_value::answers::refused;
 ghost use mathlib.Core.Path.{_≡_};
 ghost use lib.ListN.{length};
 ghost use Rattle.bsii_format.specs.Calls.{readingCall, tableAfter};
-ghost use Rattle.bsii_parse.specs.Walks.{ReadFile};
+ghost use Rattle.bsii_parse.specs.Walks.{ReadFile, ReadTree};
 ghost use Rattle.bsii_parse.specs.Answers.{readingIs};
 
 // What the reading call answers: how many distinct prototype ids and how many blocks there are, and the offset after the end record.
@@ -24,9 +25,9 @@ pub enum Reading {
     Refused(Refusal),
 }
 
-// The file, with the last definition of each id left in the table for a look-up: the caller clears it.
-pub fn bsii_parser(file: &[u8], table: &mut [u32]) -> Walked
-    ensures { λ r. ⌜ ReadFile (now (file .entry)) (now (table .entry)) r (now (table .exit)) ⌝ }
+// The file, with the tree of its ids left in the table.
+fn tree_parser(file: &[u8], table: &mut [u32]) -> Walked
+    ensures { λ r. ⌜ ReadTree (now (file .entry)) (now (table .entry)) r (now (table .exit)) ⌝ }
 {
     if LENGTH_LIMIT < file.len() {
         return Walked::Fault(refused(INPUT_LONG, 0));
@@ -38,11 +39,26 @@ pub fn bsii_parser(file: &[u8], table: &mut [u32]) -> Walked
     }
 }
 
+// The file, with the last definition of each id left in the table for a look-up: the caller clears it.
+pub fn bsii_parser(file: &[u8], table: &mut [u32]) -> Walked
+    ensures { λ r. ⌜ ReadFile (now (file .entry)) (now (table .entry)) r (now (table .exit)) ⌝ }
+{
+    let walked = tree_parser(file, table);
+    match walked {
+        Walked::Done(t) => {
+            order(file, table, t.rows);
+            return Walked::Done(t);
+        }
+        Walked::Fault(f) => return Walked::Fault(f),
+    }
+}
+
+// No look-up follows, so the table is left in no order.
 pub fn parse(file: &[u8], table: &mut [u32]) -> Reading
     ensures reply { λ r. ⌜ readingIs r ≡ readingCall (length (now (table .entry))) (now (file .entry)) ⌝ }
     ensures zeros { λ r. ⌜ now (table .exit) ≡ tableAfter (now (table .entry)) ⌝ }
 {
-    let walked = bsii_parser(file, table);
+    let walked = tree_parser(file, table);
     clear(table);
     match walked {
         Walked::Done(t) => Reading::Read {

@@ -5,10 +5,10 @@ use bsii_prototype::answers::Head;
 use bsii_prototype::fields::fields_parser;
 use bsii_prototype::heads::head_parser;
 use bsii_prototype::past::fields_at;
-use bsii_table::Defined;
 use bsii_table::Found;
-use bsii_table::define;
-use bsii_table::find;
+use bsii_tree::Defined;
+use bsii_tree::define;
+use bsii_tree::find;
 use bsii_value::answers::Parsed;
 use bsii_value::answers::Refusal;
 use bsii_value::answers::TABLE_FULL;
@@ -20,6 +20,7 @@ ghost use lib.ListN.{length};
 ghost use mathlib.Core.Path.{_≡_};
 ghost use lib.ListN.{drop};
 ghost use Rattle.bsii_format.specs.File.{lengthLimit};
+ghost use Rattle.bsii_tree.specs.Table.{Named};
 ghost use Rattle.bsii_parse.specs.Walks.{Ready, Defining, Carrying, Stepped, Walks, StandingEnd};
 
 // How far the walk is: the next record's offset, the table's rows, and the blocks so far.
@@ -57,7 +58,7 @@ fn word(x: usize) -> u32
 
 // A prototype of this id, whose definitions start at `fields`. A new id without room is refused once the prototype is read whole.
 fn prototype_step(s: &[u8], p: Progress, table: &mut [u32], id: u32, fields: usize) -> Step
-    requires { ⌜ Ready (now s) p (now table) ⌝ }
+    requires { ⌜ Ready (now s) p (now table) × Named (now s) (p .rows) id (p .at) ⌝ }
     ensures { λ r. ⌜ Defining (now (s .entry)) p (now (table .entry)) id fields r (now (table .exit)) ⌝ }
 {
     let at = p.at;
@@ -67,7 +68,7 @@ fn prototype_step(s: &[u8], p: Progress, table: &mut [u32], id: u32, fields: usi
     match list {
         Counted::Fault(f) => return Step::Refused(f),
         Counted::Fields { count: _, next } => {
-            let defined = define(table, rows, id, word(at));
+            let defined = define(s, table, rows, id, word(at));
             match defined {
                 Defined::Full => return Step::Refused(refused(TABLE_FULL, at)),
                 Defined::Rows(held) => return Step::Go(Progress {
@@ -98,7 +99,7 @@ fn block_step(s: &[u8], p: Progress, table: &[u32], id: u32, id_at: usize) -> St
 {
     let at = p.at;
     let rows = p.rows;
-    let found = find(table, rows, id);
+    let found = find(s, table, rows, id);
     match found {
         Found::Nothing => return Step::Refused(refused(UNDEFINED_PROTOTYPE, at)),
         Found::At { in_force, last: _ } => {

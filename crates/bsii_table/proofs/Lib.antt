@@ -1,3 +1,4 @@
--- The laws of the rows, and of the table against the definitions so far.
+pub mod Lookups
+pub mod Search
 pub mod Laws
 pub mod Relation

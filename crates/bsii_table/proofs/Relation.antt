@@ -1,118 +1,38 @@
--- The laws of the table against the definitions so far: callers carry `Holds` in the reading walk, then `Entered`, and never unfold a row.
-use Prim.Native.Nat.{ℕ, suc, _/_}
-use native.Mathlib.Omega.{arith}
+-- The laws of the table against the definitions so far: callers carry `Holds` from the reading walk on, then `Entered`, and never unfold a row.
+use Prim.Native.Nat.{ℕ}
 use mathlib.Core.Path.{_≡_, refl, sym, ap, _∙_, subst}
 use mathlib.Core.Bool.{Bool, true, false, cond}
 use mathlib.Core.Option.{Option, none, some, Option·map}
 use mathlib.Core.List.{List, [], _∷_}
-use lib.ListN.{length}
 use lib.Dec.{eqb}
-use borrow.Author.Tests.{eqb-true, le-leb, lt-leb}
-use Rattle.bsii_format.specs.Strings.{isSome}
+use borrow.Author.Tests.{eqb-true}
 use Rattle.bsii_format.specs.Prototypes.{Prototype}
 use Rattle.bsii_format.specs.Blocks.{findBy, getPrototype}
-use Rattle.bsii_format.specs.File.{Record, prototype, block, define, distinctIds, hasRoom, defineAll}
-use Rattle.bsii_table.specs.Rows.{Row, offsets, lookupFrom, lookup, Rows}
-use Rattle.bsii_table.specs.Table.{foundRow, rowsWith, PutsBoth, NoRoom, Defines, put, full, withInForce, Enters}
-use Rattle.bsii_table.specs.Relation.{Matches, Holds, InForce, Follows, Entered}
+use Rattle.bsii_format.specs.File.{Record, prototype, block, define, defineAll}
+use Rattle.bsii_table.specs.Rows.{Row, offsets, lookup}
+use Rattle.bsii_table.specs.Table.{foundRow, withInForce, Enters}
+use Rattle.bsii_table.specs.Relation.{Matches, Represents, Holds, InForce, Follows, Entered}
 use Rattle.bsii_table.specs.declared.Found.{Found}
 use Rattle.bsii_table.specs.declared.Found.the-variants as found
-use Rattle.bsii_table.specs.declared.Defined.{Defined}
-use Rattle.bsii_table.specs.declared.Defined.the-variants as defined
-
--- ---- what `define` answered
-
-rows≢full : {P : Type 0} {r : ℕ} → _≡_ {A = Defined} (defined.Rows r) defined.Full → P
-rows≢full e = let z : _≡_ {A = ℕ} 0 1 = cc in absurd (omega arith)
-
-pub is-put : {t : List ℕ} {rows id o r : ℕ} {d : Defined} {t′ : List ℕ} → d ≡ defined.Rows r → Defines t rows id o d t′ → PutsBoth t rows id o t′ r
-is-put {t} {rows} {id} {o} {r} {t′ = t′} q (put {rows′ = n} x) = let z : n ≡ r = cc in subst (λ (r : ℕ). PutsBoth t rows id o t′ r) z x
-is-put q (full x) = rows≢full (sym q)
-
-pub is-full : {t : List ℕ} {rows id o : ℕ} {d : Defined} {t′ : List ℕ} → d ≡ defined.Full → Defines t rows id o d t′ → NoRoom t rows id t′
-is-full q (put x) = rows≢full q
-is-full q (full x) = x
 
 module _ (At : ℕ → Prototype → Type 0) where
-  -- ---- the reading walk
+  -- ---- the definitions so far
 
-  -- before the first definition: whatever the table came in with
-  pub holds-none : (t : List ℕ) → Holds At t 0 []
-  unfolding findBy lookupFrom distinctIds
-  holds-none t = record {
-    valid = record { room = omega arith; sorted = λ i j l m. absurd (omega arith) };
-    count = refl;
-    each = λ id. tt;
-  }
+  module _ {Valid : Type 0} {look : ℕ → Option Row} {rows : ℕ} {env : List Prototype} (h : Represents At Valid look rows env) (id : ℕ) {r : Found} where
+    -- what `find` answered, as a definition
+    pub found-at : {a b : ℕ} → r ≡ found.At a b → foundRow r ≡ look id → (p : Prototype) × (getPrototype id env ≡ some p) × At a p × At b p
+    found-at {a} {b} q f = go (getPrototype id env) refl (subst (Matches At (getPrototype id env)) (sym f ∙ ap foundRow q) (h .each id))
+      where
+        go : (o : Option Prototype) → getPrototype id env ≡ o → Matches At o (some (offsets a b)) → (p : Prototype) × (getPrototype id env ≡ some p) × At a p × At b p
+        go none e m = absurd m
+        go (some p) e m = (p, e, m .0, m .1)
 
-  matches-put : (b : Bool) (o : Option Prototype) (l : Option Row) (p : Prototype) (r : Row) → Matches At o l → At (r .inForce) p → At (r .last) p
-      → Matches At (cond b (some p) o) (cond b (some r) l)
-  matches-put true o l p r m x y = (x, y)
-  matches-put false o l p r m x y = m
-
-  matches-count : (o : Option Prototype) (l : Option Row) (rows n : ℕ) → Matches At o l → rows ≡ n → rowsWith rows l ≡ cond (isSome o) n (suc n)
-  unfolding isSome
-  matches-count none none rows n m e = ap suc e
-  matches-count none (some r) rows n m e = absurd m
-  matches-count (some p) none rows n m e = absurd m
-  matches-count (some p) (some r) rows n m e = e
-
-  module _ {t : List ℕ} {rows : ℕ} {env : List Prototype} (h : Holds At t rows env) (p : Prototype) where
-    -- the number of rows with a row for p's id
-    ids-with : {id : ℕ} → p .id ≡ id → rowsWith rows (lookup t rows id) ≡ distinctIds (p ∷ env)
-    unfolding distinctIds
-    ids-with {id} e =
-        matches-count (getPrototype (p .id) env) (lookup t rows id) rows (distinctIds env)
-        (subst (λ (n : ℕ). Matches At (getPrototype (p .id) env) (lookup t rows n)) e (h .each (p .id))) (h .count)
-
-    -- `define` gave the id a row: a new id or one defined again
-    pub define-holds : {id o r : ℕ} {d : Defined} {t′ : List ℕ} → p .id ≡ id → At o p → d ≡ defined.Rows r → Defines t rows id o d t′ → Holds At t′ r (p ∷ env)
-    unfolding findBy
-    define-holds {id} {o} {r} {d} {t′} e a q f =
-        let x = is-put q (subst (λ (n : ℕ). Defines t rows n o d t′) (sym e) f) in
-        record {
-          valid = x .puts .valid;
-          count = x .count ∙ ids-with refl;
-          each = λ n.
-              rw (x .puts .looks n)
-              (matches-put (eqb n (p .id)) (getPrototype n env) (lookup t rows n) p (offsets o o) (h .each n) a a);
-        }
-
-    -- `Full` is answered exactly where the definitions say that there is no room
-    pub define-full : {id o : ℕ} {d : Defined} {t′ : List ℕ} → p .id ≡ id → d ≡ defined.Full → Defines t rows id o d t′
-        → hasRoom (length t / 3) env (prototype p) ≡ false
-    unfolding hasRoom
-    define-full {id} {o} {d} {t′} e q f =
-        let x = is-full q f in
-        let n : suc rows ≡ distinctIds (p ∷ env) = sym (ap (rowsWith rows) (x .new)) ∙ ids-with e in
-        lt-leb (distinctIds (p ∷ env)) (length t / 3) (omega (arith, x .short))
-
-    pub define-room : {id o r : ℕ} {d : Defined} {t′ : List ℕ} → p .id ≡ id → d ≡ defined.Rows r → Defines t rows id o d t′
-        → hasRoom (length t / 3) env (prototype p) ≡ true
-    unfolding hasRoom
-    define-room {id} {o} {r} {d} {t′} e q f =
-        let x = is-put q f in
-        let n : r ≡ distinctIds (p ∷ env) = x .count ∙ ids-with e in
-        le-leb (distinctIds (p ∷ env)) (length t / 3) (omega (arith, x .puts .valid .room, x .puts .size))
-
-  -- `find` in the reading walk: the definition in force
-  pub found-at : {t : List ℕ} {rows : ℕ} {env : List Prototype} → Holds At t rows env → (id : ℕ) {r : Found} {a b : ℕ} → r ≡ found.At a b
-      → foundRow r ≡ lookup t rows id → (p : Prototype) × (getPrototype id env ≡ some p) × At a p × At b p
-  found-at {t} {rows} {env} h id {r} {a} {b} q f =
-      go (getPrototype id env) refl (subst (Matches At (getPrototype id env)) (sym f ∙ ap foundRow q) (h .each id))
-    where
-      go : (o : Option Prototype) → getPrototype id env ≡ o → Matches At o (some (offsets a b)) → (p : Prototype) × (getPrototype id env ≡ some p) × At a p × At b p
-      go none e m = absurd m
-      go (some p) e m = (p, e, m .0, m .1)
-
-  pub found-nothing : {t : List ℕ} {rows : ℕ} {env : List Prototype} → Holds At t rows env → (id : ℕ) {r : Found} → r ≡ found.Nothing
-      → foundRow r ≡ lookup t rows id → getPrototype id env ≡ none
-  found-nothing {t} {rows} {env} h id {r} q f =
-      go (getPrototype id env) (subst (Matches At (getPrototype id env)) (sym f ∙ ap foundRow q) (h .each id))
-    where
-      go : (o : Option Prototype) → Matches At o none → o ≡ none
-      go none m = refl
-      go (some p) m = absurd m
+    pub found-nothing : r ≡ found.Nothing → foundRow r ≡ look id → getPrototype id env ≡ none
+    found-nothing q f = go (getPrototype id env) (subst (Matches At (getPrototype id env)) (sym f ∙ ap foundRow q) (h .each id))
+      where
+        go : (o : Option Prototype) → Matches At o none → o ≡ none
+        go none m = refl
+        go (some p) m = absurd m
 
   -- ---- a walk over a file that was read
 

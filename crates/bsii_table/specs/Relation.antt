@@ -15,11 +15,15 @@ Matches At none (some r) = ⊥
 Matches At (some p) none = ⊥
 Matches At (some p) (some r) = At (r .inForce) p × At (r .last) p
 
--- the reading walk: `env` is the definitions so far, the last one first
-pub record Holds (At : ℕ → Prototype → Type 0) (t : List ℕ) (rows : ℕ) (env : List Prototype) : Type 0 where
-  pub valid : Rows t rows
+-- Rows and a look-up among them against `env`, the definitions so far, the last one first. `Valid` is what the rows' form asks.
+pub record Represents (At : ℕ → Prototype → Type 0) (Valid : Type 0) (look : ℕ → Option Row) (rows : ℕ) (env : List Prototype) : Type 0 where
+  pub valid : Valid
   pub count : rows ≡ distinctIds env
-  pub each : (id : ℕ) → Matches At (getPrototype id env) (lookup t rows id)
+  pub each : (id : ℕ) → Matches At (getPrototype id env) (look id)
+
+-- rows in order, after the reading walk
+abbrev pub Holds : (ℕ → Prototype → Type 0) → List ℕ → ℕ → List Prototype → Type 0
+Holds At t rows env = Represents At (Rows t rows) (lookup t rows) rows env
 
 -- the offset in force against the definition in force, where there is one
 abbrev pub InForce : (ℕ → Prototype → Type 0) → Option Prototype → Row → Type 0

@@ -21,14 +21,14 @@ idAt t i = getD t (3 * i) 0
 abbrev pub rowAt : List ℕ → ℕ → Row
 rowAt t i = offsets (getD t (3 * i + 1) 0) (getD t (3 * i + 2) 0)
 
--- the first of so many rows, from the row i on, whose id word is the id
-unfoldable pub lookupFrom : List ℕ → ℕ → ℕ → ℕ → Option Row
-lookupFrom t i zero id = none
-lookupFrom t i (suc left) id = cond (eqb id (idAt t i)) (some (rowAt t i)) (lookupFrom t (suc i) left id)
+-- the first of so many rows, from the row i on, whose key is the id
+unfoldable pub lookupFrom : (ℕ → ℕ) → (ℕ → Row) → ℕ → ℕ → ℕ → Option Row
+lookupFrom key row i zero id = none
+lookupFrom key row i (suc left) id = cond (eqb id (key i)) (some (row i)) (lookupFrom key row (suc i) left id)
 
 -- the first row among `rows` whose id word is the id
 abbrev pub lookup : List ℕ → ℕ → ℕ → Option Row
-lookup t rows id = lookupFrom t 0 rows id
+lookup t rows id = lookupFrom (idAt t) (rowAt t) 0 rows id
 
 -- What a number of rows means: the words are there, and the ids rise from row to row, so no id has two rows. Callers carry it and never
 -- look into it.

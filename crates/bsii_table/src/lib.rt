@@ -1,34 +1,27 @@
-// The scratch table that a caller lends: three words for each prototype id, (id, offset of the definition in force, offset of the last
-// definition). It may come in with anything in it. A zero id is a valid id, so the number of rows is carried beside the table.
-// The reading walk defines ids; a second walk over an accepted file enters each definition again as it meets it.
+// The scratch table that a caller lends, once a file is read: three words for each prototype id, (id, offset of the definition in force,
+// offset of the last definition). A zero id is a valid id, so the number of rows is carried beside the table. A second walk over the file
+// enters each definition again as it meets it.
 //
 // The rows stand in the order of their ids: a look-up tries the row where ids that are spread evenly would have it, then halves the rows
-// that are left with each id it reads; and the row of a new id moves those of the greater ids up.
+// that are left with each id it reads.
 //
-// `find`, `define` and `enter` require `Rows`, that the rows are in the table and in that order: callers have it from the relation to the
+// `find` and `enter` require `Rows`, that the rows are in the table and in that order: callers have it from the relation to the
 // definitions so far that they carry anyway.
-ghost use Prim.Native.Nat.{_+_, _≤_, _<_};
+ghost use Prim.Native.Nat.{_<_};
 ghost use mathlib.Core.Path.{_≡_};
 ghost use lib.ListN.{length, replicate};
 ghost use Rattle.bsii_table.specs.Rows.{Rows, lookup};
-ghost use Rattle.bsii_table.specs.Table.{foundRow, Locate, Opened, Defines, Enters};
+ghost use Rattle.bsii_table.specs.Table.{foundRow, Locate, Enters};
 
 pub enum Found {
     At { in_force: u32, last: u32 },
     Nothing,
 }
 
-pub enum Defined {
-    // The number of rows now.
-    Rows(usize),
-    // A new id, and no room for its row.
-    Full,
-}
-
-// Where the row of an id starts, or where its row would.
+// Where the row of an id starts.
 enum Slot {
     Row(usize),
-    Free(usize),
+    Missing,
 }
 
 // Where the id would stand if the ids were spread evenly from the first to the last. Only a guess: any row will do.
@@ -68,7 +61,7 @@ fn binary_search(table: &[u32], rows: usize, id: u32) -> Slot
             high = middle;
         }
     }
-    Slot::Free(3 * low)
+    Slot::Missing
 }
 
 fn locate(table: &[u32], rows: usize, id: u32) -> Slot
@@ -84,26 +77,6 @@ fn locate(table: &[u32], rows: usize, id: u32) -> Slot
     binary_search(table, rows, id)
 }
 
-// The words move up by one row, the last one first: of a slice from the opened row on, so that the machine's code is one memmove.
-fn shift_up(part: &mut [u32], count: usize)
-    requires { ⌜ count + 3 ≤ length (now part) ⌝ }
-    ensures { λ _. ⌜ Opened (now (part .entry)) 0 count (now (part .exit)) ⌝ }
-{
-    let mut i = count;
-    while 0 < i {
-        i -= 1;
-        part[i + 3] = part[i];
-    }
-}
-
-// Room for a row at an index: the words from `at` up to `end` move up.
-fn open_row(table: &mut [u32], at: usize, end: usize)
-    requires { ⌜ (at ≤ end) × (end + 3 ≤ length (now table)) ⌝ }
-    ensures { λ _. ⌜ Opened (now (table .entry)) at end (now (table .exit)) ⌝ }
-{
-    shift_up(&mut table[at..], end - at);
-}
-
 // The offsets of an id.
 pub fn find(table: &[u32], rows: usize, id: u32) -> Found
     requires { ⌜ Rows (now table) rows ⌝ }
@@ -114,32 +87,7 @@ pub fn find(table: &[u32], rows: usize, id: u32) -> Found
             in_force: table[at + 1],
             last: table[at + 2],
         },
-        Slot::Free(_) => Found::Nothing,
-    }
-}
-
-// A definition of the id stands at the offset: it is in force, and the last one so far.
-pub fn define(table: &mut [u32], rows: usize, id: u32, offset: u32) -> Defined
-    requires { ⌜ Rows (now table) rows ⌝ }
-    ensures { λ r. ⌜ Defines (now (table .entry)) rows id offset r (now (table .exit)) ⌝ }
-{
-    match locate(table, rows, id) {
-        Slot::Row(row) => {
-            table[row + 1] = offset;
-            table[row + 2] = offset;
-            return Defined::Rows(rows);
-        }
-        Slot::Free(free) => {
-            let end = 3 * rows;
-            if table.len() - end < 3 {
-                return Defined::Full;
-            }
-            open_row(table, free, end);
-            table[free] = id;
-            table[free + 1] = offset;
-            table[free + 2] = offset;
-            return Defined::Rows(rows + 1);
-        }
+        Slot::Missing => Found::Nothing,
     }
 }
 
@@ -153,7 +101,7 @@ pub fn enter(table: &mut [u32], rows: usize, id: u32, offset: u32)
             table[at + 1] = offset;
             return;
         }
-        Slot::Free(_) => return,
+        Slot::Missing => return,
     }
 }
 

@@ -45,7 +45,7 @@ pub fn le_u8(s: &[u8], at: usize) -> Num
 }
 
 // Four bytes that are there.
-fn quad(s: &[u8], at: usize) -> u32
+pub fn quad(s: &[u8], at: usize) -> u32
     requires { ⌜ at + 4 ≤ length (now s) ⌝ }
     ensures { λ r. ⌜ r ≡ littleEndian (take 4 (drop at (now (s .entry)))) ⌝ }
 {

@@ -30,8 +30,10 @@ standard output.
 
 INPUT is save-1 to save-16, a save of so many megabytes, or a hostile file:
 prototypes, falling, names, long-text, arrays, redefinition, redefinitions,
-enums; or one that needs a table of more than 4,096 rows, and gets three words
-for each whole 17 bytes: rows-rising, rows-random, rows-falling.
+enums; or one of 16 MiB that needs a table of more than 4,096 rows, and gets
+three words for each whole 17 bytes: rows-ORDER, prototypes alone, or
+blocks-ORDER, where the ORDER of the ids is rising, falling, random, low-equal,
+high-equal or reversed.
 
 Exit status: 0 if all was measured, 1 if the two texts differ or something
 failed, 2 for bad usage.
@@ -137,7 +139,7 @@ fn input(word: OsString, or_standard_input: bool) -> Result<String, String> {
 #[cfg(test)]
 mod tests {
     use super::*;
-    use crate::hostile::{ALL, LARGER};
+    use crate::hostile::ALL;
 
     fn parsed(words: &[&str]) -> Result<Arguments, String> {
         parse(words.iter().map(OsString::from).collect())
@@ -218,7 +220,8 @@ mod tests {
 
     #[test]
     fn the_usage_names_every_hostile_file() {
-        for (name, ..) in ALL.into_iter().chain(LARGER) {
+        let orders = generate::ids::ORDERS.map(|(name, ..)| name);
+        for name in ALL.into_iter().map(|(name, ..)| name).chain(orders) {
             assert!(USAGE.contains(name), "{name}");
         }
     }

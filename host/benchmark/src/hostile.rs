@@ -1,8 +1,8 @@
 //! Files that are well-formed and as awkward as the format allows. Each has one cause that makes
-//! it so, and a text that fits into memory. Those of `ALL` need at most 4,096 rows, those of
-//! `LARGER` more.
+//! it so, and a text that fits into memory. They need at most 4,096 rows.
 
 use generate::bytes::{array, block, choice, definition, file, floats, prototype, string};
+use generate::ids::smallest;
 use generate::Random;
 
 /// The rows of the table for every file that needs no more.
@@ -12,8 +12,6 @@ pub const SMALLEST: usize = 17;
 
 const SEED: u64 = 21;
 const SIZE: usize = 1_000_000;
-/// Of the files of `LARGER`: falling ids cost the square of their number.
-const LARGER_SIZE: usize = 500_000;
 
 type Maker = fn() -> Vec<u8>;
 
@@ -55,25 +53,7 @@ pub const ALL: Files<8> = [
     ),
 ];
 
-pub const LARGER: Files<3> = [
-    (
-        "rows-rising",
-        "29,410 of the smallest prototypes with rising ids, and two blocks",
-        rows_rising,
-    ),
-    (
-        "rows-random",
-        "29,410 of the smallest prototypes with ids in random order, and two blocks",
-        rows_random,
-    ),
-    (
-        "rows-falling",
-        "29,410 of the smallest prototypes with falling ids, and two blocks",
-        rows_falling,
-    ),
-];
-
-/// Different ids in random order: a new one moves half of the rows that there are, on average.
+/// Different ids in random order.
 fn random_ids(count: usize) -> Vec<u32> {
     let mut random = Random::new(SEED, 0);
     // The low bits make them different.
@@ -86,44 +66,10 @@ fn random_ids(count: usize) -> Vec<u32> {
     ids
 }
 
-/// A new id moves no row.
-fn rising_ids(count: usize) -> Vec<u32> {
-    (1..=count as u32).collect()
-}
-
-/// A new id moves all of the rows that there are.
-fn falling_ids(count: usize) -> Vec<u32> {
-    let mut ids = rising_ids(count);
-    ids.reverse();
-    ids
-}
-
-/// The smallest prototypes, and the smallest block of the first and of the last one.
-fn smallest(ids: &[u32]) -> Vec<u8> {
-    let mut records: Vec<Vec<u8>> = ids.iter().map(|id| prototype(*id, b"", &[])).collect();
-    records.extend([ids[0], ids[ids.len() - 1]].map(|id| block(id, &[])));
-    file(&records)
-}
-
 /// Smaller than the others: with anything else in it, a byte would take less time.
 pub fn falling() -> Vec<u8> {
-    smallest(&falling_ids(ROWS))
-}
-
-/// As many of the smallest prototypes as go into a larger file with its header, two blocks and the
-/// end record.
-const LARGER_ROWS: usize = (LARGER_SIZE - 8 - 2 * 5 - 5) / SMALLEST;
-
-pub fn rows_rising() -> Vec<u8> {
-    smallest(&rising_ids(LARGER_ROWS))
-}
-
-pub fn rows_random() -> Vec<u8> {
-    smallest(&random_ids(LARGER_ROWS))
-}
-
-pub fn rows_falling() -> Vec<u8> {
-    smallest(&falling_ids(LARGER_ROWS))
+    let ids: Vec<u32> = (1..=ROWS as u32).rev().collect();
+    smallest(&ids, &[ids[0], ids[ROWS - 1]])
 }
 
 pub fn prototypes() -> Vec<u8> {
@@ -294,19 +240,6 @@ mod tests {
         assert_eq!((count, blocks), (ROWS, 2));
     }
 
-    #[test]
-    fn larger_files() {
-        for (name, about, make) in LARGER {
-            let bytes = make();
-            assert!((LARGER_SIZE - SMALLEST + 1..=LARGER_SIZE).contains(&bytes.len()));
-            let (prototypes, blocks, _) = counts(&bytes);
-            assert_eq!((prototypes, blocks), (LARGER_ROWS, 2), "{name}");
-            assert!(prototypes > ROWS && bytes == make(), "{name}");
-            assert!(about.starts_with("29,410 "), "{about}");
-        }
-        assert_eq!(LARGER_ROWS, 29_410);
-    }
-
     /// The ids of the smallest prototypes at the front of a file.
     fn ids_in(bytes: &[u8]) -> Vec<u32> {
         bytes[8..]
@@ -316,33 +249,15 @@ mod tests {
             .collect()
     }
 
-    /// How many rows move where a new id takes its place among those in front of it.
-    fn moved(ids: &[u32]) -> usize {
-        let mut rows: Vec<u32> = Vec::new();
-        let mut moved = 0;
-        for id in ids {
-            let at = rows.binary_search(id).expect_err("a new id");
-            moved += rows.len() - at;
-            rows.insert(at, *id);
-        }
-        moved
-    }
-
     #[test]
     fn orders_of_the_ids() {
-        for (make, count) in [(prototypes as Maker, ROWS), (rows_random, LARGER_ROWS)] {
-            let ids = ids_in(&make());
-            assert_eq!(ids.len(), count);
-            within(moved(&ids), count * (count - 1) / 4);
-        }
-        for (make, count) in [(falling as Maker, ROWS), (rows_falling, LARGER_ROWS)] {
-            let ids = ids_in(&make());
-            assert_eq!(ids.len(), count);
-            assert!(ids.windows(2).all(|pair| pair[0] > pair[1]));
-        }
-        let ids = ids_in(&rows_rising());
-        assert_eq!(ids.len(), LARGER_ROWS);
-        assert!(ids.windows(2).all(|pair| pair[0] < pair[1]));
+        let ids = ids_in(&prototypes());
+        assert_eq!(ids.len(), ROWS);
+        let rises = ids.windows(2).filter(|pair| pair[0] < pair[1]).count();
+        within(rises, ROWS / 2);
+        let ids = ids_in(&falling());
+        assert_eq!(ids.len(), ROWS);
+        assert!(ids.windows(2).all(|pair| pair[0] > pair[1]));
     }
 
     #[test]

@@ -1,6 +1,6 @@
 //! The inputs by name.
 
-use crate::{hostile, saves};
+use crate::{hostile, orders, saves};
 
 pub struct Input {
     pub name: String,
@@ -28,12 +28,12 @@ fn save(megabytes: usize) -> Input {
 }
 
 fn hostile() -> impl Iterator<Item = Input> {
-    let all = hostile::ALL.into_iter().chain(hostile::LARGER);
-    all.map(|(name, about, make)| Input {
+    let smaller = hostile::ALL.into_iter().map(|(name, about, make)| Input {
         name: name.into(),
         about: about.into(),
         make: Box::new(make),
-    })
+    });
+    smaller.chain(orders::all())
 }
 
 /// Those of the tables.
@@ -57,7 +57,7 @@ pub fn is_hostile(name: &str) -> bool {
 
 /// One that needs a larger table.
 pub fn is_larger(name: &str) -> bool {
-    hostile::LARGER.iter().any(|(larger, ..)| *larger == name)
+    orders::all().any(|larger| larger.name == name)
 }
 
 /// The one of that name: a save of any size from 1 to 16 MB, or a hostile file.

@@ -7,6 +7,7 @@ mod hostile;
 mod inputs;
 mod machine;
 mod memory;
+mod orders;
 mod plot;
 mod processes;
 mod report;

@@ -31,6 +31,9 @@ const HOSTILE: f64 = 10.0;
 /// but for caches and noise.
 const LINEAR: f64 = 1.25;
 
+/// The longest call on a file with a larger table takes at most so many seconds.
+const LONGEST: f64 = 3.0;
+
 struct Table {
     heads: Vec<&'static str>,
     /// How many columns in front hold words and not numbers.
@@ -262,6 +265,22 @@ fn bar(rows: &[Row]) -> Table {
             }
         }
     }
+    for (call, of) in CALLS {
+        let larger = rows.iter().filter(|row| is_larger(&row.name));
+        let seconds = |row: &Row| of(&row.timed).ours.median;
+        if let Some(longest) = larger.max_by(|a, b| seconds(a).total_cmp(&seconds(b))) {
+            let found = seconds(longest);
+            lines.push(vec![
+                format!(
+                    "{call}, {}, the longest with a larger table: seconds",
+                    longest.name
+                ),
+                format!("at most {LONGEST}"),
+                rounded(found),
+                verdict(found <= LONGEST),
+            ]);
+        }
+    }
     Table {
         heads: vec!["bar", "wanted", "found", ""],
         words: 2,
@@ -379,6 +398,9 @@ mod tests {
         let curved = [row("save-1", 0.01, 1.0), row("save-16", 0.02, 1.0)];
         assert_eq!(verdicts(&curved), ["not met", "not met"]);
         assert!(verdicts(&[row("names", 0.2, 1.0)]).is_empty());
+        let larger = [row("rows-random", 2.9, 1.0), row("blocks-random", 3.1, 1.0)];
+        assert_eq!(verdicts(&larger[..1]), ["met", "met"]);
+        assert_eq!(verdicts(&larger), ["not met", "not met"]);
     }
 
     #[test]
@@ -408,7 +430,7 @@ mod tests {
             sections.into_iter().map(|(title, _)| title).collect()
         };
         let larger = || row("rows-random", 0.3, 1.0);
-        assert_eq!(titles(&[larger()]), ["Inputs", "Larger tables"]);
+        assert_eq!(titles(&[larger()]), ["Inputs", "The bar", "Larger tables"]);
         assert_eq!(
             titles(&[row("names", 0.2, 1.0)]),
             ["Inputs", "Times", "Peak memory"]
@@ -418,7 +440,8 @@ mod tests {
                 .lines
                 .iter()
                 .any(|line| line[0].contains("rows-random"));
-            assert_eq!(found, ["Inputs", "Larger tables"].contains(&title));
+            let wanted = ["Inputs", "The bar", "Larger tables"];
+            assert_eq!(found, wanted.contains(&title));
         }
         let shown = markdown(&[larger()], 1);
         assert!(shown.contains("\n### Larger tables\n\n| input | call | bytes | table, rows |"));

@@ -3,6 +3,7 @@
 pub mod bytes;
 mod corners;
 mod damage;
+pub mod ids;
 mod random;
 pub mod save;
 mod short;

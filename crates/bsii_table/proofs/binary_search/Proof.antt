@@ -3,7 +3,7 @@ use Prim.Native.Nat.{_+_, _-_, _/_}
 use mathlib.Core.Path.{refl}
 use native.Mathlib.Omega.{arith}
 use denote.Ref.{now}
-use Rattle.bsii_table.proofs.Laws.{Bracket, bracket-all, bracket-up, bracket-down, bracket-free}
+use Rattle.bsii_table.proofs.Search.{Bracket, bracket-all, bracket-up, bracket-down, bracket-none}
 use Rattle.bsii_table.proofs.binary_search.Statement.{statement}
 use Rattle.bsii_table.proofs.binary_search.Tie as tie
 
@@ -58,11 +58,8 @@ loop-again-2 c =
     let x = c .before .before .before .before in
     bracket-down (x .before .pre) (x .loop .inv) _ (omega arith) (omega arith) (omega arith)
 
-mul-t14 : tie.Need-mul-t14 Inv-loop μ-loop
-mul-t14 c = omega arith
-
 returns-2 : tie.Need-returns-2 Inv-loop μ-loop
-returns-2 c = bracket-free (c .before .loop .inv) (c .loop-test .left)
+returns-2 c = bracket-none (c .before .loop .inv) (c .loop-test .left)
 
 pub binary-search-spec : {M : Type 1} → statement M
 binary-search-spec =
@@ -83,5 +80,4 @@ binary-search-spec =
     loop-again
     loop-less-2
     loop-again-2
-    mul-t14
     returns-2)

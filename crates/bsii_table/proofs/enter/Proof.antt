@@ -4,7 +4,7 @@ use native.Mathlib.Omega.{arith}
 use lib.ListN.{length}
 use denote.Ref.{now}
 use borrow.Author.Needs.{needs}
-use Rattle.bsii_table.proofs.Laws.{row-ends, row-entered, free-entered}
+use Rattle.bsii_table.proofs.Laws.{row-ends, row-entered, missing-entered}
 use Rattle.bsii_table.proofs.enter.Statement.{statement}
 use Rattle.bsii_table.proofs.enter.Tie as tie
 use Rattle.bsii_table.proofs.enter.Reads as reads
@@ -50,7 +50,7 @@ same-length-2 c = search needs
 returns-2 : tie.Need-returns-2
 returns-2 c =
     let a = c .before .before .before .before .before in
-    free-entered (a .pre) (a .args .id) (c .enum-told .given .1) (c .before .before .locate .ensures) (a .args .offset)
+    missing-entered (a .pre) (a .args .id) (c .enum-told .given .1) (c .before .before .locate .ensures) (a .args .offset)
 
 pub enter-spec : {M : Type 1} → statement M
 enter-spec =

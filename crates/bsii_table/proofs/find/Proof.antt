@@ -5,7 +5,7 @@ use mathlib.Core.Path.{sym}
 use lib.ListN.{length}
 use denote.Ref.{now}
 use borrow.Author.Needs.{needs}
-use Rattle.bsii_table.proofs.Laws.{row-ends, row-found, free-misses}
+use Rattle.bsii_table.proofs.Laws.{row-ends, row-found, missing-found}
 use Rattle.bsii_table.proofs.find.Statement.{statement}
 use Rattle.bsii_table.proofs.find.Tie as tie
 use Rattle.bsii_table.proofs.find.Reads as reads
@@ -54,7 +54,7 @@ returns c =
 returns-2 : tie.Need-returns-2
 returns-2 c =
     let a = c .before .before .before .before in
-    sym (free-misses (a .pre) (a .args .id) (c .enum-told .given .1) (c .before .before .locate .ensures))
+    sym (missing-found (a .pre) (a .args .id) (c .enum-told .given .1) (c .before .before .locate .ensures))
 
 pub find-spec : {M : Type 1} → statement M
 find-spec =

@@ -4,7 +4,7 @@ use native.Mathlib.Nat.{mul-le-mul, mul-le-mul-right, div-le-of-le-mul}
 use native.Mathlib.Omega.{arith}
 use denote.Ref.{now}
 use Rattle.bsii_table.specs.Rows.{idAt}
-use Rattle.bsii_table.proofs.Laws.{id-from}
+use Rattle.bsii_table.proofs.Search.{id-from}
 use borrow.Author.Needs.{needs}
 use Rattle.bsii_table.proofs.likely_row.Statement.{statement}
 use Rattle.bsii_table.proofs.likely_row.Tie as tie

@@ -1,49 +1,45 @@
-use mathlib.Core.Path.{sym, ap, _∙_}
-use denote.Ref.{now}
-use native.Mathlib.Omega.{arith}
-use Rattle.bsii_prototype.specs.Answers.{headerIs}
-use Rattle.bsii_parse.proofs.Whole.{file-long, header-fault, header-long, file-walked}
+-- `bsii_parser` meets its contract: the tree that was read, in order.
 use borrow.Author.Needs.{needs}
+use Rattle.bsii_parse.proofs.Whole.{tree-linked, tree-ordered, tree-stopped}
 use Rattle.bsii_parse.proofs.reading.bsii_parser.Statement.{statement}
 use Rattle.bsii_parse.proofs.reading.bsii_parser.Tie as tie
 
-refused-requires : tie.Need-refused-requires
-refused-requires c κs = search needs
+tree-parser-requires : tie.Need-tree-parser-requires
+tree-parser-requires c κs = search needs
 
-returns : tie.Need-returns
-returns c = let a = c .before .before .before .before .args in rw (c .refused .ensures) (file-long (now (a .file)) (now (a .table)) (c .before .if1 .taken))
+enum-known-walked : tie.Need-enum-known-walked
+enum-known-walked c = search needs
 
-header-parser-requires : tie.Need-header-parser-requires
-header-parser-requires c κs = search needs
-
-enum-known-header : tie.Need-enum-known-header
-enum-known-header c = search needs
-
-returns-2 : tie.Need-returns-2
-returns-2 c = let a = c .before .before .before .before .before .before .before .args in header-fault (now (a .file)) (now (a .table)) (omega (arith, c .before .before .before .before .if1 .left)) (sym (c .before .before .before .header-parser .ensures) ∙ ap (headerIs (now (a .file))) (c .before .header .given .1))
-
-enum-told : tie.Need-enum-told
-enum-told c = search needs
-
-walk-requires : tie.Need-walk-requires
-walk-requires c κs = let a = c .before .before .before .before .before .before .before .args in (omega (arith, c .before .before .before .before .if1 .left), header-long (now (a .file)) (now (a .table)) (omega (arith, c .before .before .before .before .if1 .left)) (sym (c .before .before .before .header-parser .ensures) ∙ ap (headerIs (now (a .file))) (c .before .enum-told .given .1)))
+order-requires : tie.Need-order-requires
+order-requires c κs = let told = c .before .before in tree-linked (told .walked .given .1) (told .before .before .before .before .tree-parser .ensures)
 
 same-length : tie.Need-same-length
 same-length c = search needs
 
-returns-3 : tie.Need-returns-3
-returns-3 c = let a = c .before .before .before .before .before .before .before .before .before .before .args in file-walked (now (a .file)) (now (a .table)) (omega (arith, c .before .before .before .before .before .before .before .if1 .left)) (sym (c .before .before .before .before .before .before .header-parser .ensures) ∙ ap (headerIs (now (a .file))) (c .before .before .before .before .enum-told .given .1)) (c .before .before .walk .ensures)
+returns : tie.Need-returns
+returns c =
+    let ordered = c .before .before in
+    let told = ordered .before .before .before in
+    tree-ordered (told .walked .given .1) (told .before .before .before .before .tree-parser .ensures) (ordered .order .ensures)
+
+enum-known-walked-2 : tie.Need-enum-known-walked-2
+enum-known-walked-2 c = search needs
+
+same-length-2 : tie.Need-same-length-2
+same-length-2 c = search needs
+
+returns-2 : tie.Need-returns-2
+returns-2 c = tree-stopped (c .before .walked2 .given .1) (c .before .before .before .before .before .tree-parser .ensures)
 
 pub bsii-parser-spec : {M : Type 1} → statement M
 bsii-parser-spec =
     tie.close
     (tie.spec
-    refused-requires
-    returns
-    header-parser-requires
-    enum-known-header
-    returns-2
-    enum-told
-    walk-requires
+    tree-parser-requires
+    enum-known-walked
+    order-requires
     same-length
-    returns-3)
+    returns
+    enum-known-walked-2
+    same-length-2
+    returns-2)

@@ -6,8 +6,8 @@ use borrow.Author.Needs.{needs}
 use Rattle.bsii_parse.proofs.reading.parse.Statement.{statement}
 use Rattle.bsii_parse.proofs.reading.parse.Tie as tie
 
-bsii-parser-requires : tie.Need-bsii-parser-requires
-bsii-parser-requires c κs = search needs
+tree-parser-requires : tie.Need-tree-parser-requires
+tree-parser-requires c κs = search needs
 
 clear-requires : tie.Need-clear-requires
 clear-requires c κs = search needs
@@ -24,7 +24,7 @@ same-length c = search needs
 returns : tie.Need-returns
 unfolding reported
 returns c =
-    let r = c .before .before .before .before .before .before .before .before .before .bsii-parser .ensures in
+    let r = c .before .before .before .before .before .before .before .before .before .tree-parser .ensures in
     (ap (λ z. readingIs (reported z)) (sym (c .before .walked .given .1)) ∙ read-answer r, c .before .before .before .before .before .clear .ensures ∙ ap (λ n. replicate n 0) (read-size r))
 
 same-length-2 : tie.Need-same-length-2
@@ -33,14 +33,14 @@ same-length-2 c = search needs
 returns-2 : tie.Need-returns-2
 unfolding reported
 returns-2 c =
-    let r = c .before .before .before .before .before .before .before .before .before .bsii-parser .ensures in
+    let r = c .before .before .before .before .before .before .before .before .before .tree-parser .ensures in
     (ap (λ z. readingIs (reported z)) (sym (c .before .walked2 .given .1)) ∙ read-answer r, c .before .before .before .before .before .clear .ensures ∙ ap (λ n. replicate n 0) (read-size r))
 
 pub parse-spec : {M : Type 1} → statement M
 parse-spec =
     tie.close
     (tie.spec
-    bsii-parser-requires
+    tree-parser-requires
     clear-requires
     enum-known-walked
     enum-known-walked-2

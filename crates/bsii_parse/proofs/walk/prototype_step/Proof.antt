@@ -20,7 +20,9 @@ word-requires : tie.Need-word-requires
 word-requires c κs = search needs
 
 define-requires : tie.Need-define-requires
-define-requires c κs = search needs
+define-requires c κs =
+    let a = c .before .before .before .before .before .before .before .before in
+    (a .pre .0 .rows, rw (c .word .ensures) (a .pre .1))
 
 enum-told : tie.Need-enum-told
 enum-told c = search needs

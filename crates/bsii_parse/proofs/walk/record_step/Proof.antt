@@ -1,3 +1,7 @@
+use mathlib.Core.Path.{sym, ap, _∙_}
+use denote.Ref.{now}
+use Rattle.bsii_prototype.specs.Answers.{headIs}
+use Rattle.bsii_parse.proofs.Tables.{named-at}
 use Rattle.bsii_parse.proofs.Passing.{stepped-end, stepped-bad, stepped-defining, stepped-carrying}
 use borrow.Author.Needs.{needs}
 use Rattle.bsii_parse.proofs.walk.record_step.Statement.{statement}
@@ -22,7 +26,11 @@ enum-known-head-3 : tie.Need-enum-known-head-3
 enum-known-head-3 c = search needs
 
 prototype-step-requires : tie.Need-prototype-step-requires
-prototype-step-requires c κs = search needs
+prototype-step-requires c κs =
+    let told = c .before .before in
+    let parsed = told .before .before in
+    let a = parsed .before .before .before in
+    (a .pre, named-at (a .pre) (sym (parsed .head-parser .ensures) ∙ ap (headIs (now (a .args .s))) (told .head3 .given .1)))
 
 same-length : tie.Need-same-length
 same-length c = search needs

@@ -1,0 +1,5 @@
+pub mod Swaps
+pub mod Moves
+pub mod Partitions
+pub mod Sorting
+pub mod Rows

@@ -1,0 +1,49 @@
+use mathlib.Core.Path.{sym, ap, _∙_}
+use denote.Ref.{now}
+use native.Mathlib.Omega.{arith}
+use Rattle.bsii_prototype.specs.Answers.{headerIs}
+use Rattle.bsii_parse.proofs.Whole.{file-long, header-fault, header-long, file-walked}
+use borrow.Author.Needs.{needs}
+use Rattle.bsii_parse.proofs.reading.tree_parser.Statement.{statement}
+use Rattle.bsii_parse.proofs.reading.tree_parser.Tie as tie
+
+refused-requires : tie.Need-refused-requires
+refused-requires c κs = search needs
+
+returns : tie.Need-returns
+returns c = let a = c .before .before .before .before .args in rw (c .refused .ensures) (file-long (now (a .file)) (now (a .table)) (c .before .if1 .taken))
+
+header-parser-requires : tie.Need-header-parser-requires
+header-parser-requires c κs = search needs
+
+enum-known-header : tie.Need-enum-known-header
+enum-known-header c = search needs
+
+returns-2 : tie.Need-returns-2
+returns-2 c = let a = c .before .before .before .before .before .before .before .args in header-fault (now (a .file)) (now (a .table)) (omega (arith, c .before .before .before .before .if1 .left)) (sym (c .before .before .before .header-parser .ensures) ∙ ap (headerIs (now (a .file))) (c .before .header .given .1))
+
+enum-told : tie.Need-enum-told
+enum-told c = search needs
+
+walk-requires : tie.Need-walk-requires
+walk-requires c κs = let a = c .before .before .before .before .before .before .before .args in (omega (arith, c .before .before .before .before .if1 .left), header-long (now (a .file)) (now (a .table)) (omega (arith, c .before .before .before .before .if1 .left)) (sym (c .before .before .before .header-parser .ensures) ∙ ap (headerIs (now (a .file))) (c .before .enum-told .given .1)))
+
+same-length : tie.Need-same-length
+same-length c = search needs
+
+returns-3 : tie.Need-returns-3
+returns-3 c = let a = c .before .before .before .before .before .before .before .before .before .before .args in file-walked (now (a .file)) (now (a .table)) (omega (arith, c .before .before .before .before .before .before .before .if1 .left)) (sym (c .before .before .before .before .before .before .header-parser .ensures) ∙ ap (headerIs (now (a .file))) (c .before .before .before .before .enum-told .given .1)) (c .before .before .walk .ensures)
+
+pub tree-parser-spec : {M : Type 1} → statement M
+tree-parser-spec =
+    tie.close
+    (tie.spec
+    refused-requires
+    returns
+    header-parser-requires
+    enum-known-header
+    returns-2
+    enum-told
+    walk-requires
+    same-length
+    returns-3)
