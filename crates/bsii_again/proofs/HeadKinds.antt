@@ -15,10 +15,10 @@ use Rattle.bsii_format.specs.File.{Head, ending, defining, carrying, markParser
 use Rattle.bsii_format.proofs.Readers.{fault≢ok, ok-val, ok-at, ok-rest, after-ok, cond-ok}
 use Rattle.bsii_format.proofs.Parsers.{number-exact}
 use Rattle.bsii_format.proofs.Positions.{moved}
-use Rattle.bsii_value.specs.Answers.{faultIs, numOf}
-use Rattle.bsii_value.specs.declared.answers.Num.{Num}
-use Rattle.bsii_value.specs.declared.answers.Num.the-variants.{Got, Short}
-use Rattle.bsii_value.specs.declared.answers.Refusal.{Refusal}
+use Rattle.bsii_string.specs.Answers.{faultIs, numOf}
+use Rattle.bsii_string.specs.declared.answers.Num.{Num}
+use Rattle.bsii_string.specs.declared.answers.Num.the-variants.{Got, Short}
+use Rattle.bsii_string.specs.declared.answers.Refusal.{Refusal}
 use Rattle.bsii_prototype.specs.Entries.{markedParser}
 use Rattle.bsii_again.specs.Again.{kindOf, KindAt, MarkAt}
 use Rattle.bsii_again.specs.declared.records.Kind.{Kind}

@@ -10,11 +10,11 @@ use Rattle.bsii_format.specs.Strings.{idParser}
 use Rattle.bsii_format.specs.Prototypes.{Prototype, Fields, fieldsParser}
 use Rattle.bsii_format.specs.Blocks.{DataValue, DataBlock, getPrototype, dataValuesParser}
 use Rattle.bsii_format.specs.File.{Record, prototype, block, Head, ending, defining, carrying, headParser, end, more, recordParser}
-use Rattle.bsii_value.specs.Answers.{endOf, uncheckedStr}
-use Rattle.bsii_value.specs.declared.answers.Parsed.{Parsed}
-use Rattle.bsii_value.specs.declared.answers.Refusal.{Refusal}
-use Rattle.bsii_value.specs.declared.answers.Parsed.the-variants.{Next, Fault}
-use Rattle.bsii_value.proofs.Ends.{next≢fault, next-same}
+use Rattle.bsii_string.specs.Answers.{endOf, uncheckedStr}
+use Rattle.bsii_string.specs.declared.answers.Parsed.{Parsed}
+use Rattle.bsii_string.specs.declared.answers.Refusal.{Refusal}
+use Rattle.bsii_string.specs.declared.answers.Parsed.the-variants.{Next, Fault}
+use Rattle.bsii_string.proofs.Ends.{next≢fault, next-same}
 use Rattle.bsii_prototype.specs.Entries.{uncheckedHead, fieldsWith}
 use Rattle.bsii_prototype.specs.Answers.{countOf}
 use Rattle.bsii_prototype.specs.declared.answers.Counted.{Counted}

@@ -1,7 +1,7 @@
 // Names of prototypes.
 use bsii_prototype::heads::tag;
 use bsii_prototype::past::fields_at;
-use bsii_value::answers::Parsed;
+use bsii_string::answers::Parsed;
 ghost use Rattle.bsii_again.specs.Again.{NameIs};
 
 // Whether the prototype at the offset has this name, which stands behind a u32 zero, the byte 1, the u32 id and its u32 length.

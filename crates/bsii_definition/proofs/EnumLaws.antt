@@ -16,12 +16,12 @@ use Rattle.bsii_format.specs.Text.{firstSome, enumString}
 use Rattle.bsii_format.proofs.Readers.{after-ok, fault≢ok, ok-val, ok-at, ok-rest}
 use Rattle.bsii_format.proofs.Parsers.{enumValue-exact}
 use Rattle.bsii_format.proofs.Positions.{moved, bind-fault, bind-ok}
-use Rattle.bsii_value.specs.Answers.{endOf, uncheckedStr}
-use Rattle.bsii_value.specs.declared.answers.Refusal.{Refusal}
-use Rattle.bsii_value.specs.declared.answers.Parsed.{Parsed}
-use Rattle.bsii_value.specs.declared.answers.Parsed.the-variants.{Next, Fault}
-use Rattle.bsii_value.proofs.Ends.{next≢fault, next-same}
-use Rattle.bsii_value.proofs.Texts.{str-past-next}
+use Rattle.bsii_string.specs.Answers.{endOf, uncheckedStr}
+use Rattle.bsii_string.specs.declared.answers.Refusal.{Refusal}
+use Rattle.bsii_string.specs.declared.answers.Parsed.{Parsed}
+use Rattle.bsii_string.specs.declared.answers.Parsed.the-variants.{Next, Fault}
+use Rattle.bsii_string.proofs.Ends.{next≢fault, next-same}
+use Rattle.bsii_string.proofs.Texts.{str-past-next}
 use Rattle.bsii_prototype.specs.Entries.{enumValuesWith}
 use Rattle.bsii_prototype.proofs.Unchecked.{checked-enum-value, checked-enum-values}
 use Rattle.bsii_prototype.proofs.Names.{checked, unchecked, named}

@@ -9,7 +9,7 @@ use lib.Dec.{eqb, eqb·suc-zero, eqb·zero-suc, eqb·suc-suc}
 use lib.ListN.{length, take, drop}
 use Rattle.bsii_format.specs.Reader.{ok, Consumed, with}
 use Rattle.bsii_format.specs.Prototypes.{ValuePrototype, Fields, fieldsParser}
-use Rattle.bsii_value.specs.Answers.{uncheckedStr}
+use Rattle.bsii_string.specs.Answers.{uncheckedStr}
 use Rattle.bsii_prototype.specs.Entries.{entryWith}
 use Rattle.bsii_prototype.specs.Answers.{entryOf}
 use Rattle.bsii_prototype.specs.declared.answers.Entry.{Entry}

@@ -1,8 +1,8 @@
 // The string of an enum value.
-use bsii_value::answers::Num;
-use bsii_value::answers::Parsed;
-use bsii_value::numbers::le_u32;
-use bsii_value::strings::str_past;
+use bsii_string::answers::Num;
+use bsii_string::answers::Parsed;
+use bsii_string::numbers::le_u32;
+use bsii_string::strings::str_past;
 ghost use mathlib.Core.Path.{_≡_};
 ghost use Rattle.bsii_definition.specs.Enums.{PairAt, later, LastPair, StringOf};
 

@@ -19,16 +19,16 @@ use Rattle.bsii_format.specs.Calls.{dString, dId, numericDatum, datumOf, datum,
 use Rattle.bsii_format.proofs.Readers.{after-ok, map-ok, cond-ok, ok-val, ok-at, map-fault}
 use Rattle.bsii_format.proofs.Parsers.{element-exact, id-exact}
 use Rattle.bsii_format.proofs.Positions.{ended, ended-ok, ended-fault, moved, step, moved-on, map-value, ended-consumed}
-use Rattle.bsii_value.specs.Answers.{faultIs, endOf}
-use Rattle.bsii_value.specs.declared.answers.Refusal.{Refusal}
-use Rattle.bsii_value.specs.declared.answers.Parsed.{Parsed}
-use Rattle.bsii_value.specs.declared.answers.Parsed.the-variants.{Next, Fault}
-use Rattle.bsii_value.proofs.Ends.{next≢fault, next-same, fault-at}
+use Rattle.bsii_string.specs.Answers.{faultIs, endOf}
+use Rattle.bsii_string.specs.declared.answers.Refusal.{Refusal}
+use Rattle.bsii_string.specs.declared.answers.Parsed.{Parsed}
+use Rattle.bsii_string.specs.declared.answers.Parsed.the-variants.{Next, Fault}
+use Rattle.bsii_string.proofs.Ends.{next≢fault, next-same, fault-at}
 use Rattle.bsii_value.proofs.Elements.{one-end}
 use Rattle.bsii_past.specs.Unchecked.{uncheckedElement}
 use Rattle.bsii_past.proofs.Values.{elements-same}
-use Rattle.bsii_value.specs.NumbersAt.{numberAt, numbersAt}
-use Rattle.bsii_value.proofs.NumbersAt.{number-moves, number-is, numbers-from, row-length}
+use Rattle.bsii_string.specs.NumbersAt.{numberAt, numbersAt}
+use Rattle.bsii_string.proofs.NumbersAt.{number-moves, number-is, numbers-from, row-length}
 use Rattle.bsii_element.specs.Decoded.{decoded}
 use Rattle.bsii_element.proofs.Ended.{next-ok}
 use Rattle.bsii_element.proofs.Standing.{standing, absent-past, extent, at-offset}

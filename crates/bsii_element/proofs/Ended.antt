@@ -3,10 +3,10 @@ use mathlib.Core.Path.{_≡_, ap}
 use Prim.Native.Nat.{ℕ}
 use mathlib.Core.List.{List}
 use Rattle.bsii_format.specs.Reader.{Result, ok, fault}
-use Rattle.bsii_value.specs.Answers.{endOf}
-use Rattle.bsii_value.specs.declared.answers.Parsed.{Parsed}
-use Rattle.bsii_value.specs.declared.answers.Parsed.the-variants.{Next}
-use Rattle.bsii_value.proofs.Ends.{next≢fault}
+use Rattle.bsii_string.specs.Answers.{endOf}
+use Rattle.bsii_string.specs.declared.answers.Parsed.{Parsed}
+use Rattle.bsii_string.specs.declared.answers.Parsed.the-variants.{Next}
+use Rattle.bsii_string.proofs.Ends.{next≢fault}
 
 -- a result that ends there was accepted
 pub next-ok : {A : Type 0} (q : Result A) {n : ℕ} → Next n ≡ endOf q → (a : A) × (r : List ℕ) × (q ≡ ok a n r)

@@ -9,7 +9,7 @@ use Rattle.bsii_format.specs.Reader.{ok, Reader, Consumed, consumed, repeat}
 use Rattle.bsii_format.specs.Calls.{Placed, placed}
 use Rattle.bsii_format.proofs.Readers.{Exact}
 use Rattle.bsii_format.proofs.Positions.{step, ended, repeat-none, repeat-step}
-use Rattle.bsii_value.proofs.NumbersAt.{split}
+use Rattle.bsii_string.proofs.NumbersAt.{split}
 
 abbrev pub at-offset : {A : Type 0} → ℕ → A → Placed A
 at-offset p x = record { offset = p; it = x }

@@ -2,7 +2,7 @@
 use Rattle.bsii_format.specs.Replies.{Reply, gives, refuses}
 use Rattle.bsii_format.specs.Numbers.{signed}
 use Rattle.bsii_format.specs.Calls.{Datum, dString, dEncodedString, dFloat, dFloatVec2, dFloatVec3, dFloatVec4, dFloatVec8, dInt32, dInt32Vec3, dUInt32, dUInt16, dInt64, dUInt64, dBool, dEnum, dId}
-use Rattle.bsii_value.specs.Answers.{faultIs}
+use Rattle.bsii_string.specs.Answers.{faultIs}
 use Rattle.bsii_float.specs.declared.floats.Bits3.{Bits3}
 use Rattle.bsii_element.specs.declared.answers.Int3.{Int3}
 use Rattle.bsii_element.specs.declared.answers.Element.{Element}

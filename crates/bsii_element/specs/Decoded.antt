@@ -8,8 +8,8 @@ use Rattle.bsii_format.specs.Reader.{Result, ok, fault}
 use Rattle.bsii_format.specs.Types.{Kind, many}
 use Rattle.bsii_format.specs.Values.{Element, shapeParser}
 use Rattle.bsii_format.specs.Calls.{Datum, datumOf, ofValue}
-use Rattle.bsii_value.specs.Answers.{endOf}
-use Rattle.bsii_value.specs.declared.answers.Parsed.the-variants.{Next}
+use Rattle.bsii_string.specs.Answers.{endOf}
+use Rattle.bsii_string.specs.declared.answers.Parsed.the-variants.{Next}
 
 -- the element that was read at a position, or its fault
 unfoldable pub decoded : ℕ → Result Element → Reply Datum

@@ -3,7 +3,7 @@ use bsii_float::floats::Placement;
 use bsii_float::floats::Vec2;
 use bsii_float::floats::Vec3;
 use bsii_float::floats::Vec4;
-use bsii_value::answers::Refusal;
+use bsii_string::answers::Refusal;
 
 pub struct Int3 {
     pub a: i32,

@@ -9,8 +9,8 @@ use Rattle.bsii_format.specs.Reader.{fault, after, _>>=_, _<$>_, fail, bytes, r
 use Rattle.bsii_format.specs.Numbers.{number}
 use Rattle.bsii_format.specs.Types.{float, floatVec2, floatVec3, floatVec4, floatVec8, int32, int32Vec3, uint32, uint16, int64, uint64, bool, enum, width, arity, Kind, numbers, string, encodedString, id, Shape, one, many, shapeOf}
 use Rattle.bsii_format.proofs.Positions.{moved-on}
-use Rattle.bsii_value.specs.Answers.{endOf, uncheckedStr}
-use Rattle.bsii_value.specs.declared.answers.Parsed.the-variants.{Next}
+use Rattle.bsii_string.specs.Answers.{endOf, uncheckedStr}
+use Rattle.bsii_string.specs.declared.answers.Parsed.the-variants.{Next}
 use Rattle.bsii_prototype.proofs.Entries.{next-is}
 use Rattle.bsii_past.specs.Unchecked.{skip, uncheckedId, uncheckedElement, uncheckedArray, uncheckedShape, uncheckedValue}
 use Rattle.bsii_past.proofs.Exact.{unchecked-element-exact, unchecked-value-exact}

@@ -16,11 +16,11 @@ use Rattle.bsii_format.specs.Prototypes.{ValuePrototype}
 use Rattle.bsii_format.proofs.Readers.{after-ok, ok-val}
 use Rattle.bsii_format.proofs.Parsers.{number-exact}
 use Rattle.bsii_format.proofs.Positions.{moved, moved-on}
-use Rattle.bsii_value.specs.Answers.{uncheckedStr}
+use Rattle.bsii_string.specs.Answers.{uncheckedStr}
 use Rattle.bsii_prototype.specs.Entries.{enumValuesWith, definitionWith, entryWith}
 use Rattle.bsii_prototype.specs.Answers.{entryOf}
 use Rattle.bsii_prototype.specs.declared.answers.Entry.{Entry}
-use Rattle.bsii_value.specs.declared.answers.Refusal.{Refusal}
+use Rattle.bsii_string.specs.declared.answers.Refusal.{Refusal}
 use Rattle.bsii_prototype.specs.declared.answers.Entry.the-variants.{Field, Last, Bad}
 use Rattle.bsii_prototype.proofs.answers.Entry.{the-type}
 use Rattle.bsii_prototype.proofs.Names.{named, unchecked, number-front}

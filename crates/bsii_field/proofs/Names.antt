@@ -14,10 +14,10 @@ use Rattle.bsii_format.specs.Reader.{ok, same, Consumed, with}
 use Rattle.bsii_format.specs.Prototypes.{ValuePrototype, Fields, consField, fieldsParser}
 use Rattle.bsii_format.specs.Calls.{fieldIndex}
 use Rattle.bsii_format.proofs.Readers.{is-true, is-false, same→eq, same-refl}
-use Rattle.bsii_value.specs.Answers.{uncheckedStr}
+use Rattle.bsii_string.specs.Answers.{uncheckedStr}
 use Rattle.bsii_prototype.specs.Entries.{entryWith}
 use Rattle.bsii_prototype.specs.Answers.{entryOf}
-use Rattle.bsii_value.specs.declared.answers.Refusal.{Refusal}
+use Rattle.bsii_string.specs.declared.answers.Refusal.{Refusal}
 use Rattle.bsii_prototype.specs.declared.answers.Entry.the-variants.{Field, Last, Bad}
 use Rattle.bsii_prototype.proofs.Turns.{turn-field, turn-last, turn-bad}
 use Rattle.bsii_field.specs.declared.Index.{Index}

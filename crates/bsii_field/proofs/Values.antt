@@ -11,13 +11,13 @@ use Rattle.bsii_format.specs.Prototypes.{Fields, consField, fieldsParser}
 use Rattle.bsii_format.specs.Blocks.{DataValue, dataValuesParser}
 use Rattle.bsii_format.specs.Calls.{Placed, placed, fieldAnswer}
 use Rattle.bsii_format.proofs.Records.{value-good}
-use Rattle.bsii_value.specs.Answers.{endOf, uncheckedStr}
-use Rattle.bsii_value.specs.declared.answers.Parsed.{Parsed}
-use Rattle.bsii_value.specs.declared.answers.Parsed.the-variants.{Next, Fault}
+use Rattle.bsii_string.specs.Answers.{endOf, uncheckedStr}
+use Rattle.bsii_string.specs.declared.answers.Parsed.{Parsed}
+use Rattle.bsii_string.specs.declared.answers.Parsed.the-variants.{Next, Fault}
 use Rattle.bsii_prototype.specs.Entries.{entryWith}
 use Rattle.bsii_prototype.specs.Answers.{entryOf}
-use Rattle.bsii_value.specs.declared.answers.Refusal.{Refusal}
-use Rattle.bsii_value.proofs.Ends.{next≢fault, next-same}
+use Rattle.bsii_string.specs.declared.answers.Refusal.{Refusal}
+use Rattle.bsii_string.proofs.Ends.{next≢fault, next-same}
 use Rattle.bsii_prototype.specs.declared.answers.Entry.the-variants.{Field, Last, Bad}
 use Rattle.bsii_prototype.proofs.Turns.{FieldTurn, turn-field, turn-last, turn-bad}
 use Rattle.bsii_past.specs.Unchecked.{uncheckedValue}

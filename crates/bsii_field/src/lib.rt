@@ -5,7 +5,7 @@
 use bsii_past::value_past;
 use bsii_prototype::answers::Entry;
 use bsii_prototype::past::value_prototype_past;
-use bsii_value::answers::Parsed;
+use bsii_string::answers::Parsed;
 ghost use Rattle.bsii_field.specs.Answers.{IndexOf, ValueAt};
 
 // The position of a definition, from 0.

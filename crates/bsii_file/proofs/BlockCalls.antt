@@ -18,13 +18,13 @@ use Rattle.bsii_format.specs.Calls.{Placed, BlockAnswer, blockAnswer, blocksOf,
 use Rattle.bsii_format.specs.BlockText.{orRefuse}
 use Rattle.bsii_format.proofs.Readers.{after-ok, ok-val}
 use Rattle.bsii_format.proofs.Positions.{moved}
-use Rattle.bsii_value.specs.Answers.{refusedAt, endOf}
-use Rattle.bsii_value.specs.NumbersAt.{numberAt}
-use Rattle.bsii_value.specs.declared.answers.Parsed.{Parsed}
-use Rattle.bsii_value.specs.declared.answers.Refusal.{Refusal}
-use Rattle.bsii_value.specs.declared.answers.Parsed.the-variants.{Next, Fault}
-use Rattle.bsii_value.proofs.Ends.{next≢fault, next-same}
-use Rattle.bsii_value.proofs.NumbersAt.{number-is}
+use Rattle.bsii_string.specs.Answers.{refusedAt, endOf}
+use Rattle.bsii_string.specs.NumbersAt.{numberAt}
+use Rattle.bsii_string.specs.declared.answers.Parsed.{Parsed}
+use Rattle.bsii_string.specs.declared.answers.Refusal.{Refusal}
+use Rattle.bsii_string.specs.declared.answers.Parsed.the-variants.{Next, Fault}
+use Rattle.bsii_string.proofs.Ends.{next≢fault, next-same}
+use Rattle.bsii_string.proofs.NumbersAt.{number-is}
 use Rattle.bsii_prototype.proofs.Entries.{next-is}
 use Rattle.bsii_past.specs.Unchecked.{uncheckedId}
 use Rattle.bsii_past.proofs.Exact.{unchecked-id-exact}

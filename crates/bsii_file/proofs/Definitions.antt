@@ -10,11 +10,11 @@ use Rattle.bsii_format.specs.Calls.{Placed, prototypeAnswer, prototypesIn, plac
 use Rattle.bsii_format.specs.Replies.{absent}
 use Rattle.bsii_format.specs.BlockText.{orRefuse}
 use Rattle.bsii_format.proofs.Follows.{again}
-use Rattle.bsii_value.specs.Answers.{refusedAt, endOf, uncheckedStr}
-use Rattle.bsii_value.specs.declared.answers.Parsed.{Parsed}
-use Rattle.bsii_value.specs.declared.answers.Refusal.{Refusal}
-use Rattle.bsii_value.specs.declared.answers.Parsed.the-variants.{Next, Fault}
-use Rattle.bsii_value.proofs.Ends.{next≢fault, next-same}
+use Rattle.bsii_string.specs.Answers.{refusedAt, endOf, uncheckedStr}
+use Rattle.bsii_string.specs.declared.answers.Parsed.{Parsed}
+use Rattle.bsii_string.specs.declared.answers.Refusal.{Refusal}
+use Rattle.bsii_string.specs.declared.answers.Parsed.the-variants.{Next, Fault}
+use Rattle.bsii_string.proofs.Ends.{next≢fault, next-same}
 use Rattle.bsii_prototype.specs.Entries.{fieldsWith, uncheckedHead}
 use Rattle.bsii_prototype.specs.Answers.{countOf}
 use Rattle.bsii_prototype.specs.declared.answers.Counted.{Counted}

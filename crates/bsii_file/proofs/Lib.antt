@@ -2,4 +2,3 @@ pub mod Lookups
 pub mod Definitions
 pub mod Rereading
 pub mod BlockCalls
-pub mod FieldCalls

@@ -13,8 +13,8 @@ use Rattle.bsii_format.specs.Prototypes.{Prototype}
 use Rattle.bsii_format.specs.Blocks.{findBy, getPrototype}
 use Rattle.bsii_format.specs.File.{recordBytes, BsiiFile, parse, prototypesOf}
 use Rattle.bsii_format.specs.Calls.{Placed, ofFile, placedRecords, prototypesIn}
-use Rattle.bsii_value.specs.Answers.{faultIs}
-use Rattle.bsii_value.specs.declared.answers.Refusal.{Refusal}
+use Rattle.bsii_string.specs.Answers.{faultIs}
+use Rattle.bsii_string.specs.declared.answers.Refusal.{Refusal}
 use Rattle.bsii_table.specs.Rows.{Row, lookup}
 use Rattle.bsii_table.specs.Table.{foundRow}
 use Rattle.bsii_table.specs.Relation.{Holds}

@@ -11,7 +11,7 @@ use Rattle.bsii_float.specs.declared.floats.Vec4.{Vec4}
 use Rattle.bsii_float.specs.declared.floats.Bits4.{Bits4}
 use Rattle.bsii_float.specs.declared.floats.Placement.{Placement}
 use Rattle.bsii_float.specs.declared.floats.PlacementBits.{PlacementBits}
-use Rattle.bsii_value.specs.NumbersAt.{numberAt}
+use Rattle.bsii_string.specs.NumbersAt.{numberAt}
 
 -- the bits of a float, those given beside for a NaN
 abbrev pub bitsOf : Float → ℕ → ℕ

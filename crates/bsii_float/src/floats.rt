@@ -1,5 +1,5 @@
 // Floats and the values that are made of several of them, each beside its bits.
-use bsii_value::at::u32_at;
+use bsii_string::at::u32_at;
 ghost use mathlib.Core.Path.{_≡_};
 ghost use lib.Ieee.{binary32, ofBits};
 ghost use Rattle.bsii_float.specs.Bits.{bitsOf, vec2Of, vec3Of, vec4Of, placementOf, bits2At, bits3At, bits4At, placementBitsAt};

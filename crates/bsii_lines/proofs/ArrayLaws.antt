@@ -18,7 +18,7 @@ use Rattle.bsii_format.proofs.Readers.{fault≢ok, ok-val, ok-at, map-ok}
 use Rattle.bsii_format.proofs.Parsers.{element-exact}
 use Rattle.bsii_format.proofs.Positions.{step, bind-ok}
 use Rattle.bsii_value.proofs.Elements.{many-short}
-use Rattle.bsii_value.proofs.NumbersAt.{split, row-length}
+use Rattle.bsii_string.proofs.NumbersAt.{split, row-length}
 use Rattle.bsii_definition.specs.Pairs.{Describes}
 use Rattle.bsii_definition.specs.declared.pairs.Definition.{Definition}
 use Rattle.bsii_window.specs.Window.{Wrote}

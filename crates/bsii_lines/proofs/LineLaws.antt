@@ -1,6 +1,6 @@
 -- Lines from their parts.
 use mathlib.Core.Path.{_≡_, refl, sym, ap, _∙_, subst}
-use Prim.Native.Nat.{ℕ, _+_, _-_}
+use Prim.Native.Nat.{ℕ, _-_}
 use native.Mathlib.Omega.{arith}
 use mathlib.Core.Option.{Option, none, some, Option·map}
 use mathlib.Core.List.{List, [], _∷_, _++_, append-assoc}
@@ -8,17 +8,15 @@ use lib.ListN.{length, take, drop}
 use lib.Seq.{take-at}
 use Rattle.bsii_format.specs.Ascii.{ascii}
 use Rattle.bsii_format.specs.Reader.{ok, Reader, WellFormed}
-use Rattle.bsii_format.specs.Digits.{decimal}
 use Rattle.bsii_format.specs.Types.{Kind}
 use Rattle.bsii_format.specs.Values.{Element, elementParser}
 use Rattle.bsii_format.specs.Text.{elementText, indexed, fieldLine}
 use Rattle.bsii_format.proofs.Readers.{Exact, fits-well-formed}
 use Rattle.bsii_format.proofs.Parsers.{element-exact}
-use Rattle.bsii_value.specs.Answers.{endOf}
-use Rattle.bsii_value.specs.declared.answers.Refusal.{Refusal}
-use Rattle.bsii_value.specs.declared.answers.Parsed.{Parsed}
-use Rattle.bsii_value.specs.declared.answers.Parsed.the-variants.{Next as Past, Fault}
-use Rattle.bsii_value.proofs.Ends.{next≢fault, next-same}
+use Rattle.bsii_string.specs.Answers.{endOf}
+use Rattle.bsii_string.specs.declared.answers.Refusal.{Refusal}
+use Rattle.bsii_string.specs.declared.answers.Parsed.the-variants.{Next as Past, Fault}
+use Rattle.bsii_string.proofs.Ends.{next≢fault, next-same}
 use Rattle.bsii_past.specs.Unchecked.{uncheckedElement}
 use Rattle.bsii_past.proofs.Values.{element-same}
 use Rattle.bsii_definition.specs.declared.pairs.Definition.{Definition}
@@ -29,11 +27,6 @@ use Rattle.bsii_lines.specs.declared.elements.Scalar.{Scalar}
 use Rattle.bsii_lines.specs.declared.elements.Scalar.the-variants.{To, NotInList}
 use Rattle.bsii_lines.specs.declared.fields.Lines.{Lines}
 use Rattle.bsii_lines.specs.declared.fields.Lines.the-variants.{Next, NotInList as Absent}
-
--- the opening of an element's line
-pub index-text : (name : List ℕ) (i : ℕ) → ascii "  " ++ name ++ (91 ∷ []) ++ decimal i ++ ascii "]: " ≡ ascii "  " ++ indexed name i ++ ascii ": "
-unfolding indexed
-index-text name i = simp append-assoc
 
 -- ---- an element by its own bytes
 

@@ -21,10 +21,10 @@ use Rattle.bsii_value.specs.Kinds.{numericIs}
 use Rattle.bsii_value.specs.declared.types.Numeric.{Numeric as Number}
 use Rattle.bsii_value.specs.declared.types.Numeric.the-variants.{Float, FloatVec2, FloatVec3, FloatVec4, FloatVec8, Int32, Int32Vec3, UInt32, UInt16, Int64, UInt64, Bool as Truth, Enum}
 use Rattle.bsii_value.proofs.types.Numeric.{the-type}
-use Rattle.bsii_value.proofs.Keys.{every, keyed}
+use Rattle.bsii_string.proofs.Keys.{every, keyed}
 use Rattle.bsii_prototype.proofs.Names.{checked, named}
-use Rattle.bsii_value.specs.NumbersAt.{numberAt}
-use Rattle.bsii_value.proofs.NumbersAt.{number-is, numbers-are, first-number}
+use Rattle.bsii_string.specs.NumbersAt.{numberAt}
+use Rattle.bsii_string.proofs.NumbersAt.{number-is, numbers-are, first-number}
 use Rattle.bsii_definition.specs.Enums.{StringOf}
 use Rattle.bsii_definition.specs.declared.enums.EnumString.{EnumString}
 use Rattle.bsii_definition.specs.declared.enums.EnumString.the-variants.{Text, Absent}
@@ -32,9 +32,9 @@ use Rattle.bsii_definition.specs.declared.pairs.Definition.{Definition}
 use Rattle.bsii_window.specs.Window.{Wrote}
 use Rattle.bsii_window.proofs.Laws.{being, same, rest}
 use Rattle.bsii_numeric.specs.Written.{NumericWritten}
-use Rattle.bsii_write.specs.Words.{encodedText}
-use Rattle.bsii_write.specs.Ids.{IdWritten}
-use Rattle.bsii_write.proofs.WordLaws.{encoded-spelling}
+use Rattle.bsii_write_word.specs.Words.{encodedText}
+use Rattle.bsii_write_word.specs.Ids.{IdWritten}
+use Rattle.bsii_write_word.proofs.WordLaws.{encoded-spelling}
 use Rattle.bsii_lines.specs.Lines.{ScalarIs, ScalarWritten}
 use Rattle.bsii_lines.specs.declared.elements.Scalar.the-variants.{To, NotInList}
 

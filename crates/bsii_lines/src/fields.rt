@@ -1,13 +1,13 @@
 // Fields.
 use crate::elements::Scalar;
 use crate::elements::write_scalar_data_value;
-use crate::openings::put_index;
-use crate::openings::put_opening;
 use bsii_definition::pairs::Definition;
+use bsii_opening::openings::put_index;
+use bsii_opening::openings::put_opening;
 use bsii_past::element_past;
-use bsii_value::answers::Num;
-use bsii_value::answers::Parsed;
-use bsii_value::numbers::le_u32;
+use bsii_string::answers::Num;
+use bsii_string::answers::Parsed;
+use bsii_string::numbers::le_u32;
 use bsii_value::types::Kind;
 use bsii_value::types::Shape;
 use bsii_value::types::shape_of;
@@ -21,10 +21,10 @@ ghost use lib.ListN.{drop};
 ghost use Rattle.bsii_format.specs.Ascii.{ascii};
 ghost use Rattle.bsii_format.specs.Text.{indexed};
 ghost use Rattle.bsii_window.specs.Window.{Wrote};
-ghost use Rattle.bsii_lines.specs.Lines.{nameOf, InFile, RestWritten, ElementWritten, VectorWritten, ArrayWritten, FieldWritten};
-ghost use Rattle.bsii_value.specs.Answers.{endOf};
+ghost use Rattle.bsii_string.specs.Answers.{endOf};
 ghost use Rattle.bsii_value.specs.Kinds.{kindIs};
 ghost use Rattle.bsii_past.specs.Unchecked.{uncheckedElement};
+ghost use Rattle.bsii_lines.specs.Lines.{nameOf, InFile, RestWritten, ElementWritten, VectorWritten, ArrayWritten, FieldWritten};
 
 // The offset behind the value, and the position behind its text; or what `Scalar` says of a value that is not written.
 pub enum Lines {

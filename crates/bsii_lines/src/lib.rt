@@ -3,5 +3,3 @@
 // Values were accepted before, so nothing is checked again but what only the text asks for: that an enum value stands in the last definition's list.
 pub mod elements;
 pub mod fields;
-pub mod names;
-pub mod openings;

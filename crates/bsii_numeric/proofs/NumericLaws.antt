@@ -10,8 +10,8 @@ use Rattle.bsii_format.specs.Types.{Numeric, enum, width, arity, numbers}
 use Rattle.bsii_format.specs.Values.{Element, nums, elementParser}
 use Rattle.bsii_format.specs.Text.{enumString, numericText, elementText}
 use Rattle.bsii_format.proofs.Readers.{map-ok}
-use Rattle.bsii_value.specs.NumbersAt.{numbersAt}
-use Rattle.bsii_value.proofs.NumbersAt.{numbers-are}
+use Rattle.bsii_string.specs.NumbersAt.{numbersAt}
+use Rattle.bsii_string.proofs.NumbersAt.{numbers-are}
 use Rattle.bsii_window.specs.Window.{Wrote}
 use Rattle.bsii_window.proofs.Laws.{being, same}
 use Rattle.bsii_numeric.specs.Written.{NumericWritten}

@@ -1,5 +1,1 @@
-pub mod FieldLaws
-pub mod BlockLaws
-pub mod RecordLaws
-pub mod WalkLaws
 pub mod TextLaws

@@ -13,8 +13,8 @@ use Rattle.bsii_format.specs.File.{Record, prototypesOf}
 use Rattle.bsii_format.specs.Text.{valueText}
 use Rattle.bsii_format.specs.BlockText.{joined, fileOpening, closing, recordsText, fileText}
 use Rattle.bsii_format.specs.Calls.{textAnswer, textOf, textCall}
-use Rattle.bsii_value.specs.Answers.{faultIs, refusedAt}
-use Rattle.bsii_value.specs.declared.answers.Refusal.{Refusal}
+use Rattle.bsii_string.specs.Answers.{faultIs, refusedAt}
+use Rattle.bsii_string.specs.declared.answers.Refusal.{Refusal}
 use Rattle.bsii_table.specs.Relation.{Entered}
 use Rattle.bsii_parse.specs.Walks.{Stands, ReadFile}
 use Rattle.bsii_parse.specs.declared.walk.Totals.{Totals}
@@ -26,10 +26,10 @@ use Rattle.bsii_file.proofs.Rereading.{file-parts, standing-first}
 use Rattle.bsii_length.proofs.Bounded.{text-bounded}
 use Rattle.bsii_window.specs.Window.{Wrote}
 use Rattle.bsii_window.proofs.Laws.{capped-less, written-in}
-use Rattle.bsii_output.specs.Records.{TextsAre, BsiiWritten}
+use Rattle.bsii_text.specs.Records.{TextsAre, BsiiWritten}
+use Rattle.bsii_text.specs.declared.records.Texts.{Texts}
+use Rattle.bsii_text.specs.declared.records.Texts.the-variants.{To, Refused as Not}
 use Rattle.bsii_output.specs.Answers.{textIs, framedText, TextWritten, TextRead}
-use Rattle.bsii_output.specs.declared.records.Texts.{Texts}
-use Rattle.bsii_output.specs.declared.records.Texts.the-variants.{To, Refused as Not}
 use Rattle.bsii_output.specs.declared.text.TextReply.{TextReply}
 use Rattle.bsii_output.specs.declared.text.TextReply.the-variants.{Text, Refused}
 

@@ -1,4 +1,2 @@
--- What is written for blocks and files that were accepted.
-pub mod Blocks
-pub mod Records
+-- What the text call answers.
 pub mod Answers

@@ -1,7 +1,5 @@
-// The text of a file: blocks, and the text call.
+// The text call.
 //
 // The file is read first, and the text is written by one walk that is made twice: with an empty window it measures and meets refusals 8 and 9, and
-// then it writes. What was read is not checked again.
-pub mod blocks;
-pub mod records;
+// then it writes.
 pub mod text;

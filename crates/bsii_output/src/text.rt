@@ -1,12 +1,12 @@
 // The text call.
-use crate::records::Texts;
-use crate::records::write_bsii;
 use bsii_parse::reading::bsii_parser;
 use bsii_parse::walk::Walked;
+use bsii_string::answers::OUTPUT_SHORT;
+use bsii_string::answers::Refusal;
+use bsii_string::answers::refused;
 use bsii_table::clear;
-use bsii_value::answers::OUTPUT_SHORT;
-use bsii_value::answers::Refusal;
-use bsii_value::answers::refused;
+use bsii_text::records::Texts;
+use bsii_text::records::write_bsii;
 ghost use mathlib.Core.Path.{_≡_};
 ghost use lib.ListN.{length};
 ghost use Rattle.bsii_format.specs.Calls.{textCall, tableAfter};

@@ -12,7 +12,7 @@ use Rattle.bsii_format.specs.Prototypes.{Prototype}
 use Rattle.bsii_format.specs.Blocks.{getPrototype}
 use Rattle.bsii_format.specs.File.{Record, prototype, block, recordBytes, recordsBytes, Records, lengthLimit, define, distinctIds}
 use Rattle.bsii_format.specs.Calls.{Placed, placed, consPrototype, prototypesIn}
-use Rattle.bsii_value.specs.declared.answers.Refusal.{Refusal}
+use Rattle.bsii_string.specs.declared.answers.Refusal.{Refusal}
 use Rattle.bsii_parse.specs.Walks.{blockCount, behind, recordsAt, bare, Growing, Ready, Steps, passed, ended, refused, Walks, done, stopped}
 use Rattle.bsii_parse.specs.declared.walk.Progress.{Progress}
 use Rattle.bsii_parse.specs.declared.walk.Step.{Step}

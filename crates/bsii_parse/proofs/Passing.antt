@@ -17,11 +17,11 @@ use Rattle.bsii_format.proofs.Readers.{Exact, bind-exact}
 use Rattle.bsii_format.proofs.Parsers.{id-exact}
 use Rattle.bsii_format.proofs.Records.{stepBytes, record-good, fields-good, fields-fits, values-good, values-fits}
 use Rattle.bsii_format.proofs.Positions.{moved, moved-on}
-use Rattle.bsii_value.specs.Answers.{faultIs, refusalIs, refusedAt}
-use Rattle.bsii_value.specs.declared.answers.Refusal.{Refusal}
-use Rattle.bsii_value.specs.declared.answers.Parsed.{Parsed}
-use Rattle.bsii_value.specs.declared.answers.Parsed.the-variants.{Next, Fault}
-use Rattle.bsii_value.proofs.Ends.{next-ended, fault-ended}
+use Rattle.bsii_string.specs.Answers.{faultIs, refusalIs, refusedAt}
+use Rattle.bsii_string.specs.declared.answers.Refusal.{Refusal}
+use Rattle.bsii_string.specs.declared.answers.Parsed.{Parsed}
+use Rattle.bsii_string.specs.declared.answers.Parsed.the-variants.{Next, Fault}
+use Rattle.bsii_string.proofs.Ends.{next-ended, fault-ended}
 use Rattle.bsii_table.specs.Table.{foundRow}
 use Rattle.bsii_table.specs.declared.Found.{Found}
 use Rattle.bsii_table.specs.declared.Found.the-variants.{At, Nothing}

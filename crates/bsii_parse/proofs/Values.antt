@@ -10,11 +10,11 @@ use Rattle.bsii_format.specs.Prototypes.{ValuePrototype, Prototype, Fields, con
 use Rattle.bsii_format.specs.Blocks.{dataValue, dataValueParser, dataValuesParser}
 use Rattle.bsii_format.proofs.Parsers.{value-exact, id-exact}
 use Rattle.bsii_format.proofs.Positions.{ended, ended-after, ended-bind, ended-map, ended-consumed}
-use Rattle.bsii_value.specs.Answers.{faultIs, endOf, uncheckedStr}
-use Rattle.bsii_value.specs.declared.answers.Refusal.{Refusal}
-use Rattle.bsii_value.specs.declared.answers.Parsed.{Parsed}
-use Rattle.bsii_value.specs.declared.answers.Parsed.the-variants.{Next, Fault}
-use Rattle.bsii_value.proofs.Ends.{end-ended, alike, next≢fault, next-ended, fault-ended, next-same}
+use Rattle.bsii_string.specs.Answers.{faultIs, endOf, uncheckedStr}
+use Rattle.bsii_string.specs.declared.answers.Refusal.{Refusal}
+use Rattle.bsii_string.specs.declared.answers.Parsed.{Parsed}
+use Rattle.bsii_string.specs.declared.answers.Parsed.the-variants.{Next, Fault}
+use Rattle.bsii_string.proofs.Ends.{end-ended, alike, next≢fault, next-ended, fault-ended, next-same}
 use Rattle.bsii_prototype.specs.Entries.{entryWith, uncheckedHead}
 use Rattle.bsii_prototype.specs.Answers.{entryOf}
 use Rattle.bsii_prototype.specs.declared.answers.Entry.the-variants.{Field, Last, Bad}

@@ -14,8 +14,8 @@ use Rattle.bsii_format.proofs.Readers.{is-false}
 use Rattle.bsii_format.proofs.Parsers.{header-exact}
 use Rattle.bsii_format.proofs.Positions.{moved-on}
 use Rattle.bsii_format.proofs.File.{parse-short}
-use Rattle.bsii_value.specs.Answers.{faultIs, refusedAt}
-use Rattle.bsii_value.specs.declared.answers.Refusal.{Refusal}
+use Rattle.bsii_string.specs.Answers.{faultIs, refusedAt}
+use Rattle.bsii_string.specs.declared.answers.Refusal.{Refusal}
 use Rattle.bsii_parse.specs.Walks.{blockCount, recordsAt, Growing, Walks, done, stopped, read, unread, ReadTree, ReadFile}
 use Rattle.bsii_tree.specs.Table.{Linked}
 use Rattle.bsii_order.specs.Ordered.{Ordered}

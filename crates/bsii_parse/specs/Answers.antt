@@ -1,7 +1,7 @@
 -- What the reading call's answer means.
 use Rattle.bsii_format.specs.Replies.{Reply, gives, refuses}
 use Rattle.bsii_format.specs.Calls.{Reading as ReadingOf}
-use Rattle.bsii_value.specs.Answers.{faultIs}
+use Rattle.bsii_string.specs.Answers.{faultIs}
 use Rattle.bsii_parse.specs.declared.reading.Reading.{Reading}
 use Rattle.bsii_parse.specs.declared.reading.Reading.the-variants.{Read, Refused}
 

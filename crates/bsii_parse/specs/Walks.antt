@@ -10,9 +10,9 @@ use Rattle.bsii_format.specs.Prototypes.{Prototype, Fields, fieldsParser}
 use Rattle.bsii_format.specs.Blocks.{dataValuesParser, findBy}
 use Rattle.bsii_format.specs.File.{Record, prototype, block, defining, carrying, headParser, recordBytes, Records, recordsFrom, BsiiFile, lengthLimit, parse}
 use Rattle.bsii_format.specs.Calls.{Placed, placed, placedRecords, consPrototype, prototypesIn}
-use Rattle.bsii_value.specs.Answers.{faultIs, endOf}
-use Rattle.bsii_value.specs.declared.answers.Refusal.{Refusal}
-use Rattle.bsii_value.specs.declared.answers.Parsed.{Parsed}
+use Rattle.bsii_string.specs.Answers.{faultIs, endOf}
+use Rattle.bsii_string.specs.declared.answers.Refusal.{Refusal}
+use Rattle.bsii_string.specs.declared.answers.Parsed.{Parsed}
 use Rattle.bsii_table.specs.Rows.{Row, lookup, Rows}
 use Rattle.bsii_table.specs.Relation.{Represents}
 use Rattle.bsii_tree.specs.Table.{Linked, lookupTree}

@@ -1,9 +1,9 @@
 // Data blocks under a prototype's definitions. The definitions were read before: their names are not checked again.
 use bsii_prototype::answers::Entry;
 use bsii_prototype::past::value_prototype_past;
-use bsii_value::answers::Parsed;
-use bsii_value::strings::id_parser;
+use bsii_string::answers::Parsed;
 use bsii_value::values::value_parser;
+use bsii_word::words::id_parser;
 ghost use lib.ListN.{drop};
 ghost use Rattle.bsii_parse.specs.Walks.{ValuesEnd, BlockEnd};
 

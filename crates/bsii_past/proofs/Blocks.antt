@@ -10,8 +10,8 @@ use Rattle.bsii_format.proofs.Readers.{after-ok, ok-val, ok-at, ok-rest, at-val
 use Rattle.bsii_format.proofs.Parsers.{dataValue-exact}
 use Rattle.bsii_format.proofs.Positions.{moved}
 use Rattle.bsii_format.proofs.Follows.{Follows, Any, map-follows, consumed-follows}
-use Rattle.bsii_value.specs.Answers.{endOf}
-use Rattle.bsii_value.specs.declared.answers.Parsed.the-variants.{Next}
+use Rattle.bsii_string.specs.Answers.{endOf}
+use Rattle.bsii_string.specs.declared.answers.Parsed.the-variants.{Next}
 use Rattle.bsii_past.specs.Unchecked.{uncheckedValue}
 use Rattle.bsii_past.proofs.Values.{next, value-follows}
 

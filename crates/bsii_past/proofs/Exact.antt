@@ -7,7 +7,7 @@ use Rattle.bsii_format.specs.Reader.{Reader}
 use Rattle.bsii_format.specs.Types.{width, arity, Kind, numbers, string, encodedString, id, Shape, one, many, shapeOf}
 use Rattle.bsii_format.proofs.Readers.{Exact, bind-exact, fail-exact, map-exact, repeat-exact, cond-exact}
 use Rattle.bsii_format.proofs.Parsers.{number-exact}
-use Rattle.bsii_value.proofs.Unchecked.{unchecked-str-exact}
+use Rattle.bsii_string.proofs.Unchecked.{unchecked-str-exact}
 use Rattle.bsii_past.specs.Unchecked.{skip, uncheckedId, uncheckedElement, uncheckedArray, uncheckedShape, uncheckedValue}
 
 skip-exact : {A : Type 0} {R : Reader A} → Exact A R → Exact (Unit {0}) (skip R)

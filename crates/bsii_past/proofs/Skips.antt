@@ -11,8 +11,8 @@ use Rattle.bsii_format.specs.Numbers.{number, leU64}
 use Rattle.bsii_format.specs.Types.{Numeric, width, arity, Kind, numbers, string, encodedString}
 use Rattle.bsii_format.specs.Values.{elementParser}
 use Rattle.bsii_format.proofs.Positions.{ended, bind-ok, bind-fault, ended-map, ended-repeat, repeat-repeat}
-use Rattle.bsii_value.specs.Answers.{endOf, uncheckedStr}
-use Rattle.bsii_value.proofs.Ends.{alike}
+use Rattle.bsii_string.specs.Answers.{endOf, uncheckedStr}
+use Rattle.bsii_string.proofs.Ends.{alike}
 use Rattle.bsii_value.proofs.Elements.{numbers-end}
 use Rattle.bsii_past.specs.Unchecked.{skip, uncheckedWord, uncheckedId, uncheckedElement, uncheckedArray}
 

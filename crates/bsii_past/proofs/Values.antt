@@ -11,10 +11,10 @@ use Rattle.bsii_format.specs.Strings.{strParser, spelled, low63, encodedStrPars
 use Rattle.bsii_format.specs.Types.{width, arity, Kind, numbers, string, encodedString, id, Shape, one, many, shapeOf}
 use Rattle.bsii_format.specs.Values.{Element, nums, str, word, ident, Value, single, array, elementParser, shapeParser, valueParser}
 use Rattle.bsii_format.proofs.Follows.{Follows, Any, ends, itself, map-follows, follows-map, consumed-follows, verify-follows, fail-follows, bind-same, cond-follows, repeat-follows}
-use Rattle.bsii_value.specs.Answers.{endOf, uncheckedStr}
-use Rattle.bsii_value.specs.declared.answers.Parsed.the-variants.{Next}
-use Rattle.bsii_value.proofs.Ends.{answer}
-use Rattle.bsii_value.proofs.Unchecked.{str-follows}
+use Rattle.bsii_string.specs.Answers.{endOf, uncheckedStr}
+use Rattle.bsii_string.specs.declared.answers.Parsed.the-variants.{Next}
+use Rattle.bsii_string.proofs.Ends.{answer}
+use Rattle.bsii_string.proofs.Unchecked.{str-follows}
 use Rattle.bsii_past.specs.Unchecked.{skip, uncheckedWord, uncheckedId, uncheckedElement, uncheckedArray, uncheckedShape, uncheckedValue}
 
 -- the answer of a walk without the checks

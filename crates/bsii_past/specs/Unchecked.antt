@@ -7,7 +7,7 @@ use Rattle.bsii_format.specs.Replies.{unlistedType}
 use Rattle.bsii_format.specs.Reader.{Reader, fail, repeat, _>>=_, _<$>_}
 use Rattle.bsii_format.specs.Numbers.{number, leU8, leU32, leU64}
 use Rattle.bsii_format.specs.Types.{width, arity, Kind, numbers, string, encodedString, id, Shape, one, many, shapeOf}
-use Rattle.bsii_value.specs.Answers.{uncheckedStr}
+use Rattle.bsii_string.specs.Answers.{uncheckedStr}
 
 -- what R reads, without its value
 unfoldable pub skip : {A : Type 0} → Reader A → Reader (Unit {0})

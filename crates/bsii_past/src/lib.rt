@@ -3,14 +3,14 @@
 // Each function takes the whole file and a position, any position, and answers for every input; its contract gives the answer as the
 // end of an unchecked reader of specs/ on the bytes from there on. Where the format's own reader accepts, that end is the same
 // (proofs/Values).
-use bsii_value::answers::Num;
-use bsii_value::answers::Parsed;
-use bsii_value::answers::UNLISTED_TYPE;
-use bsii_value::answers::refused;
-use bsii_value::numbers::le_u8;
-use bsii_value::numbers::le_u32;
-use bsii_value::numbers::size;
-use bsii_value::strings::str_past;
+use bsii_string::answers::Num;
+use bsii_string::answers::Parsed;
+use bsii_string::answers::UNLISTED_TYPE;
+use bsii_string::answers::refused;
+use bsii_string::numbers::le_u8;
+use bsii_string::numbers::le_u32;
+use bsii_string::numbers::size;
+use bsii_string::strings::str_past;
 use bsii_value::types::Kind;
 use bsii_value::types::Shape;
 use bsii_value::types::arity;
@@ -22,7 +22,7 @@ ghost use mathlib.Core.Path.{_≡_};
 ghost use lib.ListN.{drop};
 ghost use Rattle.bsii_format.specs.Replies.{unlistedType};
 ghost use Rattle.bsii_format.specs.Reader.{repeat};
-ghost use Rattle.bsii_value.specs.Answers.{refusedAt, endOf};
+ghost use Rattle.bsii_string.specs.Answers.{refusedAt, endOf};
 ghost use Rattle.bsii_value.specs.Kinds.{kindIs};
 ghost use Rattle.bsii_past.specs.Unchecked.{uncheckedId, uncheckedElement, uncheckedArray, uncheckedValue};
 

@@ -18,9 +18,9 @@ use Rattle.bsii_format.specs.File.{Head, ending, defining, carrying, markParser
 use Rattle.bsii_format.proofs.Readers.{after-ok, cond-ok, ok-at, ok-rest}
 use Rattle.bsii_format.proofs.Positions.{bytes-at, bytes-short, bind-ok, bind-fault, verify-ok, verify-not, verify-fault}
 use Rattle.bsii_format.proofs.Follows.{again}
-use Rattle.bsii_value.specs.Answers.{uncheckedStr, endOf}
-use Rattle.bsii_value.specs.declared.answers.Parsed.the-variants.{Next}
-use Rattle.bsii_value.proofs.Unchecked.{str-follows}
+use Rattle.bsii_string.specs.Answers.{uncheckedStr, endOf}
+use Rattle.bsii_string.specs.declared.answers.Parsed.the-variants.{Next}
+use Rattle.bsii_string.proofs.Unchecked.{str-follows}
 use Rattle.bsii_prototype.specs.Entries.{markedParser, uncheckedHead}
 use Rattle.bsii_prototype.proofs.Names.{Front, bytes-front, number-front, bytes-join}
 

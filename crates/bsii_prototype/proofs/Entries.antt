@@ -15,10 +15,10 @@ use Rattle.bsii_format.specs.Prototypes.{EnumValue, ValuePrototype}
 use Rattle.bsii_format.proofs.Readers.{Exact, bind-exact, success-exact, cond-exact, repeat-exact}
 use Rattle.bsii_format.proofs.Parsers.{number-exact}
 use Rattle.bsii_format.proofs.Positions.{bind-ok, bind-fault, ended-map}
-use Rattle.bsii_value.specs.Answers.{faultIs, refusalIs, endOf}
-use Rattle.bsii_value.proofs.Ends.{alike, next≢fault, fault-at}
-use Rattle.bsii_value.specs.declared.answers.Refusal.{Refusal}
-use Rattle.bsii_value.specs.declared.answers.Parsed.the-variants.{Next, Fault}
+use Rattle.bsii_string.specs.Answers.{faultIs, refusalIs, endOf}
+use Rattle.bsii_string.proofs.Ends.{alike, next≢fault, fault-at}
+use Rattle.bsii_string.specs.declared.answers.Refusal.{Refusal}
+use Rattle.bsii_string.specs.declared.answers.Parsed.the-variants.{Next, Fault}
 use Rattle.bsii_prototype.proofs.Names.{Text, named, number-front}
 use Rattle.bsii_prototype.specs.Entries.{enumValueWith, enumValuesWith, definitionWith, entryWith}
 use Rattle.bsii_prototype.specs.Answers.{entryOf}

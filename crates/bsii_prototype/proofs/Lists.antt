@@ -12,8 +12,8 @@ use Rattle.bsii_format.specs.Reader.{Result, ok, fault, faultAt, Reader, after,
 use Rattle.bsii_format.specs.Prototypes.{ValuePrototype, Fields as FieldList, consField, fieldsThen}
 use Rattle.bsii_format.proofs.Readers.{Exact, consumed-took, takes}
 use Rattle.bsii_format.proofs.Positions.{moved, moved-on}
-use Rattle.bsii_value.specs.Answers.{refusalIs}
-use Rattle.bsii_value.specs.declared.answers.Refusal.{Refusal}
+use Rattle.bsii_string.specs.Answers.{refusalIs}
+use Rattle.bsii_string.specs.declared.answers.Refusal.{Refusal}
 use Rattle.bsii_prototype.specs.Entries.{entryWith, fieldsFromWith, fieldsWith}
 use Rattle.bsii_prototype.specs.declared.answers.Counted.{Counted}
 use Rattle.bsii_prototype.specs.declared.answers.Counted.the-variants.{Fields, Fault}

@@ -13,8 +13,8 @@ use Rattle.bsii_format.proofs.Readers.{Exact, after-ok, cond-ok, map-ok, is-tru
 use Rattle.bsii_format.proofs.Parsers.{number-exact, str-exact}
 use Rattle.bsii_format.proofs.Positions.{moved}
 use Rattle.bsii_format.proofs.Follows.{Follows, Same, again, itself}
-use Rattle.bsii_value.specs.Answers.{uncheckedStr}
-use Rattle.bsii_value.proofs.Unchecked.{str-follows, unchecked-str-exact}
+use Rattle.bsii_string.specs.Answers.{uncheckedStr}
+use Rattle.bsii_string.proofs.Unchecked.{str-follows, unchecked-str-exact}
 
 pub record Front (w at : ℕ) (s : List ℕ) (v : List ℕ) (n : ℕ) (r : List ℕ) : Type 0 where
   pub whole : w ≤ length s

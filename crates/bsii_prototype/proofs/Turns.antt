@@ -16,8 +16,8 @@ use Rattle.bsii_format.proofs.Readers.{after-ok, fault≢ok, ok-val, ok-at, ok-
 use Rattle.bsii_format.proofs.Parsers.{number-exact, str-exact, valuePrototype-exact}
 use Rattle.bsii_format.proofs.Positions.{moved, moved-on}
 use Rattle.bsii_format.proofs.Follows.{again}
-use Rattle.bsii_value.specs.Answers.{uncheckedStr}
-use Rattle.bsii_value.specs.declared.answers.Refusal.{Refusal}
+use Rattle.bsii_string.specs.Answers.{uncheckedStr}
+use Rattle.bsii_string.specs.declared.answers.Refusal.{Refusal}
 use Rattle.bsii_prototype.specs.Entries.{enumValuesWith, definitionWith, entryWith, fieldsWith}
 use Rattle.bsii_prototype.specs.Answers.{entryOf, countOf}
 use Rattle.bsii_prototype.specs.declared.answers.Entry.the-variants.{Field, Last, Bad}

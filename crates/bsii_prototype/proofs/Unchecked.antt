@@ -12,8 +12,8 @@ use Rattle.bsii_format.specs.Numbers.{number}
 use Rattle.bsii_format.specs.Strings.{strParser}
 use Rattle.bsii_format.specs.Prototypes.{EnumValue, ValuePrototype, enumValueParser, enumValuesParser, valuePrototypeParser, Fields, consField, fieldsThen, fieldsFrom, fieldsParser}
 use Rattle.bsii_format.proofs.Follows.{Follows, Same, itself, bind-same, cond-follows, repeat-same, consumed-same, fail-follows}
-use Rattle.bsii_value.specs.Answers.{uncheckedStr}
-use Rattle.bsii_value.proofs.Unchecked.{str-follows}
+use Rattle.bsii_string.specs.Answers.{uncheckedStr}
+use Rattle.bsii_string.proofs.Unchecked.{str-follows}
 use Rattle.bsii_prototype.specs.Entries.{enumValueWith, enumValuesWith, definitionWith, entryWith, fieldsFromWith, fieldsWith}
 
 -- ---- the specification's readers are those at `strParser`

@@ -6,7 +6,7 @@ use lib.ListN.{length, take, drop}
 use Rattle.bsii_format.specs.Reader.{Result, ok, fault}
 use Rattle.bsii_format.specs.Prototypes.{ValuePrototype, Fields as FieldList}
 use Rattle.bsii_format.specs.File.{Head as Heading, ending, defining, carrying}
-use Rattle.bsii_value.specs.Answers.{faultIs, refusalIs}
+use Rattle.bsii_string.specs.Answers.{faultIs, refusalIs}
 use Rattle.bsii_prototype.specs.declared.answers.Entry.{Entry}
 use Rattle.bsii_prototype.specs.declared.answers.Entry.the-variants.{Field, Last, Bad}
 use Rattle.bsii_prototype.specs.declared.answers.Counted.{Counted}

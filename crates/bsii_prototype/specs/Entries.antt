@@ -11,7 +11,7 @@ use Rattle.bsii_format.specs.Reader.{Reader, success, fail, bytes, verify, repe
 use Rattle.bsii_format.specs.Numbers.{leU8, leU32}
 use Rattle.bsii_format.specs.Prototypes.{EnumValue, ValuePrototype, Fields, fieldsThen}
 use Rattle.bsii_format.specs.File.{Head, markParser}
-use Rattle.bsii_value.specs.Answers.{uncheckedStr}
+use Rattle.bsii_string.specs.Answers.{uncheckedStr}
 
 unfoldable pub enumValueWith : Reader (List ℕ) → Reader EnumValue
 enumValueWith S = do

@@ -1,5 +1,5 @@
 // What the readers answer: specs/Answers says what each case means.
-use bsii_value::answers::Refusal;
+use bsii_string::answers::Refusal;
 
 // An entry of a list of field definitions. The name's bytes lie from name to name_end, where an enum list follows.
 pub enum Entry {

@@ -1,18 +1,18 @@
 // Field definitions, checked.
 use crate::answers::Counted;
 use crate::answers::Entry;
-use bsii_value::answers::Num;
-use bsii_value::answers::Parsed;
-use bsii_value::answers::Str;
-use bsii_value::numbers::le_u32;
-use bsii_value::strings::str_parser;
+use bsii_string::answers::Num;
+use bsii_string::answers::Parsed;
+use bsii_string::answers::Str;
+use bsii_string::numbers::le_u32;
+use bsii_string::strings::str_parser;
 ghost use mathlib.Core.Path.{_≡_};
 ghost use Prim.Native.Nat.{_+_};
 ghost use lib.ListN.{drop};
 ghost use Rattle.bsii_format.specs.Reader.{repeat};
 ghost use Rattle.bsii_format.specs.Strings.{strParser};
 ghost use Rattle.bsii_format.specs.Prototypes.{enumValueParser, enumValuesParser, valuePrototypeParser, fieldsParser};
-ghost use Rattle.bsii_value.specs.Answers.{endOf};
+ghost use Rattle.bsii_string.specs.Answers.{endOf};
 ghost use Rattle.bsii_prototype.specs.Entries.{definitionWith};
 ghost use Rattle.bsii_prototype.specs.Answers.{entryOf, countOf};
 

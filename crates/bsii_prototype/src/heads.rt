@@ -1,15 +1,15 @@
 // The header of a file, and the heads of records.
 use crate::answers::Head;
 use crate::answers::Header;
-use bsii_value::answers::INVALID_HEADER;
-use bsii_value::answers::MALFORMED;
-use bsii_value::answers::Num;
-use bsii_value::answers::Str;
-use bsii_value::answers::UNSUPPORTED_VERSION;
-use bsii_value::answers::refused;
-use bsii_value::numbers::le_u8;
-use bsii_value::numbers::le_u32;
-use bsii_value::strings::str_parser;
+use bsii_string::answers::INVALID_HEADER;
+use bsii_string::answers::MALFORMED;
+use bsii_string::answers::Num;
+use bsii_string::answers::Str;
+use bsii_string::answers::UNSUPPORTED_VERSION;
+use bsii_string::answers::refused;
+use bsii_string::numbers::le_u8;
+use bsii_string::numbers::le_u32;
+use bsii_string::strings::str_parser;
 ghost use mathlib.Core.Path.{_≡_};
 ghost use lib.ListN.{length, take, drop};
 ghost use Rattle.bsii_format.specs.Reader.{same};

@@ -1,18 +1,18 @@
 // Field definitions that were accepted before: their strings are not checked again.
 use crate::answers::Counted;
 use crate::answers::Entry;
-use bsii_value::answers::MALFORMED;
-use bsii_value::answers::Num;
-use bsii_value::answers::Parsed;
-use bsii_value::answers::refused;
-use bsii_value::numbers::le_u32;
-use bsii_value::numbers::left;
-use bsii_value::strings::str_past;
+use bsii_string::answers::MALFORMED;
+use bsii_string::answers::Num;
+use bsii_string::answers::Parsed;
+use bsii_string::answers::refused;
+use bsii_string::numbers::le_u32;
+use bsii_string::numbers::left;
+use bsii_string::strings::str_past;
 ghost use mathlib.Core.Path.{_≡_};
 ghost use Prim.Native.Nat.{_+_};
 ghost use lib.ListN.{drop};
 ghost use Rattle.bsii_format.specs.Reader.{repeat};
-ghost use Rattle.bsii_value.specs.Answers.{endOf, uncheckedStr};
+ghost use Rattle.bsii_string.specs.Answers.{endOf, uncheckedStr};
 ghost use Rattle.bsii_prototype.specs.Entries.{enumValueWith, enumValuesWith, definitionWith, entryWith, fieldsWith, uncheckedHead};
 ghost use Rattle.bsii_prototype.specs.Answers.{entryOf, countOf};
 

@@ -12,7 +12,7 @@ use Rattle.bsii_format.specs.Numbers.{number, leU8, littleEndian}
 use Rattle.bsii_format.specs.Strings.{strParser}
 use Rattle.bsii_format.specs.File.{defining, carrying, markParser, headParser}
 use Rattle.bsii_format.proofs.Readers.{after-ok, cond-ok, map-ok}
-use Rattle.bsii_value.proofs.NumbersAt.{number-moves, number-is}
+use Rattle.bsii_string.proofs.NumbersAt.{number-moves, number-is}
 use Rattle.bsii_tree.specs.Table.{idOf}
 
 number-fits : (w : ℕ) (s : List ℕ) (at : ℕ) {v i : ℕ} {r : List ℕ} → number w at (drop at s) ≡ ok v i r → w ≤ length s - at

@@ -7,7 +7,7 @@ use mathlib.Core.Option.{Option, none, some}
 use mathlib.Core.List.{List}
 use lib.ListN.{length, getD}
 use lib.Dec.{eqb}
-use Rattle.bsii_value.specs.NumbersAt.{numberAt}
+use Rattle.bsii_string.specs.NumbersAt.{numberAt}
 use Rattle.bsii_table.specs.Rows.{Row, offsets, lookupFrom}
 use Rattle.bsii_tree.specs.Tree.{Tree, Place}
 use Rattle.bsii_tree.specs.declared.Slot.{Slot}

@@ -5,8 +5,8 @@
 //
 // `find` and `define` require `Linked`, that the rows are in the table and such a tree: callers have it from the relation to the
 // definitions so far that they carry anyway.
+use bsii_string::numbers::quad;
 use bsii_table::Found;
-use bsii_value::numbers::quad;
 ghost use Prim.Native.Nat.{_+_, _*_, _≤_, _<_};
 ghost use mathlib.Core.Path.{_≡_};
 ghost use lib.ListN.{length};

@@ -10,8 +10,8 @@ use Rattle.bsii_format.specs.Types.{Numeric, width, arity, Kind, numbers, Shape
 use Rattle.bsii_format.specs.Values.{nums, single, array, elementParser, shapeParser, valueParser}
 use Rattle.bsii_format.proofs.Readers.{map-fault}
 use Rattle.bsii_format.proofs.Positions.{ended, bind-ok, bind-fault, ended-map, ended-consumed, ended-repeat, repeat-repeat}
-use Rattle.bsii_value.specs.Answers.{endOf}
-use Rattle.bsii_value.proofs.Ends.{alike}
+use Rattle.bsii_string.specs.Answers.{endOf}
+use Rattle.bsii_string.proofs.Ends.{alike}
 
 numbers-ended : (k : Numeric) (at : ℕ) (s : List ℕ) → ended (elementParser (numbers k) at s) ≡ ended (repeat (arity k) (number (width k)) at s)
 unfolding elementParser

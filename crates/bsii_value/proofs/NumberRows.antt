@@ -9,9 +9,9 @@ use Rattle.bsii_format.specs.Replies.{malformed}
 use Rattle.bsii_format.specs.Reader.{ok, faultAt, repeat}
 use Rattle.bsii_format.specs.Numbers.{number}
 use Rattle.bsii_format.proofs.Positions.{numbers-at, numbers-short}
-use Rattle.bsii_value.specs.Answers.{endOf}
-use Rattle.bsii_value.specs.declared.answers.Parsed.the-variants.{Next}
-use Rattle.bsii_value.proofs.Ends.{answer}
+use Rattle.bsii_string.specs.Answers.{endOf}
+use Rattle.bsii_string.specs.declared.answers.Parsed.the-variants.{Next}
+use Rattle.bsii_string.proofs.Ends.{answer}
 
 -- as many as fit are no longer than what is left
 pub fitting : (n w l : ℕ) → n ≤ l / w → n * w ≤ l

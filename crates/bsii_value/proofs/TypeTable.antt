@@ -10,11 +10,11 @@ use types.Run.{OneOf}
 use denote.Enum.Declared.{tagOf}
 use Rattle.bsii_format.specs.Types as table
 use Rattle.bsii_format.specs.Types.{Listed, shapeIn}
+use Rattle.bsii_string.proofs.Keys.{every, keyed}
 use Rattle.bsii_value.specs.Kinds.{numericIs}
 use Rattle.bsii_value.specs.declared.types.Numeric.{Numeric}
 use Rattle.bsii_value.specs.declared.types.Numeric.the-variants.{Float, FloatVec2, FloatVec3, FloatVec4, FloatVec8, Int32, Int32Vec3, UInt32, UInt16, Int64, UInt64, Bool as Bool1, Enum}
 use Rattle.bsii_value.proofs.types.Numeric.{the-type}
-use Rattle.bsii_value.proofs.Keys.{every, keyed}
 
 -- ---- a type that no row has
 

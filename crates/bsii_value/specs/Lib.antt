@@ -1,5 +1,2 @@
--- What the code's answers and types mean, in the specification's terms.
-pub mod Answers
-pub mod NumbersAt
-pub mod States
+-- What the code's types mean, in the specification's terms.
 pub mod Kinds

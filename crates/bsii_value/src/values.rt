@@ -1,15 +1,4 @@
 // Values by type.
-use crate::answers::MALFORMED;
-use crate::answers::Num;
-use crate::answers::Parsed;
-use crate::answers::UNLISTED_TYPE;
-use crate::answers::refused;
-use crate::numbers::le_u32;
-use crate::numbers::left;
-use crate::numbers::size;
-use crate::strings::id_parser;
-use crate::strings::str_end;
-use crate::strings::word_past;
 use crate::types::Kind;
 use crate::types::Numeric;
 use crate::types::Shape;
@@ -17,6 +6,17 @@ use crate::types::arity;
 use crate::types::byte_count;
 use crate::types::shape_of;
 use crate::types::width;
+use bsii_string::answers::MALFORMED;
+use bsii_string::answers::Num;
+use bsii_string::answers::Parsed;
+use bsii_string::answers::UNLISTED_TYPE;
+use bsii_string::answers::refused;
+use bsii_string::numbers::le_u32;
+use bsii_string::numbers::left;
+use bsii_string::numbers::size;
+use bsii_string::strings::str_end;
+use bsii_word::words::id_parser;
+use bsii_word::words::word_past;
 ghost use mathlib.Core.Option.{some};
 ghost use mathlib.Core.Path.{_≡_};
 ghost use Prim.Native.Nat.{_*_};
@@ -25,7 +25,7 @@ ghost use Rattle.bsii_format.specs.Reader.{repeat};
 ghost use Rattle.bsii_format.specs.Numbers.{number};
 ghost use Rattle.bsii_format.specs.Types.{numbers, many};
 ghost use Rattle.bsii_format.specs.Values.{elementParser, shapeParser, valueParser};
-ghost use Rattle.bsii_value.specs.Answers.{endOf};
+ghost use Rattle.bsii_string.specs.Answers.{endOf};
 ghost use Rattle.bsii_value.specs.Kinds.{numericIs, kindIs};
 
 // The end of a row of numbers, or the first number that runs out: computed, since an array of numbers need not be walked.

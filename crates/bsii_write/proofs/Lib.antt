@@ -1,4 +1,2 @@
-pub mod IdLaws
 pub mod NumberLaws
 pub mod RunLaws
-pub mod WordLaws

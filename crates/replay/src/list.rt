@@ -1,8 +1,8 @@
 // The parts of a record: numbers, and bytes with their length in front. README.md gives the format.
-use bsii_value::answers::Num;
-use bsii_value::numbers::le_u32;
-use bsii_value::numbers::left;
-use bsii_value::numbers::size;
+use bsii_string::answers::Num;
+use bsii_string::numbers::le_u32;
+use bsii_string::numbers::left;
+use bsii_string::numbers::size;
 ghost use Rattle.replay.specs.Parts.{Inside};
 
 pub enum Part {

@@ -6,7 +6,7 @@ use crate::compare::Outcome;
 use crate::compare::replay;
 use crate::list::bytes_at;
 use crate::list::number;
-use bsii_value::numbers::size;
+use bsii_string::numbers::size;
 use libc::STDIN_FILENO;
 use libc::STDOUT_FILENO;
 ghost use Prim.Native.Nat.{_≤_};

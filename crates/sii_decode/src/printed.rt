@@ -1,16 +1,16 @@
 // What is printed for an input.
 use bsii_output::text::TextReply;
 use bsii_output::text::to_siin;
-use bsii_value::answers::INPUT_LONG;
-use bsii_value::answers::Refusal;
-use bsii_value::answers::refused;
+use bsii_string::answers::INPUT_LONG;
+use bsii_string::answers::Refusal;
+use bsii_string::answers::refused;
 use bsii_window::digits::write_decimal;
 use bsii_window::window::put_all;
 ghost use mathlib.Core.Path.{_≡_};
 ghost use lib.ListN.{length};
 ghost use Rattle.bsii_format.specs.Replies.{refuses};
 ghost use Rattle.bsii_format.specs.Calls.{printed, program};
-ghost use Rattle.bsii_value.specs.Answers.{faultIs};
+ghost use Rattle.bsii_string.specs.Answers.{faultIs};
 ghost use Rattle.bsii_window.specs.Window.{Wrote};
 ghost use Rattle.sii_decode.specs.Starts.{Starts};
 

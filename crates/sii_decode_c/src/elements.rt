@@ -5,11 +5,11 @@ use bsii_element::signed::bits32;
 use bsii_element::signed::bits64;
 use bsii_float::floats::Placement;
 use bsii_float::floats::bits_of;
-use bsii_value::answers::Refusal;
+use bsii_string::answers::Refusal;
 ghost use mathlib.Core.Path.{_≡_};
 ghost use mathlib.Core.Bool.{cond};
 ghost use Rattle.bsii_format.specs.Calls.{elementCall};
-ghost use Rattle.bsii_value.specs.Answers.{faultIs};
+ghost use Rattle.bsii_string.specs.Answers.{faultIs};
 ghost use Rattle.bsii_element.specs.Cases.{elementIs};
 ghost use Rattle.sii_decode_c.specs.Elements.{twos64, word, placeOut, valueOut, wordsOut, refusedOut, elementOut};
 

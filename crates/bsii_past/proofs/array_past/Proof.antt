@@ -2,7 +2,7 @@
 use mathlib.Core.Path.{sym, ap, _∙_}
 use lib.ListN.{drop}
 use denote.Ref.{now}
-use Rattle.bsii_value.specs.Answers.{numOf, endOf}
+use Rattle.bsii_string.specs.Answers.{numOf, endOf}
 use Rattle.bsii_value.specs.Kinds.{kindIs}
 use Rattle.bsii_past.proofs.Skips.{array-short, array-end}
 use borrow.Author.Needs.{needs}

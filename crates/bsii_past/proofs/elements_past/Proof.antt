@@ -6,7 +6,7 @@ use lib.ListN.{drop}
 use denote.Ref.{now}
 use Rattle.bsii_format.specs.Reader.{repeat}
 use Rattle.bsii_format.specs.Numbers.{number}
-use Rattle.bsii_value.specs.Answers.{endOf}
+use Rattle.bsii_string.specs.Answers.{endOf}
 use Rattle.bsii_value.specs.Kinds.{numericIs, kindIs}
 use Rattle.bsii_value.specs.declared.types.Kind.{Kind}
 use Rattle.bsii_value.proofs.NumberRows.{product-below}

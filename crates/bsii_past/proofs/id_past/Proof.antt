@@ -5,7 +5,7 @@ use lib.ListN.{drop}
 use denote.Ref.{now}
 use Rattle.bsii_format.specs.Reader.{repeat}
 use Rattle.bsii_format.specs.Numbers.{number}
-use Rattle.bsii_value.specs.Answers.{numOf, endOf}
+use Rattle.bsii_string.specs.Answers.{numOf, endOf}
 use Rattle.bsii_past.proofs.Skips.{id-short, id-nameless, id-named}
 use borrow.Author.Needs.{needs}
 use Rattle.bsii_past.proofs.id_past.Statement.{statement}

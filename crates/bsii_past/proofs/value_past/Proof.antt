@@ -5,7 +5,7 @@ use lib.ListN.{drop}
 use denote.Ref.{now}
 use Rattle.bsii_format.specs.Reader.{fail}
 use Rattle.bsii_format.specs.Types.{Shape}
-use Rattle.bsii_value.specs.Answers.{endOf}
+use Rattle.bsii_string.specs.Answers.{endOf}
 use Rattle.bsii_value.specs.Kinds.{shapeIs}
 use Rattle.bsii_past.specs.Unchecked.{uncheckedShape, uncheckedValue}
 use borrow.Author.Needs.{needs}

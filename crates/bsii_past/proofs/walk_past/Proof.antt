@@ -5,9 +5,9 @@ use native.Mathlib.Omega.{arith}
 use lib.ListN.{drop}
 use denote.Ref.{now}
 use Rattle.bsii_format.specs.Reader.{repeat}
-use Rattle.bsii_value.specs.Answers.{endOf}
+use Rattle.bsii_string.specs.Answers.{endOf}
 use Rattle.bsii_value.specs.Kinds.{kindIs}
-use Rattle.bsii_value.proofs.Ends.{row-done, row-next, row-fault}
+use Rattle.bsii_string.proofs.Ends.{row-done, row-next, row-fault}
 use Rattle.bsii_past.specs.Unchecked.{uncheckedElement}
 use Rattle.bsii_past.proofs.Exact.{unchecked-element-exact}
 use Rattle.bsii_past.proofs.walk_past.Statement.{statement}

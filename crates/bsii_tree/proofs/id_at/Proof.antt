@@ -4,7 +4,7 @@ use native.Mathlib.Omega.{arith}
 use mathlib.Core.Path.{sym, _∙_}
 use denote.Ref.{now}
 use Rattle.bsii_format.proofs.Positions.{number-at}
-use Rattle.bsii_value.proofs.NumbersAt.{number-is}
+use Rattle.bsii_string.proofs.NumbersAt.{number-is}
 use borrow.Author.Needs.{needs}
 use Rattle.bsii_tree.proofs.id_at.Statement.{statement}
 use Rattle.bsii_tree.proofs.id_at.Tie as tie

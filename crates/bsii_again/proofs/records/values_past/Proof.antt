@@ -6,7 +6,7 @@ use borrow.Author.Needs.{needs}
 use native.Mathlib.Omega.{arith}
 use Prim.Native.Nat.{_-_}
 use lib.ListN.{length}
-use Rattle.bsii_value.specs.Answers.{uncheckedStr}
+use Rattle.bsii_string.specs.Answers.{uncheckedStr}
 use Rattle.bsii_prototype.proofs.Names.{unchecked}
 use Rattle.bsii_prototype.proofs.Lists.{count-later}
 use Rattle.bsii_again.proofs.Past.{InPast, past-start, past-last, past-bad, past-fault, past-next}

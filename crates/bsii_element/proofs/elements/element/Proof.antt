@@ -6,8 +6,8 @@ use Rattle.bsii_format.specs.Reader.{fail}
 use Rattle.bsii_format.specs.Types.{Shape, many, shapeOf}
 use Rattle.bsii_format.specs.Values.{shapeParser, valueParser}
 use Rattle.bsii_format.specs.Calls.{ofValue, elementCall}
-use Rattle.bsii_value.specs.Answers.{faultIs, endOf}
-use Rattle.bsii_value.specs.declared.answers.Refusal.{Refusal}
+use Rattle.bsii_string.specs.Answers.{faultIs, endOf}
+use Rattle.bsii_string.specs.declared.answers.Refusal.{Refusal}
 use Rattle.bsii_value.specs.Kinds.{kindIs, shapeIs}
 use Rattle.bsii_element.proofs.Call.{value-fault}
 use borrow.Author.Needs.{needs}

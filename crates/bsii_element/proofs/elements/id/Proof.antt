@@ -4,7 +4,7 @@ use denote.Ref.{now}
 use Rattle.bsii_format.specs.Reader.{_<$>_}
 use Rattle.bsii_format.specs.Strings.{idParser}
 use Rattle.bsii_format.specs.Values.{ident, elementParser}
-use Rattle.bsii_value.proofs.Ends.{mapped}
+use Rattle.bsii_string.proofs.Ends.{mapped}
 use Rattle.bsii_element.proofs.Call.{id-next, id-decoded, decoded-fault}
 use borrow.Author.Needs.{needs}
 use Rattle.bsii_element.proofs.elements.id.Statement.{statement}

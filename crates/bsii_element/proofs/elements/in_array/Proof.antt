@@ -2,8 +2,8 @@ use mathlib.Core.Path.{ap, _∙_}
 use native.Mathlib.Omega.{arith}
 use denote.Ref.{now}
 use Rattle.bsii_format.specs.Replies.{refuses}
-use Rattle.bsii_value.specs.Answers.{faultIs}
-use Rattle.bsii_value.specs.declared.answers.Refusal.{Refusal}
+use Rattle.bsii_string.specs.Answers.{faultIs}
+use Rattle.bsii_string.specs.declared.answers.Refusal.{Refusal}
 use Rattle.bsii_value.specs.Kinds.{kindIs}
 use Rattle.bsii_element.proofs.Call.{array-absent, array-element, array-ends}
 use borrow.Author.Needs.{needs}

@@ -6,8 +6,8 @@ use Rattle.bsii_format.specs.Replies.{refuses}
 use Rattle.bsii_format.specs.Types.{one}
 use Rattle.bsii_format.specs.Values.{shapeParser}
 use Rattle.bsii_format.specs.Calls.{ofValue}
-use Rattle.bsii_value.specs.Answers.{faultIs}
-use Rattle.bsii_value.specs.declared.answers.Refusal.{Refusal}
+use Rattle.bsii_string.specs.Answers.{faultIs}
+use Rattle.bsii_string.specs.declared.answers.Refusal.{Refusal}
 use Rattle.bsii_value.specs.Kinds.{kindIs}
 use Rattle.bsii_value.proofs.Elements.{one-end}
 use Rattle.bsii_element.proofs.Call.{value-fault, single-first, single-other}

@@ -5,7 +5,7 @@ use denote.Ref.{now}
 use Rattle.bsii_format.specs.Strings.{strParser}
 use Rattle.bsii_format.specs.Types.{string}
 use Rattle.bsii_format.specs.Values.{str, elementParser}
-use Rattle.bsii_value.proofs.Ends.{mapped}
+use Rattle.bsii_string.proofs.Ends.{mapped}
 use Rattle.bsii_element.proofs.Call.{string-next, string-decoded, decoded-fault}
 use borrow.Author.Needs.{needs}
 use Rattle.bsii_element.proofs.elements.text.Statement.{statement}

@@ -6,7 +6,7 @@ use Rattle.bsii_format.specs.Values.{word, elementParser}
 use Rattle.bsii_format.specs.Calls.{datumOf}
 use Rattle.bsii_format.proofs.Readers.{map-fault}
 use Rattle.bsii_format.proofs.Positions.{map-value}
-use Rattle.bsii_value.specs.Answers.{wordOf}
+use Rattle.bsii_string.specs.Answers.{wordOf}
 use Rattle.bsii_element.specs.Decoded.{decoded}
 use borrow.Author.Needs.{needs}
 use Rattle.bsii_element.proofs.elements.word.Statement.{statement}

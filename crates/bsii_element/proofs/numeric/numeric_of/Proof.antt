@@ -12,7 +12,7 @@ use Rattle.bsii_format.specs.Numbers.{signed}
 use Rattle.bsii_format.specs.Types.{width, arity}
 use Rattle.bsii_format.specs.Calls.{Datum, dFloat, dInt32, dUInt32, dUInt16, dInt64, dUInt64, dBool, dEnum, nonzero, numericDatum}
 use Rattle.bsii_value.specs.Kinds.{numericIs}
-use Rattle.bsii_value.specs.NumbersAt.{numbersAt}
+use Rattle.bsii_string.specs.NumbersAt.{numbersAt}
 use Rattle.bsii_value.specs.declared.types.Numeric.{Numeric}
 use Rattle.bsii_float.specs.Bits.{vec2Of, vec3Of, vec4Of, placementOf}
 use Rattle.bsii_float.specs.declared.floats.Vec2.{Vec2}

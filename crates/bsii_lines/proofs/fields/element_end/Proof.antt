@@ -1,7 +1,7 @@
 use mathlib.Core.Path.{sym, ap, _∙_}
 use lib.ListN.{drop}
 use denote.Ref.{now}
-use Rattle.bsii_value.specs.Answers.{endOf}
+use Rattle.bsii_string.specs.Answers.{endOf}
 use Rattle.bsii_value.specs.Kinds.{numericIs, kindIs}
 use Rattle.bsii_value.specs.declared.types.Kind.{Kind}
 use Rattle.bsii_past.specs.Unchecked.{uncheckedElement}

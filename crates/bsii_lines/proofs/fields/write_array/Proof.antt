@@ -1,6 +1,6 @@
 use mathlib.Core.Path.{sym, ap, _∙_}
 use denote.Ref.{now}
-use Rattle.bsii_value.specs.Answers.{numOf}
+use Rattle.bsii_string.specs.Answers.{numOf}
 use Rattle.bsii_value.specs.Kinds.{kindIs}
 use Rattle.bsii_lines.proofs.ArrayLaws.{array-short, array-lines}
 use borrow.Author.Needs.{needs}

@@ -6,7 +6,7 @@ use Rattle.bsii_format.specs.Types.{width, arity}
 use Rattle.bsii_format.specs.Digits.{decimalInt}
 use Rattle.bsii_format.specs.Text.{orNil, boolText, int32Text, numericText}
 use Rattle.bsii_value.specs.Kinds.{numericIs}
-use Rattle.bsii_value.specs.NumbersAt.{numbersAt}
+use Rattle.bsii_string.specs.NumbersAt.{numbersAt}
 use Rattle.bsii_float.specs.declared.floats.Bits3.{Bits3}
 use Rattle.bsii_numeric.specs.Floats.{int3Text}
 use Rattle.bsii_numeric.proofs.NumericLaws.{written, unwritten}

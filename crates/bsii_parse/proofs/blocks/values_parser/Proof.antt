@@ -6,7 +6,7 @@ use native.Mathlib.Omega.{arith}
 use Prim.Native.Nat.{_-_}
 use lib.ListN.{length}
 use denote.Ref.{now}
-use Rattle.bsii_value.specs.Answers.{uncheckedStr}
+use Rattle.bsii_string.specs.Answers.{uncheckedStr}
 use Rattle.bsii_prototype.proofs.Names.{unchecked}
 use Rattle.bsii_prototype.proofs.Lists.{count-later}
 use Rattle.bsii_parse.proofs.Values.{InStep, step-start, step-last, step-bad, step-fault, step-next}

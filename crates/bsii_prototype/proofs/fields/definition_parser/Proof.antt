@@ -4,7 +4,7 @@ use native.Mathlib.Omega.{arith}
 use lib.ListN.{drop}
 use denote.Ref.{now}
 use borrow.Author.Needs.{needs}
-use Rattle.bsii_value.specs.Answers.{endOf}
+use Rattle.bsii_string.specs.Answers.{endOf}
 use Rattle.bsii_prototype.proofs.Names.{checked}
 use Rattle.bsii_prototype.proofs.Entries.{name-bad, name-fits, list-bad, field-whole}
 use Rattle.bsii_prototype.proofs.Unchecked.{checked-enum-values}

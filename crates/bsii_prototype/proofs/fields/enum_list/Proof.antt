@@ -7,8 +7,8 @@ use borrow.Author.Needs.{needs}
 use Rattle.bsii_format.specs.Reader.{repeat}
 use Rattle.bsii_format.specs.Prototypes.{enumValueParser}
 use Rattle.bsii_format.proofs.Parsers.{enumValue-exact}
-use Rattle.bsii_value.specs.Answers.{endOf}
-use Rattle.bsii_value.proofs.Ends.{row-done, row-next, row-fault}
+use Rattle.bsii_string.specs.Answers.{endOf}
+use Rattle.bsii_string.proofs.Ends.{row-done, row-next, row-fault}
 use Rattle.bsii_prototype.proofs.fields.enum_list.Statement.{statement}
 use Rattle.bsii_prototype.proofs.fields.enum_list.Tie as tie
 

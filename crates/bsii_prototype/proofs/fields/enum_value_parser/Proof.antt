@@ -4,7 +4,7 @@ use lib.ListN.{drop}
 use denote.Ref.{now}
 use borrow.Author.Needs.{needs}
 use Rattle.bsii_format.specs.Strings.{strParser}
-use Rattle.bsii_value.specs.Answers.{numOf, endOf}
+use Rattle.bsii_string.specs.Answers.{numOf, endOf}
 use Rattle.bsii_prototype.proofs.Entries.{pair-short, pair-more}
 use Rattle.bsii_prototype.proofs.Unchecked.{checked-enum-value}
 use Rattle.bsii_prototype.proofs.fields.enum_value_parser.Statement.{statement}

@@ -5,7 +5,7 @@ use denote.Ref.{now}
 use borrow.Author.Needs.{needs}
 use Rattle.bsii_format.specs.Reader.{repeat}
 use Rattle.bsii_format.specs.Strings.{strParser}
-use Rattle.bsii_value.specs.Answers.{numOf, endOf}
+use Rattle.bsii_string.specs.Answers.{numOf, endOf}
 use Rattle.bsii_prototype.proofs.Entries.{list-none, list-short, list-more}
 use Rattle.bsii_prototype.proofs.Unchecked.{checked-enum-value, checked-enum-values}
 use Rattle.bsii_prototype.proofs.fields.enum_values_parser.Statement.{statement}

@@ -2,8 +2,8 @@
 use mathlib.Core.Path.{sym, ap, _∙_}
 use denote.Ref.{now}
 use borrow.Author.Needs.{needs}
-use Rattle.bsii_value.specs.Answers.{strOf, endOf}
-use Rattle.bsii_value.specs.declared.answers.Str.{Str}
+use Rattle.bsii_string.specs.Answers.{strOf, endOf}
+use Rattle.bsii_string.specs.declared.answers.Str.{Str}
 use Rattle.bsii_prototype.proofs.fields.str_end.Statement.{statement}
 use Rattle.bsii_prototype.proofs.fields.str_end.Tie as tie
 

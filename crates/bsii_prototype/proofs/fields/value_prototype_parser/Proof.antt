@@ -5,7 +5,7 @@ use lib.ListN.{drop}
 use denote.Ref.{now}
 use borrow.Author.Needs.{needs}
 use Rattle.bsii_format.specs.Strings.{strParser}
-use Rattle.bsii_value.specs.Answers.{numOf}
+use Rattle.bsii_string.specs.Answers.{numOf}
 use Rattle.bsii_prototype.specs.Answers.{entryOf}
 use Rattle.bsii_prototype.proofs.Entries.{entry-short, entry-last, definition-entry}
 use Rattle.bsii_prototype.proofs.Unchecked.{checked-entry}

@@ -3,7 +3,7 @@ use mathlib.Core.Bool.{true, false}
 use mathlib.Core.Path.{sym, ap, _∙_}
 use denote.Ref.{now}
 use borrow.Author.Needs.{needs}
-use Rattle.bsii_value.specs.Answers.{numOf}
+use Rattle.bsii_string.specs.Answers.{numOf}
 use Rattle.bsii_prototype.proofs.Beginnings.{is-not, header-not, header-short, header-old, header-version}
 use Rattle.bsii_prototype.proofs.heads.header_parser.Statement.{statement}
 use Rattle.bsii_prototype.proofs.heads.header_parser.Tie as tie

@@ -6,7 +6,7 @@ use denote.Ref.{now}
 use borrow.Author.Needs.{needs}
 use Rattle.bsii_format.specs.Reader.{success}
 use Rattle.bsii_format.specs.File.{markParser}
-use Rattle.bsii_value.specs.Answers.{numOf}
+use Rattle.bsii_string.specs.Answers.{numOf}
 use Rattle.bsii_prototype.proofs.Beginnings.{marked-short, marked, marked-bad}
 use Rattle.bsii_prototype.proofs.heads.marked_parser.Statement.{statement}
 use Rattle.bsii_prototype.proofs.heads.marked_parser.Tie as tie

@@ -5,8 +5,8 @@ use lib.ListN.{drop}
 use denote.Ref.{now}
 use borrow.Author.Needs.{needs}
 use Rattle.bsii_format.specs.Reader.{repeat}
-use Rattle.bsii_value.specs.Answers.{endOf, uncheckedStr}
-use Rattle.bsii_value.proofs.Ends.{row-done, row-next, row-fault}
+use Rattle.bsii_string.specs.Answers.{endOf, uncheckedStr}
+use Rattle.bsii_string.proofs.Ends.{row-done, row-next, row-fault}
 use Rattle.bsii_prototype.specs.Entries.{enumValueWith}
 use Rattle.bsii_prototype.proofs.Names.{unchecked}
 use Rattle.bsii_prototype.proofs.Entries.{pair-exact}

@@ -3,7 +3,7 @@ use mathlib.Core.Path.{sym, ap, _∙_}
 use native.Mathlib.Omega.{arith}
 use denote.Ref.{now}
 use borrow.Author.Needs.{needs}
-use Rattle.bsii_value.specs.Answers.{endOf}
+use Rattle.bsii_string.specs.Answers.{endOf}
 use Rattle.bsii_prototype.proofs.Beginnings.{past-short, past-string}
 use Rattle.bsii_prototype.proofs.past.fields_at.Statement.{statement}
 use Rattle.bsii_prototype.proofs.past.fields_at.Tie as tie

@@ -4,8 +4,8 @@ use Prim.Native.Nat.{_+_}
 use lib.ListN.{drop}
 use denote.Ref.{now}
 use borrow.Author.Needs.{needs}
-use Rattle.bsii_value.specs.Answers.{uncheckedStr}
-use Rattle.bsii_value.specs.Answers.{numOf}
+use Rattle.bsii_string.specs.Answers.{uncheckedStr}
+use Rattle.bsii_string.specs.Answers.{numOf}
 use Rattle.bsii_prototype.specs.Answers.{entryOf}
 use Rattle.bsii_prototype.proofs.Entries.{entry-short, entry-last, definition-entry}
 use Rattle.bsii_prototype.proofs.past.value_prototype_past.Statement.{statement}

@@ -1,11 +1,11 @@
 -- `types::arity`: An arm that stands for several kinds is one test at each of their numbers.
 use mathlib.Core.Path.{sym, ap}
 use mathlib.Core.List.{[], _∷_}
+use Rattle.bsii_string.proofs.Keys.{every}
+use Rattle.bsii_format.specs.Types.{arity}
 use Rattle.bsii_value.specs.Kinds.{numericIs}
 use Rattle.bsii_value.specs.declared.types.Numeric.{Numeric}
-use Rattle.bsii_value.proofs.Keys.{every}
 use Rattle.bsii_value.proofs.TypeTable.{numerics, arm}
-use Rattle.bsii_format.specs.Types.{arity}
 use borrow.Author.Needs.{needs}
 use Rattle.bsii_value.proofs.types.arity.Statement.{statement}
 use Rattle.bsii_value.proofs.types.arity.Tie as tie

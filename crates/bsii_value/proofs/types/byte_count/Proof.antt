@@ -2,12 +2,12 @@
 use Prim.Native.Nat.{ℕ, _*_}
 use mathlib.Core.Path.{sym, ap}
 use mathlib.Core.List.{[], _∷_}
-use Rattle.bsii_value.specs.Kinds.{numericIs}
-use Rattle.bsii_value.specs.declared.types.Numeric.{Numeric}
-use Rattle.bsii_value.proofs.Keys.{every}
-use Rattle.bsii_value.proofs.TypeTable.{numerics, arm}
+use Rattle.bsii_string.proofs.Keys.{every}
 use Rattle.bsii_format.specs.Types as types
 use Rattle.bsii_format.specs.Types.{width, arity}
+use Rattle.bsii_value.specs.Kinds.{numericIs}
+use Rattle.bsii_value.specs.declared.types.Numeric.{Numeric}
+use Rattle.bsii_value.proofs.TypeTable.{numerics, arm}
 use borrow.Author.Needs.{needs}
 use Rattle.bsii_value.proofs.types.byte_count.Statement.{statement}
 use Rattle.bsii_value.proofs.types.byte_count.Tie as tie

@@ -8,7 +8,7 @@ use Rattle.bsii_format.specs.Reader.{repeat}
 use Rattle.bsii_format.specs.Numbers.{number}
 use Rattle.bsii_format.specs.Types.{many}
 use Rattle.bsii_format.specs.Values.{shapeParser}
-use Rattle.bsii_value.specs.Answers.{numOf, endOf}
+use Rattle.bsii_string.specs.Answers.{numOf, endOf}
 use Rattle.bsii_value.specs.Kinds.{numericIs, kindIs}
 use Rattle.bsii_value.specs.declared.types.Kind.{Kind}
 use Rattle.bsii_value.proofs.Elements.{many-short, many-end, many-numbers}

@@ -4,10 +4,10 @@ use lib.ListN.{drop}
 use denote.Ref.{now}
 use Rattle.bsii_format.specs.Values.{str, word, ident, elementParser}
 use Rattle.bsii_format.specs.Strings.{strParser, encodedStrParser, idParser}
-use Rattle.bsii_value.specs.Answers.{endOf}
+use Rattle.bsii_string.specs.Answers.{endOf}
+use Rattle.bsii_string.proofs.Ends.{mapped}
 use Rattle.bsii_value.specs.Kinds.{kindIs}
 use Rattle.bsii_value.specs.declared.types.Kind.{Kind}
-use Rattle.bsii_value.proofs.Ends.{mapped}
 use borrow.Author.Needs.{needs}
 use Rattle.bsii_value.proofs.values.element_parser.Statement.{statement}
 use Rattle.bsii_value.proofs.values.element_parser.Tie as tie

@@ -7,9 +7,9 @@ use denote.Ref.{now}
 use Rattle.bsii_format.specs.Reader.{repeat}
 use Rattle.bsii_format.specs.Values.{elementParser}
 use Rattle.bsii_format.proofs.Parsers.{element-exact}
-use Rattle.bsii_value.specs.Answers.{endOf}
+use Rattle.bsii_string.specs.Answers.{endOf}
+use Rattle.bsii_string.proofs.Ends.{row-done, row-next, row-fault}
 use Rattle.bsii_value.specs.Kinds.{kindIs}
-use Rattle.bsii_value.proofs.Ends.{row-done, row-next, row-fault}
 use Rattle.bsii_value.proofs.values.elements_past.Statement.{statement}
 use Rattle.bsii_value.proofs.values.elements_past.Tie as tie
 

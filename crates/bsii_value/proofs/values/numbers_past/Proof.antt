@@ -3,7 +3,7 @@ use Prim.Native.Nat.{_/_}
 use native.Mathlib.Omega.{arith}
 use native.Mathlib.Nat.{le-refl}
 use denote.Ref.{now}
-use Rattle.bsii_value.specs.Answers.{endOf}
+use Rattle.bsii_string.specs.Answers.{endOf}
 use Rattle.bsii_value.proofs.NumberRows.{fitting, row-whole, row-empty, row-short}
 use borrow.Author.Needs.{needs}
 use Rattle.bsii_value.proofs.values.numbers_past.Statement.{statement}

@@ -7,9 +7,9 @@ use denote.Ref.{now}
 use Rattle.bsii_format.specs.Reader.{repeat}
 use Rattle.bsii_format.specs.Numbers.{number}
 use Rattle.bsii_format.specs.Types.{width, arity}
-use Rattle.bsii_value.specs.Answers.{endOf}
+use Rattle.bsii_string.specs.Answers.{endOf}
+use Rattle.bsii_string.specs.declared.answers.Parsed.the-variants.{Next}
 use Rattle.bsii_value.specs.Kinds.{numericIs}
-use Rattle.bsii_value.specs.declared.answers.Parsed.the-variants.{Next}
 use Rattle.bsii_value.proofs.Elements.{numbers-end}
 use Rattle.bsii_value.proofs.NumberRows.{row-whole}
 use borrow.Author.Needs.{needs}

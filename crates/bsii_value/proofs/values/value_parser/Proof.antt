@@ -6,9 +6,9 @@ use Rattle.bsii_format.specs.Reader.{fail}
 use Rattle.bsii_format.specs.Types.{Shape}
 use Rattle.bsii_format.specs.Values.{str, word, ident, elementParser, shapeParser, valueParser}
 use Rattle.bsii_format.specs.Strings.{strParser, encodedStrParser, idParser}
+use Rattle.bsii_string.proofs.Ends.{mapped}
+use Rattle.bsii_string.specs.Answers.{endOf}
 use Rattle.bsii_value.specs.declared.types.Kind.{Kind}
-use Rattle.bsii_value.proofs.Ends.{mapped}
-use Rattle.bsii_value.specs.Answers.{endOf}
 use Rattle.bsii_value.specs.Kinds.{kindIs, shapeIs}
 use Rattle.bsii_value.proofs.Elements.{one-value}
 use borrow.Author.Needs.{needs}

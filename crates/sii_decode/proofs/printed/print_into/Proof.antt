@@ -2,8 +2,8 @@ use mathlib.Core.Path.{sym, ap, subst, _∙_}
 use denote.Ref.{now}
 use Rattle.bsii_format.specs.Replies.{refuses}
 use Rattle.bsii_format.specs.Calls.{printed}
-use Rattle.bsii_value.specs.Answers.{faultIs}
-use Rattle.bsii_value.specs.declared.answers.Refusal.{Refusal}
+use Rattle.bsii_string.specs.Answers.{faultIs}
+use Rattle.bsii_string.specs.declared.answers.Refusal.{Refusal}
 use Rattle.bsii_output.specs.Answers.{textIs}
 use Rattle.sii_decode.specs.Starts.{Starts}
 use Rattle.sii_decode.proofs.Laws.{longer, call-answers}

@@ -1,5 +1,5 @@
 use native.Mathlib.Omega.{arith}
-use Rattle.bsii_value.specs.Answers.{faultIs}
+use Rattle.bsii_string.specs.Answers.{faultIs}
 use Rattle.sii_decode.proofs.Laws.{refusal-length, behind, wrote-starts}
 use borrow.Author.Needs.{needs}
 use Rattle.sii_decode.proofs.printed.print_refusal.Statement.{statement}

@@ -1,6 +1,6 @@
 use mathlib.Core.Path.{sym, ap, _∙_}
 use denote.Ref.{now}
-use Rattle.bsii_file.specs.Answers.{fieldIs}
+use Rattle.bsii_file_field.specs.Answers.{fieldIs}
 use Rattle.sii_decode_c.specs.Exports.{fieldOut}
 use borrow.Author.Needs.{needs}
 use Rattle.sii_decode_c.proofs.calls.sii_field_of.Statement.{statement}

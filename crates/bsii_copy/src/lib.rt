@@ -1,0 +1,2 @@
+// Copies of names.
+pub mod names;

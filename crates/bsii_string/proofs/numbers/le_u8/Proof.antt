@@ -1,0 +1,37 @@
+-- `numbers::le_u8`: A byte is a number of one byte; where none is left the number runs out.
+use mathlib.Core.Path.{sym}
+use native.Mathlib.Omega.{arith}
+use denote.Ref.{now}
+use Rattle.bsii_format.proofs.Positions.{number-at, number-short}
+use Rattle.bsii_string.proofs.Bytes.{one-byte}
+use borrow.Author.Needs.{needs}
+use Rattle.bsii_string.proofs.numbers.le_u8.Statement.{statement}
+use Rattle.bsii_string.proofs.numbers.le_u8.Tie as tie
+
+left-requires : tie.Need-left-requires
+left-requires c κs = search needs
+
+refused-requires : tie.Need-refused-requires
+refused-requires c κs = search needs
+
+returns : tie.Need-returns
+returns c = let a = c .before .before .before .before .args in rw (c .refused .ensures) (sym (number-short 1 (now (a .s)) (a .at) (omega arith)))
+
+shared-slice-read-wide : tie.Need-shared-slice-read-wide
+shared-slice-read-wide c = search needs
+
+wide-requires : tie.Need-wide-requires
+wide-requires c κs = search needs
+
+add-t3 : tie.Need-add-t3
+add-t3 c = search needs
+
+returns-2 : tie.Need-returns-2
+returns-2 c =
+    let a = c .before .before .before .before .before .args in
+    cc (number-at 1 (now (a .s)) (a .at) (omega arith), one-byte (now (a .s)) (a .at))
+
+pub le-u8-spec : {M : Type 1} → statement M
+le-u8-spec =
+    tie.close
+    (tie.spec left-requires refused-requires returns shared-slice-read-wide wide-requires add-t3 returns-2)

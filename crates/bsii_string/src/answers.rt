@@ -1,0 +1,73 @@
+// What the readers answer: the value and the position after it, or a refusal. specs/Answers says what each case means.
+ghost use mathlib.Core.Path.{_≡_};
+ghost use Rattle.bsii_string.specs.Answers.{refusedAt};
+
+// Why and where a file is refused. What hands a refusal on names none of its fields; specs/Answers says what they mean.
+pub struct Refusal {
+    pub number: u32,
+    pub offset: usize,
+}
+
+pub fn refused(number: u32, offset: usize) -> Refusal
+    ensures { λ r. ⌜ r ≡ refusedAt number offset ⌝ }
+{
+    Refusal { number, offset }
+}
+
+// The numbers of refusals, as in include/sii_decode.h.
+pub const INVALID_HEADER: u32 = 1;
+
+pub const UNSUPPORTED_VERSION: u32 = 2;
+
+pub const MALFORMED: u32 = 3;
+
+pub const NOT_UTF8: u32 = 4;
+
+pub const ZERO_DIGIT: u32 = 5;
+
+pub const UNDEFINED_PROTOTYPE: u32 = 6;
+
+pub const UNLISTED_TYPE: u32 = 7;
+
+pub const FIELD_COUNT: u32 = 8;
+
+pub const ENUM_VALUE: u32 = 9;
+
+pub const TABLE_FULL: u32 = 10;
+
+pub const OUTPUT_SHORT: u32 = 11;
+
+pub const INPUT_LONG: u32 = 12;
+
+pub const ABSENT: u32 = 13;
+
+// The most bytes that a file may have.
+pub const LENGTH_LIMIT: usize = 16_777_216;
+
+pub enum Num {
+    Got(u32, usize),
+    Short(Refusal),
+}
+
+pub enum Num64 {
+    Got64(u64, usize),
+    Short64(Refusal),
+}
+
+// A string's bytes lie from start to next.
+pub enum Str {
+    Text { start: usize, next: usize },
+    Refused(Refusal),
+}
+
+// An encoded word's low 63 bits.
+pub enum Word {
+    Low63(u64, usize),
+    Refused(Refusal),
+}
+
+// Only where something ends: walks that keep no value.
+pub enum Parsed {
+    Next(usize),
+    Fault(Refusal),
+}

@@ -1,0 +1,4 @@
+pub mod FieldLaws
+pub mod BlockLaws
+pub mod RecordLaws
+pub mod WalkLaws

@@ -1,0 +1,3 @@
+-- What is written for blocks and records that were accepted.
+pub mod Blocks
+pub mod Records

@@ -1,0 +1,2 @@
+pub mod Base38
+pub mod WordLaws

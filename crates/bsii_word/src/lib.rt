@@ -1,0 +1,2 @@
+// Encoded words, and ids, which are made of them.
+pub mod words;

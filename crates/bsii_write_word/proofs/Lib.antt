@@ -1,0 +1,2 @@
+pub mod IdLaws
+pub mod WordLaws
