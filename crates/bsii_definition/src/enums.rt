@@ -2,7 +2,7 @@
 use bsii_string::answers::Num;
 use bsii_string::answers::Parsed;
 use bsii_string::numbers::le_u32;
-use bsii_string::strings::str_past;
+use bsii_string::strings::skip_str;
 ghost use mathlib.Core.Path.{_≡_};
 ghost use Rattle.bsii_definition.specs.Enums.{PairAt, later, LastPair, StringOf};
 
@@ -29,7 +29,7 @@ fn enum_pair(s: &[u8], at: usize) -> EnumPair
     let Num::Got(n, string) = number else {
         return EnumPair::NoPair;
     };
-    let end = str_past(s, string);
+    let end = skip_str(s, string);
     let Parsed::Next(next) = end else {
         return EnumPair::NoPair;
     };

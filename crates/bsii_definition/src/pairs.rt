@@ -1,6 +1,6 @@
 // Two lists of definitions side by side: those in force and the last ones of the same prototype id.
 use bsii_prototype::answers::Entry;
-use bsii_prototype::past::value_prototype_past;
+use bsii_prototype::skip::skip_value_prototype;
 ghost use Rattle.bsii_definition.specs.Pairs.{PairOf, WithLast, WithoutLast, SameCount};
 
 // Where a definition stands: its type, and its name's bytes from name to name_end, behind which an enum list follows.
@@ -28,7 +28,7 @@ pub enum Pair {
 fn same_pair(s: &[u8], field: usize) -> Pair
     ensures { λ r. ⌜ PairOf (now (s .entry)) field field r ⌝ }
 {
-    let entry = value_prototype_past(s, field);
+    let entry = skip_value_prototype(s, field);
     let Entry::Field {
         type_id,
         name,
@@ -52,7 +52,7 @@ fn same_pair(s: &[u8], field: usize) -> Pair
 fn with_last(s: &[u8], type_id: u32, next: usize, last_field: usize) -> Pair
     ensures { λ r. ⌜ WithLast (now (s .entry)) «type_id» next «last_field» r ⌝ }
 {
-    let entry = value_prototype_past(s, last_field);
+    let entry = skip_value_prototype(s, last_field);
     let Entry::Field {
         type_id: last_type,
         name,
@@ -76,7 +76,7 @@ fn with_last(s: &[u8], type_id: u32, next: usize, last_field: usize) -> Pair
 fn without_last(s: &[u8], last_field: usize) -> Pair
     ensures { λ r. ⌜ WithoutLast (now (s .entry)) «last_field» r ⌝ }
 {
-    let entry = value_prototype_past(s, last_field);
+    let entry = skip_value_prototype(s, last_field);
     let Entry::Field {
         type_id: _,
         name: _,
@@ -93,7 +93,7 @@ fn without_last(s: &[u8], last_field: usize) -> Pair
 fn unlike_pair(s: &[u8], field: usize, last_field: usize) -> Pair
     ensures { λ r. ⌜ PairOf (now (s .entry)) field «last_field» r ⌝ }
 {
-    let entry = value_prototype_past(s, field);
+    let entry = skip_value_prototype(s, field);
     let Entry::Field {
         type_id,
         name: _,

@@ -25,13 +25,13 @@ use Rattle.bsii_string.specs.declared.answers.Parsed.{Parsed}
 use Rattle.bsii_string.specs.declared.answers.Parsed.the-variants.{Next, Fault}
 use Rattle.bsii_string.proofs.Ends.{next≢fault, next-same, fault-at}
 use Rattle.bsii_value.proofs.Elements.{one-end}
-use Rattle.bsii_past.specs.Unchecked.{uncheckedElement}
-use Rattle.bsii_past.proofs.Values.{elements-same}
+use Rattle.bsii_skip.specs.Unchecked.{uncheckedElement}
+use Rattle.bsii_skip.proofs.Values.{elements-same}
 use Rattle.bsii_string.specs.NumbersAt.{numberAt, numbersAt}
 use Rattle.bsii_string.proofs.NumbersAt.{number-moves, number-is, numbers-from, row-length}
 use Rattle.bsii_element.specs.Decoded.{decoded}
 use Rattle.bsii_element.proofs.Ended.{next-ok}
-use Rattle.bsii_element.proofs.Standing.{standing, absent-past, extent, at-offset}
+use Rattle.bsii_element.proofs.PlacedElements.{standing, absent-past, extent, at-offset}
 
 -- the faults of an element and of a value are the call's
 pub decoded-fault : (p : ℕ) (q : Result Element) {f : Refusal} → Fault f ≡ endOf q → refuses (faultIs f) ≡ decoded p q
@@ -150,7 +150,7 @@ module _ (k : Kind) (s : List ℕ) where
       let m = map-ok single (consumed (elementParser k)) 0 s (q .2) in
       value-absent (single (m .0)) n (q .1) (suc i) refl ∙ ap (λ (v : Value). ofValue (suc i) (ok v n (q .1))) (m .1) ∙ ap (ofValue (suc i)) (sym (q .2))
 
--- ---- an array: a u32 count, then so many elements
+-- ---- an array: a u32 count n, then n elements
 
 pub record Array (k : Kind) (s : List ℕ) (n : ℕ) : Type 0 where
   pub elements : List (Consumed Element)

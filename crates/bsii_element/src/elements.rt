@@ -1,7 +1,7 @@
 // One element of a value.
 use crate::answers::Element;
 use crate::numeric::numeric;
-use bsii_past::elements_past;
+use bsii_skip::skip_elements;
 use bsii_string::answers::ABSENT;
 use bsii_string::answers::Parsed;
 use bsii_string::answers::UNLISTED_TYPE;
@@ -96,7 +96,7 @@ fn in_array(part: &[u8], kind: Kind, index: usize) -> Element
     if count <= index {
         return Element::Refused(refused(ABSENT, 0));
     }
-    let start = elements_past(part, 4, index as u32, kind);
+    let start = skip_elements(part, 4, index as u32, kind);
     match start {
         Parsed::Next(at) => decode(part, at, kind),
         Parsed::Fault(f) => Element::Refused(f),

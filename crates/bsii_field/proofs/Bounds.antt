@@ -12,8 +12,8 @@ use Rattle.bsii_format.proofs.Positions.{moved-on}
 use Rattle.bsii_string.specs.Answers.{endOf, uncheckedStr}
 use Rattle.bsii_string.specs.declared.answers.Parsed.the-variants.{Next}
 use Rattle.bsii_prototype.proofs.Entries.{next-is}
-use Rattle.bsii_past.specs.Unchecked.{skip, uncheckedId, uncheckedElement, uncheckedArray, uncheckedShape, uncheckedValue}
-use Rattle.bsii_past.proofs.Exact.{unchecked-element-exact, unchecked-value-exact}
+use Rattle.bsii_skip.specs.Unchecked.{skip, uncheckedId, uncheckedElement, uncheckedArray, uncheckedShape, uncheckedValue}
+use Rattle.bsii_skip.proofs.Exact.{unchecked-element-exact, unchecked-value-exact}
 
 short : Fault
 short = record { number = malformed; offset = 0 }

@@ -7,10 +7,10 @@ use mathlib.Core.List.{List}
 use lib.ListN.{length, take, drop}
 use Rattle.bsii_format.specs.Blocks.{DataValue}
 use Rattle.bsii_format.specs.Calls.{Placed, FieldAnswer, fieldAnswer}
-use Rattle.bsii_field.specs.declared.Found.the-variants.{Value, NoValue}
+use Rattle.bsii_field.specs.declared.FoundValue.the-variants.{Value, NoValue}
 use Rattle.bsii_field.specs.Answers.{foundIs}
 
-pub record Standing (s : List ℕ) (t at next : ℕ) (there : Option (Placed DataValue)) : Type 0 where
+pub record PlacedValue (s : List ℕ) (t at next : ℕ) (there : Option (Placed DataValue)) : Type 0 where
   pub value : DataValue
   pub placed : there ≡ some (record { offset = at; it = value })
   pub typed : value .typeId ≡ t
@@ -23,7 +23,7 @@ none≢some e = let z : _≡_ {A = ℕ} 0 1 = cc in let f : ⊥ = omega arith in
 some-is : {a b : FieldAnswer} → _≡_ {A = Option FieldAnswer} (some a) (some b) → a ≡ b
 some-is e = cc
 
-pub standing : (s : List ℕ) (t at next : ℕ) (o : Option (Placed DataValue)) → foundIs s (Value t at next) ≡ Option·map fieldAnswer o → Standing s t at next o
+pub standing : (s : List ℕ) (t at next : ℕ) (o : Option (Placed DataValue)) → foundIs s (Value t at next) ≡ Option·map fieldAnswer o → PlacedValue s t at next o
 unfolding fieldAnswer
 standing s t at next none e = none≢some (sym e)
 standing s t at next (some p) e =

@@ -20,16 +20,16 @@ use Rattle.bsii_string.specs.declared.answers.Refusal.{Refusal}
 use Rattle.bsii_string.proofs.Ends.{next≢fault, next-same}
 use Rattle.bsii_prototype.specs.declared.answers.Entry.the-variants.{Field, Last, Bad}
 use Rattle.bsii_prototype.proofs.Turns.{FieldTurn, turn-field, turn-last, turn-bad}
-use Rattle.bsii_past.specs.Unchecked.{uncheckedValue}
-use Rattle.bsii_past.proofs.Blocks.{Turn, turn, done}
+use Rattle.bsii_skip.specs.Unchecked.{uncheckedValue}
+use Rattle.bsii_skip.proofs.Blocks.{Turn, turn, done}
 use Rattle.bsii_field.proofs.Bounds.{value-moves}
-use Rattle.bsii_field.specs.declared.Found.{Found}
-use Rattle.bsii_field.specs.declared.Found.the-variants.{Value, NoValue}
+use Rattle.bsii_field.specs.declared.FoundValue.{FoundValue}
+use Rattle.bsii_field.specs.declared.FoundValue.the-variants.{Value, NoValue}
 use Rattle.bsii_field.specs.Answers.{foundIs, ValueAt}
 
 -- ---- a value that was accepted, and those behind it
 
-pub record Step (s : List ℕ) (at type next end : ℕ) (vs : List DataValue) (n : ℕ) (t : List ℕ) (m : ℕ) (u : List ℕ) : Type 0 where
+pub record ValueStep (s : List ℕ) (at type next end : ℕ) (vs : List DataValue) (n : ℕ) (t : List ℕ) (m : ℕ) (u : List ℕ) : Type 0 where
   pub value : DataValue
   pub typed : type ≡ value .typeId
   pub size : end - at ≡ length (value .raw)
@@ -45,7 +45,7 @@ module _ (s : List ℕ) (field at : ℕ) {l : Fields} {n : ℕ} {t : List ℕ} (
     {vs : List DataValue} {m : ℕ} {u : List ℕ} (carried : dataValuesParser (l .fields) at (drop at s) ≡ ok vs m u)
     {type a b next : ℕ} (e : Field type a b next ≡ entryOf (field + 8) (entryWith uncheckedStr field (drop field s))) where
   step-of : (y : FieldTurn s field type a b next l n t) (w : Turn (with (y .field) (take (next - field) (drop field s))) (y .rest .fields) s at vs m u)
-      → Step s at type next (w .end) vs n t m u
+      → ValueStep s at type next (w .end) vs n t m u
   step-of y w =
       let g = value-good (with (y .field) (take (next - field) (drop field s))) at (drop at s) (w .value) (w .end) (drop (w .end) s) (w .first) in
       let size : w .end - at ≡ length (w .value .raw) = omega (arith, g .2) in
@@ -62,7 +62,7 @@ module _ (s : List ℕ) (field at : ℕ) {l : Fields} {n : ℕ} {t : List ℕ} (
         list = w .both;
       }
 
-  step-end : (end : ℕ) × (endOf (uncheckedValue type at (drop at s)) ≡ Next end) × Step s at type next end vs n t m u
+  step-end : (end : ℕ) × (endOf (uncheckedValue type at (drop at s)) ≡ Next end) × ValueStep s at type next end vs n t m u
   unfolding consField
   step-end =
       let y = turn-field s field read e in
@@ -70,8 +70,8 @@ module _ (s : List ℕ) (field at : ℕ) {l : Fields} {n : ℕ} {t : List ℕ} (
       (ap (λ (z : Fields). dataValuesParser (z .fields) at (drop at s)) (sym (y .list)) ∙ carried) in
       (w .end, ap (λ z. endOf (uncheckedValue z at (drop at s))) (y .typed) ∙ w .past, step-of y w)
 
-  pub step : {end : ℕ} → Next end ≡ endOf (uncheckedValue type at (drop at s)) → Step s at type next end vs n t m u
-  step h = let q = step-end in subst (λ (k : ℕ). Step s at type next k vs n t m u) (sym (next-same (h ∙ q .1))) (q .2)
+  pub step : {end : ℕ} → Next end ≡ endOf (uncheckedValue type at (drop at s)) → ValueStep s at type next end vs n t m u
+  step h = let q = step-end in subst (λ (k : ℕ). ValueStep s at type next k vs n t m u) (sym (next-same (h ∙ q .1))) (q .2)
 
   -- what was accepted is not refused
   pub step-fault : {P : Type 0} {f : Refusal} → Fault f ≡ endOf (uncheckedValue type at (drop at s)) → P
@@ -122,10 +122,10 @@ go-start {start = start} {index = index} = record {
       record { fields = l; values = vs; read = e; carried = f; same = ap (getElem? (places start vs)) all };
 }
 
-value-is : {t u i j n m : ℕ} → _≡_ {A = Found} (Value t i n) (Value u j m) → (i ≡ j) × (n ≡ m)
+value-is : {t u i j n m : ℕ} → _≡_ {A = FoundValue} (Value t i n) (Value u j m) → (i ≡ j) × (n ≡ m)
 value-is e = (cc, cc)
 
-none≢value : {P : Type 0} {t at next : ℕ} → _≡_ {A = Found} NoValue (Value t at next) → P
+none≢value : {P : Type 0} {t at next : ℕ} → _≡_ {A = FoundValue} NoValue (Value t at next) → P
 none≢value e = let z : _≡_ {A = ℕ} 0 1 = cc in let f : ⊥ = omega arith in absurd f
 
 module _ {s : List ℕ} {fields start index field at passed : ℕ} (k : Going s fields start index field at passed) where

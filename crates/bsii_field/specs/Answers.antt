@@ -10,8 +10,8 @@ use Rattle.bsii_format.specs.Blocks.{DataValue, dataValuesParser}
 use Rattle.bsii_format.specs.Calls.{placed, fieldIndex, FieldAnswer, fieldAnswer}
 use Rattle.bsii_field.specs.declared.Index.{Index}
 use Rattle.bsii_field.specs.declared.Index.the-variants.{At, Absent}
-use Rattle.bsii_field.specs.declared.Found.{Found}
-use Rattle.bsii_field.specs.declared.Found.the-variants.{Value, NoValue}
+use Rattle.bsii_field.specs.declared.FoundValue.{FoundValue}
+use Rattle.bsii_field.specs.declared.FoundValue.the-variants.{Value, NoValue}
 
 abbrev pub indexIs : Index → Option ℕ
 indexIs (At i) = some i
@@ -22,12 +22,12 @@ pub record IndexOf (s : List ℕ) (fields : ℕ) (name : List ℕ) (r : Index) :
   pub first : (l : Fields) (n : ℕ) (t : List ℕ) → fieldsParser fields (drop fields s) ≡ ok l n t → indexIs r ≡ fieldIndex name (l .fields)
 
 -- the part of the file s from `at` to `next`
-abbrev pub foundIs : List ℕ → Found → Option FieldAnswer
+abbrev pub foundIs : List ℕ → FoundValue → Option FieldAnswer
 foundIs s (Value t at next) = some (record { typeId = t; part = record { offset = at; size = next - at }; bytes = take (next - at) (drop at s) })
 foundIs s NoValue = none
 
 -- the value of that index among those from `start` on
-pub record ValueAt (s : List ℕ) (fields start index : ℕ) (r : Found) : Type 0 where
+pub record ValueAt (s : List ℕ) (fields start index : ℕ) (r : FoundValue) : Type 0 where
   pub answer : (l : Fields) (n : ℕ) (t : List ℕ) → fieldsParser fields (drop fields s) ≡ ok l n t
       → (vs : List DataValue) (m : ℕ) (u : List ℕ) → dataValuesParser (l .fields) start (drop start s) ≡ ok vs m u
       → foundIs s r ≡ Option·map fieldAnswer (getElem? (placed (λ (v : DataValue). length (v .raw)) start vs) index)

@@ -2,9 +2,9 @@
 //
 // Definitions and values were accepted before, so nothing is checked again. Each function takes the whole file and positions, any
 // positions, and answers for every input; its contract says what the answer means where the format's readers accept.
-use bsii_past::value_past;
 use bsii_prototype::answers::Entry;
-use bsii_prototype::past::value_prototype_past;
+use bsii_prototype::skip::skip_value_prototype;
+use bsii_skip::skip_value;
 use bsii_string::answers::Parsed;
 ghost use Rattle.bsii_field.specs.Answers.{IndexOf, ValueAt};
 
@@ -15,7 +15,7 @@ pub enum Index {
 }
 
 // A value's type, and its bytes from at to next.
-pub enum Found {
+pub enum FoundValue {
     Value {
         type_id: u32,
         at: usize,
@@ -31,7 +31,7 @@ pub fn field_index(s: &[u8], fields: usize, name: &[u8]) -> Index
     let mut field = fields;
     let mut index: usize = 0;
     'definitions: loop {
-        let entry = value_prototype_past(s, field);
+        let entry = skip_value_prototype(s, field);
         let Entry::Field {
             type_id: _,
             name: start,
@@ -60,14 +60,14 @@ pub fn field_index(s: &[u8], fields: usize, name: &[u8]) -> Index
 }
 
 // The value at a position, of those from `start` on that stand under the definitions from `fields` on.
-pub fn value_at(s: &[u8], fields: usize, start: usize, index: usize) -> Found
+pub fn value_at(s: &[u8], fields: usize, start: usize, index: usize) -> FoundValue
     ensures { λ r. ⌜ ValueAt (now (s .entry)) fields start index r ⌝ }
 {
     let mut field = fields;
     let mut at = start;
     let mut passed: usize = 0;
     loop {
-        let entry = value_prototype_past(s, field);
+        let entry = skip_value_prototype(s, field);
         let Entry::Field {
             type_id,
             name: _,
@@ -75,14 +75,14 @@ pub fn value_at(s: &[u8], fields: usize, start: usize, index: usize) -> Found
             next: behind,
         } = entry
         else {
-            return Found::NoValue;
+            return FoundValue::NoValue;
         };
-        let value = value_past(s, at, type_id);
+        let value = skip_value(s, at, type_id);
         let Parsed::Next(next) = value else {
-            return Found::NoValue;
+            return FoundValue::NoValue;
         };
         if passed == index {
-            return Found::Value { type_id, at, next };
+            return FoundValue::Value { type_id, at, next };
         }
         at = next;
         field = behind;

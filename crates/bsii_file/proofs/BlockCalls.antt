@@ -26,24 +26,24 @@ use Rattle.bsii_string.specs.declared.answers.Parsed.the-variants.{Next, Fault}
 use Rattle.bsii_string.proofs.Ends.{next≢fault, next-same}
 use Rattle.bsii_string.proofs.NumbersAt.{number-is}
 use Rattle.bsii_prototype.proofs.Entries.{next-is}
-use Rattle.bsii_past.specs.Unchecked.{uncheckedId}
-use Rattle.bsii_past.proofs.Exact.{unchecked-id-exact}
-use Rattle.bsii_past.proofs.Values.{id-same}
+use Rattle.bsii_skip.specs.Unchecked.{uncheckedId}
+use Rattle.bsii_skip.proofs.Exact.{unchecked-id-exact}
+use Rattle.bsii_skip.proofs.Values.{id-same}
 use Rattle.bsii_parse.specs.Walks.{ReadFile}
 use Rattle.bsii_parse.specs.declared.walk.Totals.{Totals}
 use Rattle.bsii_parse.specs.declared.walk.Walked.{Walked}
 use Rattle.bsii_parse.specs.declared.walk.Walked.the-variants.{Done, Fault as Stopped}
-use Rattle.bsii_again.specs.Seek.{Numbered, passOver, seekIn, BlockIs, Sought, sought, missed, Seeks}
-use Rattle.bsii_again.specs.declared.seek.Block.{Block}
-use Rattle.bsii_again.specs.declared.seek.BlockAt.{BlockAt}
-use Rattle.bsii_again.specs.declared.seek.BlockAt.the-variants.{Block as ABlock, NoBlock}
+use Rattle.bsii_walk.specs.Seek.{Numbered, passOver, seekIn, BlockIs, Sought, sought, missed, Seeks}
+use Rattle.bsii_walk.specs.declared.seek.Block.{Block}
+use Rattle.bsii_walk.specs.declared.seek.BlockAt.{BlockAt}
+use Rattle.bsii_walk.specs.declared.seek.BlockAt.the-variants.{Block as ABlock, NoBlock}
 use Rattle.bsii_file.specs.Answers.{blockIs, numberIs}
 use Rattle.bsii_file.specs.Lookups.{BlockAnswered}
 use Rattle.bsii_file.specs.declared.blocks.BlockReply.{BlockReply}
 use Rattle.bsii_file.specs.declared.blocks.BlockReply.the-variants as block
 use Rattle.bsii_file.specs.declared.blocks.NumberReply.the-variants as number
 use Rattle.bsii_file.proofs.Lookups.{WasRead, was-read, read-answers, unread-refuses}
-use Rattle.bsii_file.proofs.Rereading.{standing-first, blocks-are}
+use Rattle.bsii_file.proofs.Rereading.{walk-first, blocks-are}
 
 -- ---- the search is the definitions' own
 
@@ -84,7 +84,7 @@ was-missed (missed e) z = e
 
 module _ {s t : List ℕ} {a : Totals} {t′ : List ℕ} (w : WasRead s t a t′) {any : Bool} {name : List ℕ} {k : ℕ} {r : BlockAt} (h : Seeks s 8 t′ (a .rows) any name k r) where
   here : Sought s (prototypesOf (w .file .records)) (seekIn (prototypesOf (w .file .records)) any name 0 k (blocksOf (w .file))) r
-  here = subst (λ l. Sought s (prototypesOf (w .file .records)) (seekIn (prototypesOf (w .file .records)) any name 0 k l) r) (blocks-are w) (h .seeks _ _ _ (standing-first w))
+  here = subst (λ l. Sought s (prototypesOf (w .file .records)) (seekIn (prototypesOf (w .file .records)) any name 0 k l) r) (blocks-are w) (h .seeks _ _ _ (walk-first w))
 
   pub block-found : {b : Block} → r ≡ ABlock b → WasFound s (prototypesOf (w .file .records)) (seekIn (prototypesOf (w .file .records)) any name 0 k (blocksOf (w .file))) b
   block-found {b} z = was-found here b z

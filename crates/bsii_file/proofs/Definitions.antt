@@ -23,13 +23,13 @@ use Rattle.bsii_prototype.proofs.Unchecked.{fields-follow}
 use Rattle.bsii_prototype.proofs.Beginnings.{head-past}
 use Rattle.bsii_table.specs.Rows.{lookup}
 use Rattle.bsii_table.specs.Table.{foundRow}
-use Rattle.bsii_table.specs.declared.Found.{Found}
-use Rattle.bsii_table.specs.declared.Found.the-variants.{At, Nothing}
-use Rattle.bsii_parse.specs.Walks.{Stands, ReadFile}
+use Rattle.bsii_table.specs.declared.FoundRow.{FoundRow}
+use Rattle.bsii_table.specs.declared.FoundRow.the-variants.{At, Nothing}
+use Rattle.bsii_parse.specs.Walks.{DefinedAt, ReadFile}
 use Rattle.bsii_parse.specs.declared.walk.Totals.{Totals}
 use Rattle.bsii_parse.specs.declared.walk.Walked.{Walked}
 use Rattle.bsii_parse.specs.declared.walk.Walked.the-variants.{Done, Fault as Stopped}
-use Rattle.bsii_again.proofs.Naming.{head-ends, standing}
+use Rattle.bsii_walk.proofs.Naming.{head-ends, standing}
 use Rattle.bsii_file.specs.Answers.{prototypeIs}
 use Rattle.bsii_file.specs.Lookups.{PrototypeAt, LastPrototype}
 use Rattle.bsii_file.specs.declared.prototypes.PrototypeReply.{PrototypeReply}
@@ -44,7 +44,7 @@ module _ {s : List ℕ} {o : ℕ} {h : Parsed} (e : h ≡ endOf (uncheckedHead o
   head-fault z v = record { answers = λ p x. next≢fault (sym (standing s o e p x) ∙ z) }
 
   module _ {first : ℕ} (z : h ≡ Next first) {l : Counted} (d : l ≡ countOf (fieldsWith uncheckedStr first (drop first s))) where
-    counts : (p : Prototype) (x : Stands s o p) → (first ≡ x .fields) × (l ≡ counted.Fields (length (p .fields)) (x .next))
+    counts : (p : Prototype) (x : DefinedAt s o p) → (first ≡ x .fields) × (l ≡ counted.Fields (length (p .fields)) (x .next))
     unfolding countOf
     counts p x =
         let i : first ≡ x .fields = next-same (sym z ∙ standing s o e p x) in
@@ -69,7 +69,7 @@ module _ {s : List ℕ} {o : ℕ} {h : Parsed} (e : h ≡ endOf (uncheckedHead o
 
 -- ---- the last definition of an id
 
-module _ {s t : List ℕ} {rows id : ℕ} {r : Found} (f : foundRow r ≡ lookup t rows id) where
+module _ {s t : List ℕ} {rows id : ℕ} {r : FoundRow} (f : foundRow r ≡ lookup t rows id) where
   pub last-absent : r ≡ Nothing → LastPrototype s t rows id (reply.Refused (refusedAt absent 0))
   unfolding orRefuse
   last-absent q = record { answers = λ env k. sym (ap (λ (o : Option (Placed Prototype)). orAbsent (Option·map prototypeAnswer o)) (last-nothing k id f q)) }

@@ -18,10 +18,10 @@ use Rattle.bsii_string.specs.declared.answers.Refusal.{Refusal}
 use Rattle.bsii_table.specs.Rows.{Row, lookup}
 use Rattle.bsii_table.specs.Table.{foundRow}
 use Rattle.bsii_table.specs.Relation.{Holds}
-use Rattle.bsii_table.specs.declared.Found.{Found}
-use Rattle.bsii_table.specs.declared.Found.the-variants.{At, Nothing}
+use Rattle.bsii_table.specs.declared.FoundRow.{FoundRow}
+use Rattle.bsii_table.specs.declared.FoundRow.the-variants.{At, Nothing}
 use Rattle.bsii_table.proofs.Relation.{found-at, found-nothing}
-use Rattle.bsii_parse.specs.Walks.{Stands, totalsOf, bare, Kept, ReadFile, read, unread}
+use Rattle.bsii_parse.specs.Walks.{DefinedAt, totalsOf, bare, Kept, ReadFile, read, unread}
 use Rattle.bsii_parse.specs.declared.walk.Totals.{Totals}
 use Rattle.bsii_parse.specs.declared.walk.Walked.{Walked}
 use Rattle.bsii_parse.specs.declared.walk.Walked.the-variants.{Done, Fault as Stopped}
@@ -82,11 +82,11 @@ file-found id f =
     ∙ bare-found id (prototypesIn (placedRecords f) [])
 
 -- the table holds a file's definitions: what a second walk over the file starts from
-pub holds-last : {s t : List ℕ} {a : Totals} {t′ : List ℕ} (w : WasRead s t a t′) → Holds (Stands s) t′ (a .rows) (prototypesOf (w .file .records))
+pub holds-last : {s t : List ℕ} {a : Totals} {t′ : List ℕ} (w : WasRead s t a t′) → Holds (DefinedAt s) t′ (a .rows) (prototypesOf (w .file .records))
 unfolding prototypesOf placedRecords
 holds-last {s} {a = a} {t′ = t′} w =
     let f = w .file in
-    subst (Holds (Stands s) t′ (a .rows)) (bare-all (λ r. length (recordBytes r)) (length (f .header .raw)) (f .records) []) (w .kept .holds)
+    subst (Holds (DefinedAt s) t′ (a .rows)) (bare-all (λ r. length (recordBytes r)) (length (f .header .raw)) (f .records) []) (w .kept .holds)
 
 some≢none : {P : Type 0} {p : Prototype} → _≡_ {A = Option Prototype} (some p) none → P
 some≢none e = let z : _≡_ {A = ℕ} 0 1 = cc in let f : ⊥ = omega arith in absurd f
@@ -95,25 +95,25 @@ some≢none e = let z : _≡_ {A = ℕ} 0 1 = cc in let f : ⊥ = omega arith in
 pub record LastAt (s : List ℕ) (id o : ℕ) (env : List (Placed Prototype)) : Type 0 where
   pub definition : Prototype
   pub found : lastDefinition id env ≡ some (record { offset = o; it = definition })
-  pub stands : Stands s o definition
+  pub stands : DefinedAt s o definition
 
-module _ {s t : List ℕ} {rows : ℕ} {env : List (Placed Prototype)} (k : Kept s t rows env) (id : ℕ) {r : Found} (f : foundRow r ≡ lookup t rows id) where
+module _ {s t : List ℕ} {rows : ℕ} {env : List (Placed Prototype)} (k : Kept s t rows env) (id : ℕ) {r : FoundRow} (f : foundRow r ≡ lookup t rows id) where
   pub last-at : {a b : ℕ} → r ≡ At a b → LastAt s id b env
-  last-at {a} {b} q = let x = found-at (Stands s) (k .holds) id q f in go (lastDefinition id env) refl (x .0) (sym (x .1) ∙ bare-found id env) (x .3)
+  last-at {a} {b} q = let x = found-at (DefinedAt s) (k .holds) id q f in go (lastDefinition id env) refl (x .0) (sym (x .1) ∙ bare-found id env) (x .3)
     where
       offset : some b ≡ Option·map (λ (p : Placed Prototype). p .offset) (lastDefinition id env)
       offset = ap (Option·map (λ (r : Row). r .last)) (sym (ap foundRow q) ∙ f) ∙ k .offsets id
 
-      go : (o : Option (Placed Prototype)) → lastDefinition id env ≡ o → (p : Prototype) → some p ≡ bareOf o → Stands s b p → LastAt s id b env
+      go : (o : Option (Placed Prototype)) → lastDefinition id env ≡ o → (p : Prototype) → some p ≡ bareOf o → DefinedAt s b p → LastAt s id b env
       go none e p h x = some≢none h
       go (some d) e p h x =
           let z : some b ≡ some (d .offset) = offset ∙ ap (Option·map (λ (p : Placed Prototype). p .offset)) e in
           let i : d .it ≡ p = cc in
           let j : d .offset ≡ b = cc in
-          record { definition = d .it; found = e ∙ rw j; stands = subst (Stands s b) (sym i) x }
+          record { definition = d .it; found = e ∙ rw j; stands = subst (DefinedAt s b) (sym i) x }
 
   pub last-nothing : r ≡ Nothing → lastDefinition id env ≡ none
-  last-nothing q = go (lastDefinition id env) (sym (bare-found id env) ∙ found-nothing (Stands s) (k .holds) id q f)
+  last-nothing q = go (lastDefinition id env) (sym (bare-found id env) ∙ found-nothing (DefinedAt s) (k .holds) id q f)
     where
       go : (o : Option (Placed Prototype)) → bareOf o ≡ none → o ≡ none
       go none h = refl

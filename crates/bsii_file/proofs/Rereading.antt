@@ -18,9 +18,9 @@ use Rattle.bsii_format.proofs.Positions.{moved}
 use Rattle.bsii_format.proofs.File.{parse-ok}
 use Rattle.bsii_prototype.proofs.Names.{number-front}
 use Rattle.bsii_table.proofs.Relation.{holds-entered}
-use Rattle.bsii_parse.specs.Walks.{Stands, recordsAt}
+use Rattle.bsii_parse.specs.Walks.{DefinedAt, recordsAt}
 use Rattle.bsii_parse.specs.declared.walk.Totals.{Totals}
-use Rattle.bsii_again.specs.Seek.{Standing, Readable, blocksFrom}
+use Rattle.bsii_walk.specs.Seek.{Standing, Readable, blocksFrom}
 use Rattle.bsii_file.proofs.Lookups.{WasRead, holds-last}
 
 -- ---- the header has 8 bytes
@@ -72,14 +72,14 @@ file-parts words s {f} {n} e =
 -- ---- the second walk
 
 module _ {s t : List ℕ} {a : Totals} {t′ : List ℕ} (w : WasRead s t a t′) where
-  pub standing-first : Standing s (length t / 3) (a .rows) (prototypesOf (w .file .records)) t′ 8 [] (w .file .records)
+  pub walk-first : Standing s (length t / 3) (a .rows) (prototypesOf (w .file .records)) t′ 8 [] (w .file .records)
   unfolding prototypesOf
-  standing-first = let p = file-parts (length t) s (w .parsed) in
-      record { end = w .file .end; n = a .next; reads = p .reads; entered = holds-entered (Stands s) (holds-last w); lasts = refl }
+  walk-first = let p = file-parts (length t) s (w .parsed) in
+      record { end = w .file .end; n = a .next; reads = p .reads; entered = holds-entered (DefinedAt s) (holds-last w); lasts = refl }
 
   pub readable : Readable s 8 t′ (a .rows)
   readable = let p = file-parts (length t) s (w .parsed) in
-      record { short = p .short; inside = p .inside; rooms = length t / 3; last = prototypesOf (w .file .records); rest = w .file .records; standing = standing-first }
+      record { short = p .short; inside = p .inside; rooms = length t / 3; last = prototypesOf (w .file .records); rest = w .file .records; standing = walk-first }
 
   pub blocks-are : blocksFrom 8 (w .file .records) ≡ blocksOf (w .file)
   unfolding blocksOf placedRecords

@@ -8,9 +8,9 @@ use Rattle.bsii_format.specs.Prototypes.{Prototype}
 use Rattle.bsii_format.specs.Replies.{gives}
 use Rattle.bsii_format.specs.Blocks.{DataBlock, findBy}
 use Rattle.bsii_format.specs.Calls.{Placed, prototypeAnswer, blockAnswer, orAbsent}
-use Rattle.bsii_parse.specs.Walks.{Stands, Kept}
-use Rattle.bsii_again.specs.Seek.{BlockIs}
-use Rattle.bsii_again.specs.declared.seek.Block.{Block}
+use Rattle.bsii_parse.specs.Walks.{DefinedAt, Kept}
+use Rattle.bsii_walk.specs.Seek.{BlockIs}
+use Rattle.bsii_walk.specs.declared.seek.Block.{Block}
 use Rattle.bsii_file.specs.Answers.{prototypeIs, blockIs}
 use Rattle.bsii_file.specs.declared.blocks.BlockReply.{BlockReply}
 use Rattle.bsii_file.specs.declared.prototypes.PrototypeReply.{PrototypeReply}
@@ -22,7 +22,7 @@ lastDefinition = findBy (λ (p : Placed Prototype). p .it .id)
 
 -- of any prototype that stands at the offset: its name's place and its number of fields
 pub record PrototypeAt (s : List ℕ) (o : ℕ) (r : PrototypeReply) : Type 0 where
-  pub answers : (p : Prototype) → Stands s o p → r ≡ reply.Prototype (o + 13) (length (p .name)) (length (p .fields))
+  pub answers : (p : Prototype) → DefinedAt s o p → r ≡ reply.Prototype (o + 13) (length (p .name)) (length (p .fields))
 
 -- of any definitions that the table holds: what the prototype call answers for the last one of the id
 pub record LastPrototype (s t : List ℕ) (rows id : ℕ) (r : PrototypeReply) : Type 0 where

@@ -1,16 +1,16 @@
 // A block by its number, and by its number among those under a prototype name.
-use bsii_again::seek::Block;
-use bsii_again::seek::BlockAt;
-use bsii_again::seek::seek;
 use bsii_parse::reading::bsii_parser;
 use bsii_parse::walk::Walked;
-use bsii_past::id_past;
+use bsii_skip::skip_id;
 use bsii_string::answers::ABSENT;
 use bsii_string::answers::Parsed;
 use bsii_string::answers::Refusal;
 use bsii_string::answers::refused;
 use bsii_string::at::u32_at;
 use bsii_table::clear;
+use bsii_walk::seek::Block;
+use bsii_walk::seek::BlockAt;
+use bsii_walk::seek::seek;
 ghost use mathlib.Core.Path.{_≡_};
 ghost use lib.ListN.{length};
 ghost use Rattle.bsii_format.specs.Calls.{blockCall, namedBlockCall, tableAfter};
@@ -37,7 +37,7 @@ fn block_found(s: &[u8], b: Block) -> BlockReply
     ensures { λ r. ⌜ BlockAnswered (now (s .entry)) b r ⌝ }
 {
     let start = b.id;
-    let end = id_past(s, start);
+    let end = skip_id(s, start);
     match end {
         Parsed::Fault(f) => BlockReply::Refused(f),
         Parsed::Next(behind) => BlockReply::Block {

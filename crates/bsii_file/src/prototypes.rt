@@ -2,14 +2,14 @@
 use bsii_parse::reading::bsii_parser;
 use bsii_parse::walk::Walked;
 use bsii_prototype::answers::Counted;
-use bsii_prototype::past::fields_at;
-use bsii_prototype::past::fields_past;
+use bsii_prototype::skip::fields_at;
+use bsii_prototype::skip::skip_fields;
 use bsii_string::answers::ABSENT;
 use bsii_string::answers::Parsed;
 use bsii_string::answers::Refusal;
 use bsii_string::answers::refused;
 use bsii_string::numbers::size;
-use bsii_table::Found;
+use bsii_table::FoundRow;
 use bsii_table::clear;
 use bsii_table::find;
 ghost use mathlib.Core.Path.{_≡_};
@@ -38,7 +38,7 @@ fn prototype_at(s: &[u8], offset: usize) -> PrototypeReply
         Parsed::Fault(f) => PrototypeReply::Refused(f),
         Parsed::Next(first) => {
             let name = offset + 13;
-            let list = fields_past(s, first);
+            let list = skip_fields(s, first);
             match list {
                 Counted::Fault(f) => PrototypeReply::Refused(f),
                 Counted::Fields { count, next: _ } => PrototypeReply::Prototype {
@@ -58,8 +58,8 @@ fn last_prototype(file: &[u8], table: &[u32], rows: usize, id: u32) -> Prototype
 {
     let found = find(table, rows, id);
     match found {
-        Found::Nothing => PrototypeReply::Refused(refused(ABSENT, 0)),
-        Found::At { in_force: _, last } => prototype_at(file, size(last)),
+        FoundRow::Nothing => PrototypeReply::Refused(refused(ABSENT, 0)),
+        FoundRow::At { in_force: _, last } => prototype_at(file, size(last)),
     }
 }
 

@@ -18,22 +18,22 @@ use Rattle.bsii_string.specs.declared.answers.Refusal.{Refusal}
 use Rattle.bsii_string.specs.declared.answers.Parsed.the-variants.{Next, Fault}
 use Rattle.bsii_string.proofs.Ends.{next≢fault, next-same}
 use Rattle.bsii_prototype.specs.Entries.{uncheckedHead}
-use Rattle.bsii_past.specs.Unchecked.{uncheckedId}
-use Rattle.bsii_past.proofs.Values.{id-same}
+use Rattle.bsii_skip.specs.Unchecked.{uncheckedId}
+use Rattle.bsii_skip.proofs.Values.{id-same}
 use Rattle.bsii_field.specs.Answers.{indexIs, IndexOf, foundIs, ValueAt}
 use Rattle.bsii_field.specs.declared.Index.{Index}
 use Rattle.bsii_field.specs.declared.Index.the-variants.{At, Absent}
-use Rattle.bsii_field.specs.declared.Found.{Found}
-use Rattle.bsii_field.specs.declared.Found.the-variants.{Value, NoValue}
+use Rattle.bsii_field.specs.declared.FoundValue.{FoundValue}
+use Rattle.bsii_field.specs.declared.FoundValue.the-variants.{Value, NoValue}
 use Rattle.bsii_parse.specs.Walks.{ReadFile}
 use Rattle.bsii_parse.specs.declared.walk.Totals.{Totals}
 use Rattle.bsii_parse.specs.declared.walk.Walked.{Walked}
 use Rattle.bsii_parse.specs.declared.walk.Walked.the-variants.{Done, Fault as Stopped}
-use Rattle.bsii_again.specs.Seek.{Numbered, seekIn, BlockIs, Seeks}
-use Rattle.bsii_again.specs.declared.seek.Block.{Block}
-use Rattle.bsii_again.specs.declared.seek.BlockAt.{BlockAt}
-use Rattle.bsii_again.specs.declared.seek.BlockAt.the-variants.{Block as ABlock, NoBlock}
-use Rattle.bsii_again.proofs.Naming.{standing}
+use Rattle.bsii_walk.specs.Seek.{Numbered, seekIn, BlockIs, Seeks}
+use Rattle.bsii_walk.specs.declared.seek.Block.{Block}
+use Rattle.bsii_walk.specs.declared.seek.BlockAt.{BlockAt}
+use Rattle.bsii_walk.specs.declared.seek.BlockAt.the-variants.{Block as ABlock, NoBlock}
+use Rattle.bsii_walk.proofs.Naming.{standing}
 use Rattle.bsii_file.proofs.Lookups.{was-read, read-answers, unread-refuses}
 use Rattle.bsii_file.proofs.BlockCalls.{seek-any, block-found, block-missed}
 use Rattle.bsii_file_field.specs.Answers.{fieldIs}
@@ -51,7 +51,7 @@ next-nowhere z n = record { is = λ m y. next≢fault (sym y ∙ z) }
 
 -- ---- the value in a block
 
-novalue≢value : {P : Type 0} {t a n : ℕ} → _≡_ {A = Found} NoValue (Value t a n) → P
+novalue≢value : {P : Type 0} {t a n : ℕ} → _≡_ {A = FoundValue} NoValue (Value t a n) → P
 novalue≢value e = let y : _≡_ {A = ℕ} 0 1 = cc in let f : ⊥ = omega arith in absurd f
 
 module _ {s : List ℕ} {b : Block} {name : List ℕ} {h : Parsed} (e : h ≡ endOf (uncheckedHead (b .last) (drop (b .last) s))) {f : ℕ} (o : NextOf h f) {i : Index} (x : IndexOf s f name i) where
@@ -72,7 +72,7 @@ module _ {s : List ℕ} {b : Block} {name : List ℕ} {h : Parsed} (e : h ≡ en
   }
 
   module _ {j : ℕ} (z : i ≡ At j) {h₂ : Parsed} (e₂ : h₂ ≡ endOf (uncheckedHead (b .under) (drop (b .under) s))) {g : ℕ} (o₂ : NextOf h₂ g)
-      {h₃ : Parsed} (e₃ : h₃ ≡ endOf (uncheckedId (b .id) (drop (b .id) s))) {start : ℕ} (o₃ : NextOf h₃ start) {r : Found} (v : ValueAt s g start j r) where
+      {h₃ : Parsed} (e₃ : h₃ ≡ endOf (uncheckedId (b .id) (drop (b .id) s))) {start : ℕ} (o₃ : NextOf h₃ start) {r : FoundValue} (v : ValueAt s g start j r) where
     pub field-value : FieldFound s b name r
     unfolding atIndex valuesOffset
     field-value = record {
@@ -95,7 +95,7 @@ field-is {a = a} {n = n} {a′ = a′} {n′ = n′} e = let i : a ≡ a′ = cc
 refused≢field : {P : Type 0} {f : Refusal} {t a n : ℕ} → _≡_ {A = FieldReply} (Refused f) (Field t a n) → P
 refused≢field e = let y : _≡_ {A = ℕ} 0 1 = cc in let f : ⊥ = omega arith in absurd f
 
-module _ {s : List ℕ} {b : Block} {name : List ℕ} {r : Found} (h : FieldFound s b name r) where
+module _ {s : List ℕ} {b : Block} {name : List ℕ} {r : FoundValue} (h : FieldFound s b name r) where
   pub placed-absent : r ≡ NoValue → FieldPlaced s b name (Refused (refusedAt absent 0))
   unfolding orRefuse
   placed-absent z = record {

@@ -10,10 +10,10 @@ use Rattle.bsii_format.specs.Calls.{Placed, fieldAnswer, fieldUnder, fieldCall,
 use Rattle.bsii_string.specs.declared.answers.Parsed.{Parsed}
 use Rattle.bsii_string.specs.declared.answers.Parsed.the-variants.{Next}
 use Rattle.bsii_field.specs.Answers.{foundIs}
-use Rattle.bsii_field.specs.declared.Found.{Found}
-use Rattle.bsii_field.specs.declared.Found.the-variants.{Value}
-use Rattle.bsii_again.specs.Seek.{BlockIs}
-use Rattle.bsii_again.specs.declared.seek.Block.{Block}
+use Rattle.bsii_field.specs.declared.FoundValue.{FoundValue}
+use Rattle.bsii_field.specs.declared.FoundValue.the-variants.{Value}
+use Rattle.bsii_walk.specs.Seek.{BlockIs}
+use Rattle.bsii_walk.specs.declared.seek.Block.{Block}
 use Rattle.bsii_file_field.specs.Answers.{fieldIs}
 use Rattle.bsii_file_field.specs.declared.fields.FieldReply.{FieldReply}
 use Rattle.bsii_file_field.specs.declared.fields.FieldReply.the-variants.{Field}
@@ -22,7 +22,7 @@ pub record NextOf (end : Parsed) (r : ℕ) : Type 0 where
   pub is : (n : ℕ) → end ≡ Next n → r ≡ n
 
 -- of a block that the search found: the value under the name, or none; a value has a byte at least and lies in the file, for every input
-pub record FieldFound (s : List ℕ) (b : Block) (name : List ℕ) (r : Found) : Type 0 where
+pub record FieldFound (s : List ℕ) (b : Block) (name : List ℕ) (r : FoundValue) : Type 0 where
   pub answers : (last : List Prototype) (x : Placed DataBlock) → BlockIs s last b x → foundIs s r ≡ Option·map fieldAnswer (fieldUnder name x (getPrototype (x .it .prototypeId) last))
   pub inside : (t at next : ℕ) → r ≡ Value t at next → (at < next) × (next ≤ length s)
 

@@ -1,20 +1,20 @@
 // A field by block number and name: its type and its part of the file, and the part itself.
-use bsii_again::seek::Block;
-use bsii_again::seek::BlockAt;
-use bsii_again::seek::seek;
-use bsii_field::Found;
+use bsii_field::FoundValue;
 use bsii_field::Index;
 use bsii_field::field_index;
 use bsii_field::value_at;
 use bsii_parse::reading::bsii_parser;
 use bsii_parse::walk::Walked;
-use bsii_past::id_past;
-use bsii_prototype::past::fields_at;
+use bsii_prototype::skip::fields_at;
+use bsii_skip::skip_id;
 use bsii_string::answers::ABSENT;
 use bsii_string::answers::Parsed;
 use bsii_string::answers::Refusal;
 use bsii_string::answers::refused;
 use bsii_table::clear;
+use bsii_walk::seek::Block;
+use bsii_walk::seek::BlockAt;
+use bsii_walk::seek::seek;
 ghost use mathlib.Core.Path.{_≡_};
 ghost use lib.ListN.{length};
 ghost use Rattle.bsii_format.specs.Calls.{fieldCall, partOf, tableAfter};
@@ -42,16 +42,16 @@ fn next_of(end: Parsed) -> usize
 }
 
 // The value of a block that was found. The name is looked for in the last definition, the value under the one in force.
-fn field_found(s: &[u8], b: Block, name: &[u8]) -> Found
+fn field_found(s: &[u8], b: Block, name: &[u8]) -> FoundValue
     ensures { λ r. ⌜ FieldFound (now (s .entry)) b (now (name .entry)) r ⌝ }
 {
     let named = next_of(fields_at(s, b.last));
     let index = field_index(s, named, name);
     match index {
-        Index::Absent => Found::NoValue,
+        Index::Absent => FoundValue::NoValue,
         Index::At(position) => {
             let fields = next_of(fields_at(s, b.under));
-            let start = next_of(id_past(s, b.id));
+            let start = next_of(skip_id(s, b.id));
             value_at(s, fields, start, position)
         }
     }
@@ -62,8 +62,8 @@ fn placed(s: &[u8], b: Block, name: &[u8]) -> FieldReply
 {
     let found = field_found(s, b, name);
     match found {
-        Found::NoValue => FieldReply::Refused(refused(ABSENT, 0)),
-        Found::Value { type_id, at, next } => FieldReply::Field {
+        FoundValue::NoValue => FieldReply::Refused(refused(ABSENT, 0)),
+        FoundValue::Value { type_id, at, next } => FieldReply::Field {
             type_id,
             part: at,
             part_size: next - at,

@@ -232,7 +232,7 @@ numericDatum uint64 l = dUInt64 (getD l 0 0)
 numericDatum bool l = dBool (nonzero (getD l 0 0))
 numericDatum enum l = dEnum (getD l 0 0)
 
--- an element at the offset `at`, of so many bytes
+-- an element at the offset `at`, of n bytes
 unfoldable pub datumOf : ℕ → ℕ → Element → Datum
 datumOf at size (nums k l) = numericDatum k l
 datumOf at size (str s) = dString (record { offset = at + 4; size = length s })
@@ -287,7 +287,7 @@ unfoldable pub printed : Reply (List ℕ) → List ℕ
 printed (gives t) = t
 printed (refuses f) = ascii "refused " ++ decimal (f .number) ++ ascii " at " ++ decimal (f .offset) ++ ascii "\n"
 
--- a text of at most so many bytes, else 11
+-- a text of at most n bytes, else 11
 unfoldable pub ofSize : ℕ → Reply (List ℕ) → Reply (List ℕ)
 ofSize n (gives t) = cond (leb (length t) n) (gives t) (refusal outputShort 0)
 ofSize n (refuses f) = refuses f

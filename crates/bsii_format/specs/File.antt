@@ -127,7 +127,7 @@ bsiiParser rooms = consumed headerParser >>= (λ h. bsiiFile h <$> recordsParser
 abbrev pub lengthLimit : ℕ
 lengthLimit = 16_777_216
 
--- "Order: 12; then the file from front to back, first fault met": the file in s for a table of so many words
+-- "Order: 12; then the file from front to back, first fault met": the file in s for a table of n words
 unfoldable pub parse : ℕ → List ℕ → Result BsiiFile
 parse words s = cond (leb (length s) lengthLimit) (bsiiParser (words / 3) 0 s) (faultAt inputLong 0)
 

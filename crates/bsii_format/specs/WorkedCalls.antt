@@ -170,7 +170,7 @@ parts =
 
 -- ---- elements
 
--- floats as numbers, negative for `true`, so many times a power of two
+-- floats as numbers: negative for `true`, a whole number times a power of two
 abbrev pub one : Float
 one = fin false 1 (pos 0)
 

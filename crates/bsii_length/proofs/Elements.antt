@@ -92,7 +92,7 @@ unfolding orEmpty
 orEmpty-length [] = omega arith
 orEmpty-length (x ∷ s) = omega arith
 
--- a word that was read, in so many bytes
+-- a word that was read, in n bytes
 pub record FineWord (w n : ℕ) : Type 0 where
   pub below : w < 2 ^ 64
   pub some : 1 ≤ n
@@ -191,7 +191,7 @@ module _ (l : List ℕ) (h : (i : ℕ) → getD l i 0 < 2 ^ 64) where
   numeric-size bool e = omega (arith, boolText-length (getD l 0 0))
   numeric-size enum {enums} e = omega (arith, mapped-size (enumString (getD l 0 0) enums), enumString-size (getD l 0 0) e)
 
--- an element that was read, in so many bytes
+-- an element that was read, in n bytes
 pub record FineElement (e : Element) (n : ℕ) : Type 0 where
   pub text : (enums : List EnumValue) → ShortEnums enums → size (elementText enums e) ≤ elementBound
   pub some : 1 ≤ n

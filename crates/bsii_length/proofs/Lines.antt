@@ -63,7 +63,7 @@ lines-size d h i (cons {a = e} {l = l} p q) k =
       lines-size d h (suc i) q (omega (arith, p .some)),
     )
 
--- a value that was read, in so many bytes
+-- a value that was read, in n bytes
 pub record FineValue (v : Value) (n : ℕ) : Type 0 where
   pub text : (d : ValuePrototype) → ShortField d → size (valueText d v) ≤ lineBound * n
 

@@ -24,7 +24,7 @@ pub record Input (s : List ℕ) : Type 0 where
   pub bytes : Bytes s
   pub short : length s ≤ lengthLimit
 
--- v was taken from the front of s, in so many bytes, and r is left
+-- v was taken from the front of s, in n bytes, and r is left
 pub record Taken (A : Type 0) (P : A → ℕ → Type 0) (s : List ℕ) (v : A) (r : List ℕ) : Type 0 where
   pub size : ℕ
   pub long : length s ≡ size + length r

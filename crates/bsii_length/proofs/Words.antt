@@ -12,7 +12,7 @@ use borrow.Author.Tests.{ltb-true, ltb-false}
 use Rattle.bsii_format.specs.Strings.{digitThen, base38From, base38, characters}
 use Rattle.bsii_length.specs.Bounds.{wordBound}
 
--- the number of so many digits to base 38 that are all 1
+-- the number of n digits to base 38 that are all 1
 unfoldable ones : ℕ → ℕ
 ones zero = 0
 ones (suc k) = 1 + 38 * ones k

@@ -17,8 +17,8 @@ use Rattle.bsii_string.specs.Answers.{endOf}
 use Rattle.bsii_string.specs.declared.answers.Refusal.{Refusal}
 use Rattle.bsii_string.specs.declared.answers.Parsed.the-variants.{Next as Past, Fault}
 use Rattle.bsii_string.proofs.Ends.{next≢fault, next-same}
-use Rattle.bsii_past.specs.Unchecked.{uncheckedElement}
-use Rattle.bsii_past.proofs.Values.{element-same}
+use Rattle.bsii_skip.specs.Unchecked.{uncheckedElement}
+use Rattle.bsii_skip.proofs.Values.{element-same}
 use Rattle.bsii_definition.specs.declared.pairs.Definition.{Definition}
 use Rattle.bsii_window.specs.Window.{Wrote}
 use Rattle.bsii_window.proofs.Laws.{then, being, same}

@@ -4,14 +4,14 @@ use crate::elements::write_scalar_data_value;
 use bsii_definition::pairs::Definition;
 use bsii_opening::openings::put_index;
 use bsii_opening::openings::put_opening;
-use bsii_past::element_past;
+use bsii_skip::skip_element;
 use bsii_string::answers::Num;
 use bsii_string::answers::Parsed;
 use bsii_string::numbers::le_u32;
 use bsii_value::types::Kind;
 use bsii_value::types::Shape;
 use bsii_value::types::shape_of;
-use bsii_value::values::numeric_past;
+use bsii_value::values::numeric_end;
 use bsii_window::digits::write_decimal;
 use bsii_window::window::put;
 ghost use mathlib.Core.Path.{_≡_};
@@ -23,7 +23,7 @@ ghost use Rattle.bsii_format.specs.Text.{indexed};
 ghost use Rattle.bsii_window.specs.Window.{Wrote};
 ghost use Rattle.bsii_string.specs.Answers.{endOf};
 ghost use Rattle.bsii_value.specs.Kinds.{kindIs};
-ghost use Rattle.bsii_past.specs.Unchecked.{uncheckedElement};
+ghost use Rattle.bsii_skip.specs.Unchecked.{uncheckedElement};
 ghost use Rattle.bsii_lines.specs.Lines.{nameOf, InFile, RestWritten, ElementWritten, VectorWritten, ArrayWritten, FieldWritten};
 
 // The offset behind the value, and the position behind its text; or what `Scalar` says of a value that is not written.
@@ -57,8 +57,8 @@ fn element_end(s: &[u8], at: usize, kind: Kind) -> Parsed
     ensures { λ r. ⌜ r ≡ endOf (uncheckedElement (kindIs kind) at (drop at (now (s .entry)))) ⌝ }
 {
     match kind {
-        Kind::Numbers(n) => numeric_past(s, at, n),
-        _ => element_past(s, at, kind),
+        Kind::Numbers(n) => numeric_end(s, at, n),
+        _ => skip_element(s, at, kind),
     }
 }
 
@@ -100,7 +100,7 @@ fn write_element(
     write_rest(out, next, s, at, kind, d)
 }
 
-// So many elements, the first one at an offset.
+// `count` elements, the first one at an offset.
 fn write_vector_data_value(
     out: &mut [u8],
     to: usize,

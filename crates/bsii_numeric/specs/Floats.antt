@@ -40,14 +40,14 @@ positionOf v n =
 abbrev pub positionBits : PlacementBits → Bits3
 positionBits n = record { a = quieted (n .a); b = n .b; c = quieted (n .c) }
 
-abbrev pub turnOf : Placement → Vec4
-turnOf v = record { a = v .e; b = v .f; c = v .g; d = v .h }
+abbrev pub rotationOf : Placement → Vec4
+rotationOf v = record { a = v .e; b = v .f; c = v .g; d = v .h }
 
-abbrev pub turnBits : PlacementBits → Bits4
-turnBits n = record { a = n .e; b = n .f; c = n .g; d = n .h }
+abbrev pub rotationBits : PlacementBits → Bits4
+rotationBits n = record { a = n .e; b = n .f; c = n .g; d = n .h }
 
 unfoldable pub placementWith : Placement → PlacementBits → List ℕ
-placementWith v n = vec3With (positionOf v n) (positionBits n) ++ ascii " " ++ vec4With (turnOf v) (turnBits n)
+placementWith v n = vec3With (positionOf v n) (positionBits n) ++ ascii " " ++ vec4With (rotationOf v) (rotationBits n)
 
 -- the texts of bits
 abbrev pub bits2Text : Bits2 → List ℕ

@@ -23,7 +23,7 @@ ghost use Rattle.bsii_format.specs.Ascii.{ascii};
 ghost use Rattle.bsii_format.specs.Digits.{decimal};
 ghost use Rattle.bsii_format.specs.Floats.{bitsText, minusIf};
 ghost use Rattle.bsii_window.specs.Window.{Wrote};
-ghost use Rattle.bsii_numeric.specs.Floats.{floatWith, vec2With, vec3With, vec4With, placementWith, positionOf, positionBits, turnOf, turnBits};
+ghost use Rattle.bsii_numeric.specs.Floats.{floatWith, vec2With, vec3With, vec4With, placementWith, positionOf, positionBits, rotationOf, rotationBits};
 
 fn write_bits(out: &mut [u8], at: usize, n: u32) -> usize
     ensures { λ r. ⌜ Wrote (now (out .entry)) at (bitsText n) r (now (out .exit)) ⌝ }
@@ -125,8 +125,8 @@ fn position_bits(nan: PlacementBits) -> Bits3
     }
 }
 
-fn turn(v: Placement) -> Vec4
-    ensures { λ r. ⌜ r ≡ turnOf v ⌝ }
+fn rotation(v: Placement) -> Vec4
+    ensures { λ r. ⌜ r ≡ rotationOf v ⌝ }
 {
     Vec4 {
         a: v.e,
@@ -136,8 +136,8 @@ fn turn(v: Placement) -> Vec4
     }
 }
 
-fn turn_bits(nan: PlacementBits) -> Bits4
-    ensures { λ r. ⌜ r ≡ turnBits nan ⌝ }
+fn rotation_bits(nan: PlacementBits) -> Bits4
+    ensures { λ r. ⌜ r ≡ rotationBits nan ⌝ }
 {
     Bits4 {
         a: nan.e,
@@ -152,5 +152,5 @@ pub fn write_float_vec8(out: &mut [u8], at: usize, v: Placement, nan: PlacementB
 {
     let first = write_vec3(out, at, position(v, nan), position_bits(nan));
     let next = put(out, first, b' ');
-    write_float_vec4(out, next, turn(v), turn_bits(nan))
+    write_float_vec4(out, next, rotation(v), rotation_bits(nan))
 }

@@ -3,9 +3,9 @@ use bsii_copy::names::copy_name;
 use bsii_window::digits::decimal_count;
 use bsii_window::digits::fill_decimal;
 use bsii_window::digits::write_decimal;
-use bsii_window::window::Place;
+use bsii_window::window::Overlap;
 use bsii_window::window::further;
-use bsii_window::window::place_of;
+use bsii_window::window::overlap_of;
 use bsii_window::window::put;
 use bsii_window::window::put_all;
 ghost use mathlib.Core.Path.{_≡_};
@@ -52,18 +52,18 @@ pub fn put_opening(out: &mut [u8], to: usize, name: &[u8]) -> usize
     ensures { λ r. ⌜ Wrote (now (out .entry)) to (ascii "  " ++ now (name .entry) ++ ascii ": ") r (now (out .exit)) ⌝ }
 {
     let count = name.len() + 4;
-    let place = place_of(out.len(), to, count);
+    let place = overlap_of(out.len(), to, count);
     match place {
-        Place::Past => return further(to, count),
-        Place::Across => return put_opening_across(out, to, name),
-        Place::Inside(start) => {
+        Overlap::Past => return further(to, count),
+        Overlap::Across => return put_opening_across(out, to, name),
+        Overlap::Inside(start) => {
             store_opening(out, start, name);
             return to + count;
         }
     }
 }
 
-// `  NAME[i]: `, likewise, with so many digits.
+// `  NAME[i]: `, likewise, with `digits` digits.
 fn store_index(out: &mut [u8], start: usize, name: &[u8], i: u32, digits: usize)
     requires { ⌜ (digits ≡ length (decimal i)) × (start + (length (now name) + digits + 6) ≤ length (now out)) ⌝ }
     ensures { λ _. ⌜ now (out .exit) ≡ sets (now (out .entry)) start (ascii "  " ++ indexed (now (name .entry)) i ++ ascii ": ") ⌝ }
@@ -104,11 +104,11 @@ pub fn put_index(out: &mut [u8], to: usize, name: &[u8], i: u32) -> usize
 {
     let digits = index_count(i);
     let count = name.len() + digits + 6;
-    let place = place_of(out.len(), to, count);
+    let place = overlap_of(out.len(), to, count);
     match place {
-        Place::Past => return further(to, count),
-        Place::Across => return put_index_across(out, to, name, i),
-        Place::Inside(start) => {
+        Overlap::Past => return further(to, count),
+        Overlap::Across => return put_index_across(out, to, name, i),
+        Overlap::Inside(start) => {
             store_index(out, start, name, i, digits);
             return to + count;
         }

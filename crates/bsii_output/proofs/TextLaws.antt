@@ -16,13 +16,13 @@ use Rattle.bsii_format.specs.Calls.{textAnswer, textOf, textCall}
 use Rattle.bsii_string.specs.Answers.{faultIs, refusedAt}
 use Rattle.bsii_string.specs.declared.answers.Refusal.{Refusal}
 use Rattle.bsii_table.specs.Relation.{Entered}
-use Rattle.bsii_parse.specs.Walks.{Stands, ReadFile}
+use Rattle.bsii_parse.specs.Walks.{DefinedAt, ReadFile}
 use Rattle.bsii_parse.specs.declared.walk.Totals.{Totals}
 use Rattle.bsii_parse.specs.declared.walk.Walked.{Walked}
 use Rattle.bsii_parse.specs.declared.walk.Walked.the-variants.{Done, Fault as Stopped}
-use Rattle.bsii_again.specs.Seek.{Standing, Readable}
+use Rattle.bsii_walk.specs.Seek.{Standing, Readable}
 use Rattle.bsii_file.proofs.Lookups.{was-read, read-answers, unread-refuses}
-use Rattle.bsii_file.proofs.Rereading.{file-parts, standing-first}
+use Rattle.bsii_file.proofs.Rereading.{file-parts, walk-first}
 use Rattle.bsii_length.proofs.Bounded.{text-bounded}
 use Rattle.bsii_window.specs.Window.{Wrote}
 use Rattle.bsii_window.proofs.Laws.{capped-less, written-in}
@@ -35,7 +35,7 @@ use Rattle.bsii_output.specs.declared.text.TextReply.the-variants.{Text,
 
 -- ---- the table after a walk
 
-stand-again : {s t : List ℕ} {rooms rows : ℕ} {last : List Prototype} {rest : List Record} {t′ : List ℕ} → Standing s rooms rows last t 8 [] rest → Entered (Stands s) t′ rows [] last
+stand-again : {s t : List ℕ} {rooms rows : ℕ} {last : List Prototype} {rest : List Record} {t′ : List ℕ} → Standing s rooms rows last t 8 [] rest → Entered (DefinedAt s) t′ rows [] last
     → Standing s rooms rows last t′ 8 [] rest
 stand-again w e = record { end = w .end; n = w .n; reads = w .reads; entered = e; lasts = w .lasts }
 
@@ -144,5 +144,5 @@ module _ (s t out : List ℕ) {r : Walked} {t′ : List ℕ} (h : ReadFile s t r
     call-answers bytes v =
         let w = was-read h z in
         let short = file-parts (length t) s (w .parsed) .short in
-        v .answers (length t / 3) (prototypesOf (w .file .records)) (w .file .records) (standing-first w) (λ x e. text-bounded (length t) s x bytes short (file-is ∙ e))
+        v .answers (length t / 3) (prototypesOf (w .file .records)) (w .file .records) (walk-first w) (λ x e. text-bounded (length t) s x bytes short (file-is ∙ e))
         ∙ ap (textAnswer out) (sym file-is)

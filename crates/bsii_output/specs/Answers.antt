@@ -10,7 +10,7 @@ use Rattle.bsii_format.specs.Text.{valueText}
 use Rattle.bsii_format.specs.BlockText.{joined, fileOpening, closing, recordsText}
 use Rattle.bsii_format.specs.Calls.{TextAnswer, textAnswer}
 use Rattle.bsii_string.specs.Answers.{faultIs}
-use Rattle.bsii_again.specs.Seek.{Standing}
+use Rattle.bsii_walk.specs.Seek.{Standing}
 use Rattle.bsii_output.specs.declared.text.TextReply.{TextReply}
 use Rattle.bsii_output.specs.declared.text.TextReply.the-variants.{Text, Refused}
 

@@ -10,7 +10,7 @@ use bsii_text::records::write_bsii;
 ghost use mathlib.Core.Path.{_≡_};
 ghost use lib.ListN.{length};
 ghost use Rattle.bsii_format.specs.Calls.{textCall, tableAfter};
-ghost use Rattle.bsii_again.specs.Seek.{Readable};
+ghost use Rattle.bsii_walk.specs.Seek.{Readable};
 ghost use Rattle.bsii_output.specs.Answers.{textIs, TextWritten, TextRead};
 
 // The text's length; or a refusal, with the needed length where it is 11, else 0.

@@ -13,10 +13,10 @@ use Rattle.bsii_format.specs.Blocks.{getPrototype}
 use Rattle.bsii_format.specs.File.{Record, prototype, block, recordBytes, recordsBytes, Records, lengthLimit, define, distinctIds}
 use Rattle.bsii_format.specs.Calls.{Placed, placed, consPrototype, prototypesIn}
 use Rattle.bsii_string.specs.declared.answers.Refusal.{Refusal}
-use Rattle.bsii_parse.specs.Walks.{blockCount, behind, recordsAt, bare, Growing, Ready, Steps, passed, ended, refused, Walks, done, stopped}
+use Rattle.bsii_parse.specs.Walks.{blockCount, behind, recordsAt, bare, Growing, Ready, StepMeets, passed, ended, refused, Walks, done, stopped}
 use Rattle.bsii_parse.specs.declared.walk.Progress.{Progress}
-use Rattle.bsii_parse.specs.declared.walk.Step.{Step}
-use Rattle.bsii_parse.specs.declared.walk.Step.the-variants.{Go, End, Refused}
+use Rattle.bsii_parse.specs.declared.walk.ReadStep.{ReadStep}
+use Rattle.bsii_parse.specs.declared.walk.ReadStep.the-variants.{Go, End, Refused}
 use Rattle.bsii_parse.specs.declared.walk.Walked.the-variants.{Done, Fault as Stopped}
 use Rattle.bsii_parse.proofs.Records.{behind-behind, blockCount-append}
 use Rattle.bsii_parse.proofs.Tables.{growing-none, bare-cons}
@@ -75,16 +75,16 @@ along-start s start t h = record {
 pub along-ready : {s : List ℕ} {start : ℕ} {t₀ : List ℕ} {p : Progress} {t : List ℕ} → length s ≤ lengthLimit → Along s start t₀ p t → Ready s p t
 along-ready h a = record { short = h; inside = a .inside; counted = a .counted; rows = a .kept .holds .valid; few = a .few }
 
-go≢end : {P : Type 0} {q : Progress} {n : ℕ} → _≡_ {A = Step} (Go q) (End n) → P
+go≢end : {P : Type 0} {q : Progress} {n : ℕ} → _≡_ {A = ReadStep} (Go q) (End n) → P
 go≢end e = let z : _≡_ {A = ℕ} 0 1 = cc in let f : ⊥ = omega arith in absurd f
 
-go≢refused : {P : Type 0} {q : Progress} {f : Refusal} → _≡_ {A = Step} (Go q) (Refused f) → P
+go≢refused : {P : Type 0} {q : Progress} {f : Refusal} → _≡_ {A = ReadStep} (Go q) (Refused f) → P
 go≢refused e = let z : _≡_ {A = ℕ} 0 1 = cc in let f : ⊥ = omega arith in absurd f
 
-end≢refused : {P : Type 0} {n : ℕ} {f : Refusal} → _≡_ {A = Step} (End n) (Refused f) → P
+end≢refused : {P : Type 0} {n : ℕ} {f : Refusal} → _≡_ {A = ReadStep} (End n) (Refused f) → P
 end≢refused e = let z : _≡_ {A = ℕ} 0 1 = cc in let f : ⊥ = omega arith in absurd f
 
-go-inj : {p q : Progress} → _≡_ {A = Step} (Go p) (Go q) → p ≡ q
+go-inj : {p q : Progress} → _≡_ {A = ReadStep} (Go p) (Go q) → p ≡ q
 go-inj e = cc
 
 -- a record defines one id at most
@@ -110,7 +110,7 @@ module _ {s : List ℕ} {start : ℕ} {t₀ : List ℕ} {p : Progress} {t : List
   from-here : {q : Result Records} → recordsAt (length t / 3) (bare (defsFrom start (a .so))) (p .at) s ≡ q → recordsAt (length t₀ / 3) [] start s ≡ behind (a .so) q
   from-here e = a .rest ∙ ap (behind (a .so)) (ap (λ m. recordsAt m (bare (defsFrom start (a .so))) (p .at) s) (sym rooms) ∙ e)
 
-  pub along-step : {r : Step} {t′ : List ℕ} → Steps s p t (defsFrom start (a .so)) r t′ → {q : Progress} → r ≡ Go q → Further s start t₀ p q t′
+  pub along-step : {r : ReadStep} {t′ : List ℕ} → StepMeets s p t (defsFrom start (a .so)) r t′ → {q : Progress} → r ≡ Go q → Further s start t₀ p q t′
   unfolding blockCount
   along-step {t′ = t′} (passed i {n = n} {rows = rows} e on inside place kept size) z =
       let defs : defsFrom start (a .so ++ (i ∷ [])) ≡ consPrototype (p .at) i (defsFrom start (a .so)) =
@@ -146,7 +146,7 @@ module _ {s : List ℕ} {start : ℕ} {t₀ : List ℕ} {p : Progress} {t : List
   along-step (ended e) z = go≢end (sym z)
   along-step (refused e l) z = go≢refused (sym z)
 
-  pub along-end : {r : Step} {t′ : List ℕ} → Steps s p t (defsFrom start (a .so)) r t′ → {n : ℕ} → r ≡ End n
+  pub along-end : {r : ReadStep} {t′ : List ℕ} → StepMeets s p t (defsFrom start (a .so)) r t′ → {n : ℕ} → r ≡ End n
       → Walks s start t₀ (Done (record { rows = p .rows; blocks = p .blocks; next = n })) t′
   along-end (passed i e on inside place kept size) z = go≢end z
   along-end (refused e l) z = end≢refused (sym z)
@@ -160,7 +160,7 @@ module _ {s : List ℕ} {start : ℕ} {t₀ : List ℕ} {p : Progress} {t : List
       last : (l : List ℕ) (m : ℕ) → behind (a .so) (ok (record { records = []; end = l }) m (drop m s)) ≡ ok (record { records = a .so; end = l }) m (drop m s)
       last l m = unfold behind in ap (λ w. ok (record { records = w; end = l }) m (drop m s)) (append-nil (a .so))
 
-  pub along-stop : {r : Step} {t′ : List ℕ} → Steps s p t (defsFrom start (a .so)) r t′ → {f : Refusal} → r ≡ Refused f → Walks s start t₀ (Stopped f) t′
+  pub along-stop : {r : ReadStep} {t′ : List ℕ} → StepMeets s p t (defsFrom start (a .so)) r t′ → {f : Refusal} → r ≡ Refused f → Walks s start t₀ (Stopped f) t′
   unfolding behind
   along-stop (passed i e on inside place kept size) z = go≢refused z
   along-stop (ended e) z = end≢refused z

@@ -1,5 +1,5 @@
 pub mod Records
-pub mod Steps
+pub mod RecordSteps
 pub mod Tables
 pub mod Passing
 pub mod Along

@@ -23,8 +23,8 @@ use Rattle.bsii_string.specs.declared.answers.Parsed.{Parsed}
 use Rattle.bsii_string.specs.declared.answers.Parsed.the-variants.{Next, Fault}
 use Rattle.bsii_string.proofs.Ends.{next-ended, fault-ended}
 use Rattle.bsii_table.specs.Table.{foundRow}
-use Rattle.bsii_table.specs.declared.Found.{Found}
-use Rattle.bsii_table.specs.declared.Found.the-variants.{At, Nothing}
+use Rattle.bsii_table.specs.declared.FoundRow.{FoundRow}
+use Rattle.bsii_table.specs.declared.FoundRow.the-variants.{At, Nothing}
 use Rattle.bsii_table.proofs.Relation.{found-at, found-nothing}
 use Rattle.bsii_tree.specs.Table.{lookupTree, Defines}
 use Rattle.bsii_tree.specs.declared.Defined.{Defined}
@@ -34,12 +34,12 @@ use Rattle.bsii_prototype.specs.Answers.{countOf, headIs}
 use Rattle.bsii_prototype.specs.declared.answers.Counted.the-variants.{Fields as Counted-Fields, Fault as Counted-Fault}
 use Rattle.bsii_prototype.specs.declared.answers.Head.{Head as HeadAnswer}
 use Rattle.bsii_prototype.specs.declared.answers.Head.the-variants.{End as HeadEnd, Prototype as HeadPrototype, Block as HeadBlock, BadHead}
-use Rattle.bsii_parse.specs.Walks.{Stands, StandingEnd, blockCount, behind, recordsAt, bare, Growing, Steps, passed, ended as atEnd, refused, Stepped, Defining, Carrying}
+use Rattle.bsii_parse.specs.Walks.{DefinedAt, DefinedEnd, blockCount, behind, recordsAt, bare, Growing, StepMeets, passed, ended as atEnd, refused, Stepped, Defining, Carrying}
 use Rattle.bsii_parse.specs.declared.walk.Progress.{Progress}
-use Rattle.bsii_parse.specs.declared.walk.Step.{Step}
-use Rattle.bsii_parse.specs.declared.walk.Step.the-variants.{Go, End, Refused}
+use Rattle.bsii_parse.specs.declared.walk.ReadStep.{ReadStep}
+use Rattle.bsii_parse.specs.declared.walk.ReadStep.the-variants.{Go, End, Refused}
 use Rattle.bsii_parse.proofs.Records.{record-exact, record-empty, records-fault, records-end, records-full, records-more}
-use Rattle.bsii_parse.proofs.Steps.{record-fault, record-end, prototypeOf, record-prototype, record-fields-fault, record-undefined, record-block-fault, record-block}
+use Rattle.bsii_parse.proofs.RecordSteps.{record-fault, record-end, prototypeOf, record-prototype, record-fields-fault, record-undefined, record-block-fault, record-block}
 use Rattle.bsii_parse.proofs.Tables.{offsets-put, bare-cons}
 
 -- ---- the list of definitions is exact
@@ -66,11 +66,11 @@ block-exact fs = bind-exact _ id-exact (λ i. values-exact fs)
 module _ {s : List ℕ} {p : Progress} {t : List ℕ} {env : List (Placed Prototype)} where
   -- ---- any record
 
-  step-fault : {f : Refusal} {t′ : List ℕ} → recordParser (bare env) (p .at) (drop (p .at) s) ≡ fault (faultIs f) → length t′ ≡ length t → Steps s p t env (Refused f) t′
+  step-fault : {f : Refusal} {t′ : List ℕ} → recordParser (bare env) (p .at) (drop (p .at) s) ≡ fault (faultIs f) → length t′ ≡ length t → StepMeets s p t env (Refused f) t′
   step-fault e l = refused (records-fault (length t / 3) (bare env) (p .at) s e) l
 
   step-passed : (i : Record) {n rows : ℕ} {t′ : List ℕ} → recordParser (bare env) (p .at) (drop (p .at) s) ≡ ok (more i) n (drop n s) → hasRoom (length t / 3) (bare env) i ≡ true
-      → Growing s t′ rows (consPrototype (p .at) i env) → length t′ ≡ length t → Steps s p t env (Go (record { at = n; rows = rows; blocks = p .blocks + blockCount (i ∷ []) })) t′
+      → Growing s t′ rows (consPrototype (p .at) i env) → length t′ ≡ length t → StepMeets s p t env (Go (record { at = n; rows = rows; blocks = p .blocks + blockCount (i ∷ []) })) t′
   unfolding stepBytes
   step-passed i {n} e h k l =
       let m = moved-on (record-exact (bare env)) (record-empty (bare env) 0) s (p .at) e in
@@ -81,54 +81,54 @@ module _ {s : List ℕ} {p : Progress} {t : List ℕ} {env : List (Placed Protot
 
   -- ---- by the head
 
-  pub step-head-fault : {f : Refusal} → headParser (p .at) (drop (p .at) s) ≡ fault (faultIs f) → Steps s p t env (Refused f) t
+  pub step-head-fault : {f : Refusal} → headParser (p .at) (drop (p .at) s) ≡ fault (faultIs f) → StepMeets s p t env (Refused f) t
   step-head-fault e = step-fault (record-fault (bare env) (p .at) (drop (p .at) s) e) refl
 
-  pub step-end : {n : ℕ} → headParser (p .at) (drop (p .at) s) ≡ ok ending n (drop n s) → Steps s p t env (End n) t
+  pub step-end : {n : ℕ} → headParser (p .at) (drop (p .at) s) ≡ ok ending n (drop n s) → StepMeets s p t env (End n) t
   step-end {n} e = atEnd (records-end (length t / 3) (bare env) (p .at) s (record-end (bare env) (p .at) (drop (p .at) s) e))
 
   -- ---- a prototype
 
   module _ {id fields : ℕ} {name : List ℕ} (h : headParser (p .at) (drop (p .at) s) ≡ ok (defining id name) fields (drop fields s)) where
-    pub prototype-fault : {f : Refusal} → fieldsParser fields (drop fields s) ≡ fault (faultIs f) → Steps s p t env (Refused f) t
+    pub prototype-fault : {f : Refusal} → fieldsParser fields (drop fields s) ≡ fault (faultIs f) → StepMeets s p t env (Refused f) t
     prototype-fault e = step-fault (record-fields-fault (bare env) (p .at) (drop (p .at) s) h e) refl
 
     pub prototype-full : {l : Fields} {n : ℕ} {d : Defined} {t′ : List ℕ} → fieldsParser fields (drop fields s) ≡ ok l n (drop n s) → Growing s t (p .rows) env → d ≡ Full
-        → Defines s t (p .rows) id (p .at) d t′ → Steps s p t env (Refused (refusedAt tableFull (p .at))) t′
+        → Defines s t (p .rows) id (p .at) d t′ → StepMeets s p t env (Refused (refusedAt tableFull (p .at))) t′
     unfolding prototypeOf
     prototype-full {l} {n} e k f d =
         let x = is-full f d in
         let one = prototypeOf (bare env) (p .at) (drop (p .at) s) id name fields l in
-        refused (records-full (length t / 3) (bare env) (p .at) s (record-prototype (bare env) (p .at) (drop (p .at) s) h e) (define-full (Stands s) (k .holds) one refl f d)) (ap length (x .same))
+        refused (records-full (length t / 3) (bare env) (p .at) s (record-prototype (bare env) (p .at) (drop (p .at) s) h e) (define-full (DefinedAt s) (k .holds) one refl f d)) (ap length (x .same))
 
     pub prototype-passed : {l : Fields} {n rows : ℕ} {d : Defined} {t′ : List ℕ} → fieldsParser fields (drop fields s) ≡ ok l n (drop n s) → Growing s t (p .rows) env → d ≡ Rows rows
-        → Defines s t (p .rows) id (p .at) d t′ → Steps s p t env (Go (record { at = n; rows = rows; blocks = p .blocks })) t′
+        → Defines s t (p .rows) id (p .at) d t′ → StepMeets s p t env (Go (record { at = n; rows = rows; blocks = p .blocks })) t′
     unfolding prototypeOf blockCount consPrototype
     prototype-passed {l} {n} {rows} {d} {t′} e k f w =
         let x = is-put f w in
         let one = prototypeOf (bare env) (p .at) (drop (p .at) s) id name fields l in
-        let stands : Stands s (p .at) one = record { fields = fields; next = n; head = h; list = e } in
-        subst (λ b. Steps s p t env (Go (record { at = n; rows = rows; blocks = b })) t′) (add-zero (p .blocks))
-        (step-passed (prototype one) (record-prototype (bare env) (p .at) (drop (p .at) s) h e) (define-room (Stands s) (k .holds) one refl f w)
-        (record { holds = define-grows (Stands s) (k .holds) one refl stands f w; offsets = offsets-put s t (p .rows) t′ rows env one (p .at) x (k .offsets) })
+        let stands : DefinedAt s (p .at) one = record { fields = fields; next = n; head = h; list = e } in
+        subst (λ b. StepMeets s p t env (Go (record { at = n; rows = rows; blocks = b })) t′) (add-zero (p .blocks))
+        (step-passed (prototype one) (record-prototype (bare env) (p .at) (drop (p .at) s) h e) (define-room (DefinedAt s) (k .holds) one refl f w)
+        (record { holds = define-grows (DefinedAt s) (k .holds) one refl stands f w; offsets = offsets-put s t (p .rows) t′ rows env one (p .at) x (k .offsets) })
         (x .size))
 
   -- ---- a block
 
   module _ {id at : ℕ} (h : headParser (p .at) (drop (p .at) s) ≡ ok (carrying id) at (drop at s)) (k : Growing s t (p .rows) env) where
-    pub block-undefined : {r : Found} → r ≡ Nothing → foundRow r ≡ lookupTree s t (p .rows) id → Steps s p t env (Refused (refusedAt undefinedPrototype (p .at))) t
-    block-undefined e f = step-fault (record-undefined (bare env) (p .at) (drop (p .at) s) h (found-nothing (Stands s) (k .holds) id e f)) refl
+    pub block-undefined : {r : FoundRow} → r ≡ Nothing → foundRow r ≡ lookupTree s t (p .rows) id → StepMeets s p t env (Refused (refusedAt undefinedPrototype (p .at))) t
+    block-undefined e f = step-fault (record-undefined (bare env) (p .at) (drop (p .at) s) h (found-nothing (DefinedAt s) (k .holds) id e f)) refl
 
-    module _ {r : Found} {a b : ℕ} (e : r ≡ At a b) (f : foundRow r ≡ lookupTree s t (p .rows) id) {q : Parsed} (w : StandingEnd s a at q) where
-      pub block-fault : {x : Refusal} → q ≡ Fault x → Steps s p t env (Refused x) t
+    module _ {r : FoundRow} {a b : ℕ} (e : r ≡ At a b) (f : foundRow r ≡ lookupTree s t (p .rows) id) {q : Parsed} (w : DefinedEnd s a at q) where
+      pub block-fault : {x : Refusal} → q ≡ Fault x → StepMeets s p t env (Refused x) t
       block-fault z =
-          let x = found-at (Stands s) (k .holds) id e f in
+          let x = found-at (DefinedAt s) (k .holds) id e f in
           step-fault (record-block-fault (bare env) (p .at) (drop (p .at) s) h (x .1) (fault-ended _ (sym z ∙ w .ends (x .0) (x .2)))) refl
 
-      pub block-passed : {n : ℕ} → q ≡ Next n → Steps s p t env (Go (record { at = n; rows = p .rows; blocks = p .blocks + 1 })) t
+      pub block-passed : {n : ℕ} → q ≡ Next n → StepMeets s p t env (Go (record { at = n; rows = p .rows; blocks = p .blocks + 1 })) t
       unfolding blockCount consPrototype hasRoom
       block-passed {n} z =
-          let x = found-at (Stands s) (k .holds) id e f in
+          let x = found-at (DefinedAt s) (k .holds) id e f in
           let y = record-block (bare env) (p .at) (drop (p .at) s) h (x .1) (next-ended (block-exact (x .0 .fields)) s at (sym z ∙ w .ends (x .0) (x .2))) in
           step-passed (block (y .0)) (y .1) refl k refl
 
@@ -158,16 +158,16 @@ module _ {s : List ℕ} {p : Progress} {t : List ℕ} {id fields : ℕ} where
     pub defining-passed : {rows : ℕ} → d ≡ Rows rows → Defining s p t id fields (Go (record { at = n; rows = rows; blocks = p .blocks })) t′
     defining-passed f = record { steps = λ env k name h. prototype-passed h (counted-is s fields e .1) k f (subst (λ z. Defines s t (p .rows) id z d t′) w x) }
 
-module _ {s : List ℕ} {p : Progress} {t : List ℕ} {id at : ℕ} {r : Found} (f : foundRow r ≡ lookupTree s t (p .rows) id) where
+module _ {s : List ℕ} {p : Progress} {t : List ℕ} {id at : ℕ} {r : FoundRow} (f : foundRow r ≡ lookupTree s t (p .rows) id) where
   pub carrying-undefined : r ≡ Nothing → Carrying s p t id at (Refused (refusedAt undefinedPrototype (p .at)))
   carrying-undefined e = record { steps = λ env k h. block-undefined h k e f }
 
-  module _ {a b : ℕ} (e : r ≡ At a b) {z : ℕ} (i : z ≡ a) {q : Parsed} (w : StandingEnd s z at q) where
+  module _ {a b : ℕ} (e : r ≡ At a b) {z : ℕ} (i : z ≡ a) {q : Parsed} (w : DefinedEnd s z at q) where
     pub carrying-fault : {x : Refusal} → q ≡ Fault x → Carrying s p t id at (Refused x)
-    carrying-fault y = record { steps = λ env k h. block-fault h k e f (subst (λ x. StandingEnd s x at q) i w) y }
+    carrying-fault y = record { steps = λ env k h. block-fault h k e f (subst (λ x. DefinedEnd s x at q) i w) y }
 
     pub carrying-passed : {n : ℕ} → q ≡ Next n → Carrying s p t id at (Go (record { at = n; rows = p .rows; blocks = p .blocks + 1 }))
-    carrying-passed y = record { steps = λ env k h. block-passed h k e f (subst (λ x. StandingEnd s x at q) i w) y }
+    carrying-passed y = record { steps = λ env k h. block-passed h k e f (subst (λ x. DefinedEnd s x at q) i w) y }
 
 module _ {s : List ℕ} {p : Progress} {t : List ℕ} {h : HeadAnswer} (e : headIs s h ≡ headParser (p .at) (drop (p .at) s)) where
   pub stepped-end : {n : ℕ} → h ≡ HeadEnd n → Stepped s p t (End n) t
@@ -176,8 +176,8 @@ module _ {s : List ℕ} {p : Progress} {t : List ℕ} {h : HeadAnswer} (e : head
   pub stepped-bad : {f : Refusal} → h ≡ BadHead f → Stepped s p t (Refused f) t
   stepped-bad z = record { steps = λ env k. step-head-fault (sym e ∙ ap (headIs s) z) }
 
-  pub stepped-defining : {id name next : ℕ} {r : Step} {t′ : List ℕ} → h ≡ HeadPrototype id name next → Defining s p t id next r t′ → Stepped s p t r t′
+  pub stepped-defining : {id name next : ℕ} {r : ReadStep} {t′ : List ℕ} → h ≡ HeadPrototype id name next → Defining s p t id next r t′ → Stepped s p t r t′
   stepped-defining z d = record { steps = λ env k. d .steps env k _ (sym e ∙ ap (headIs s) z) }
 
-  pub stepped-carrying : {id next : ℕ} {r : Step} → h ≡ HeadBlock id next → Carrying s p t id next r → Stepped s p t r t
+  pub stepped-carrying : {id next : ℕ} {r : ReadStep} → h ≡ HeadBlock id next → Carrying s p t id next r → Stepped s p t r t
   stepped-carrying z d = record { steps = λ env k. d .steps env k (sym e ∙ ap (headIs s) z) }

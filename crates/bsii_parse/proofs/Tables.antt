@@ -19,17 +19,17 @@ use Rattle.bsii_tree.proofs.Relation.{grows-none}
 use Rattle.bsii_order.specs.Ordered.{Ordered}
 use Rattle.bsii_order.proofs.Rows.{order-holds}
 use Rattle.bsii_parse.specs.declared.walk.Progress.{Progress}
-use Rattle.bsii_parse.specs.Walks.{Stands, bare, Growing, Kept, Ready}
+use Rattle.bsii_parse.specs.Walks.{DefinedAt, bare, Growing, Kept, Ready}
 
 -- an empty table holds no definition, whatever its words
 pub growing-none : (s t : List ℕ) → Growing s t 0 []
 unfolding lookupFrom findBy
-growing-none s t = record { holds = grows-none (Stands s) s t; offsets = λ id. refl }
+growing-none s t = record { holds = grows-none (DefinedAt s) s t; offsets = λ id. refl }
 
 -- `order` keeps what a look-up finds
 pub kept-ordered : {s t t′ : List ℕ} {rows : ℕ} {env : List (Placed Prototype)} → Growing s t rows env → Ordered s t rows t′ → Kept s t′ rows env
 kept-ordered {s} g w = record {
-  holds = order-holds (Stands s) (g .holds) w;
+  holds = order-holds (DefinedAt s) (g .holds) w;
   offsets = λ id. ap (Option·map (λ (r : Row). r .last)) (w .looks id) ∙ g .offsets id;
 }
 

@@ -20,7 +20,7 @@ use Rattle.bsii_prototype.specs.Answers.{entryOf}
 use Rattle.bsii_prototype.specs.declared.answers.Entry.the-variants.{Field, Last, Bad}
 use Rattle.bsii_prototype.proofs.Turns.{turn-field, turn-last, turn-bad}
 use Rattle.bsii_prototype.proofs.Beginnings.{head-next}
-use Rattle.bsii_parse.specs.Walks.{Stands, ValuesEnd, BlockEnd, StandingEnd}
+use Rattle.bsii_parse.specs.Walks.{DefinedAt, ValuesEnd, BlockEnd, DefinedEnd}
 
 -- ---- one value and those behind it
 
@@ -118,16 +118,16 @@ module _ {s : List ℕ} {fields at : ℕ} where
 
 -- ---- a block under a prototype that stands at an offset
 
-standing-next : (s : List ℕ) (o : ℕ) (p : Prototype) (h : Stands s o p) {r : Parsed} → r ≡ endOf (uncheckedHead o (drop o s)) → r ≡ Next (h .fields)
-standing-next s o p h e = e ∙ head-next o (drop o s) (h .head)
+defined-next : (s : List ℕ) (o : ℕ) (p : Prototype) (h : DefinedAt s o p) {r : Parsed} → r ≡ endOf (uncheckedHead o (drop o s)) → r ≡ Next (h .fields)
+defined-next s o p h e = e ∙ head-next o (drop o s) (h .head)
 
 module _ {s : List ℕ} {o at : ℕ} {r : Parsed} (e : r ≡ endOf (uncheckedHead o (drop o s))) where
-  pub standing-fault : {f : Refusal} → r ≡ Fault f → (v : Parsed) → StandingEnd s o at v
-  standing-fault z v = record { ends = λ p h. next≢fault (sym (standing-next s o p h e) ∙ z) }
+  pub defined-fault : {f : Refusal} → r ≡ Fault f → (v : Parsed) → DefinedEnd s o at v
+  defined-fault z v = record { ends = λ p h. next≢fault (sym (defined-next s o p h e) ∙ z) }
 
-  pub standing-block : {first : ℕ} {v : Parsed} → r ≡ Next first → BlockEnd s first at v → StandingEnd s o at v
-  standing-block {first} {v} z b = record {
+  pub defined-block : {first : ℕ} {v : Parsed} → r ≡ Next first → BlockEnd s first at v → DefinedEnd s o at v
+  defined-block {first} {v} z b = record {
     ends = λ p h.
-        let i : first ≡ h .fields = next-same (sym z ∙ standing-next s o p h e) in
+        let i : first ≡ h .fields = next-same (sym z ∙ defined-next s o p h e) in
         b .ends _ _ _ (ap (λ n. fieldsParser n (drop n s)) i ∙ h .list);
   }

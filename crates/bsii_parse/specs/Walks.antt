@@ -17,8 +17,8 @@ use Rattle.bsii_table.specs.Rows.{Row, lookup, Rows}
 use Rattle.bsii_table.specs.Relation.{Represents}
 use Rattle.bsii_tree.specs.Table.{Linked, lookupTree}
 use Rattle.bsii_parse.specs.declared.walk.Progress.{Progress}
-use Rattle.bsii_parse.specs.declared.walk.Step.{Step}
-use Rattle.bsii_parse.specs.declared.walk.Step.the-variants.{Go, End, Refused}
+use Rattle.bsii_parse.specs.declared.walk.ReadStep.{ReadStep}
+use Rattle.bsii_parse.specs.declared.walk.ReadStep.the-variants.{Go, End, Refused}
 use Rattle.bsii_parse.specs.declared.walk.Totals.{Totals}
 use Rattle.bsii_parse.specs.declared.walk.Walked.{Walked}
 use Rattle.bsii_parse.specs.declared.walk.Walked.the-variants.{Done, Fault as Stopped}
@@ -26,7 +26,7 @@ use Rattle.bsii_parse.specs.declared.walk.Walked.the-variants.{Done, Fau
 -- ---- prototypes and blocks at an offset
 
 -- the prototype p stands at the offset o of the file s: its head is read there, and its definitions from `fields` on
-pub record Stands (s : List ℕ) (o : ℕ) (p : Prototype) : Type 0 where
+pub record DefinedAt (s : List ℕ) (o : ℕ) (p : Prototype) : Type 0 where
   pub fields : ℕ
   pub next : ℕ
   pub head : headParser o (drop o s) ≡ ok (defining (p .id) (p .name)) fields (drop fields s)
@@ -42,8 +42,8 @@ pub record BlockEnd (s : List ℕ) (fields at : ℕ) (r : Parsed) : Type 0 where
       → r ≡ endOf ((idParser >>= (λ i. dataValuesParser (l .fields))) at (drop at s))
 
 -- the same under a prototype that stands at an offset
-pub record StandingEnd (s : List ℕ) (o at : ℕ) (r : Parsed) : Type 0 where
-  pub ends : (p : Prototype) → Stands s o p → r ≡ endOf ((idParser >>= (λ i. dataValuesParser (p .fields))) at (drop at s))
+pub record DefinedEnd (s : List ℕ) (o at : ℕ) (r : Parsed) : Type 0 where
+  pub ends : (p : Prototype) → DefinedAt s o p → r ≡ endOf ((idParser >>= (λ i. dataValuesParser (p .fields))) at (drop at s))
 
 -- ---- the reading walk
 
@@ -58,7 +58,7 @@ unfoldable pub behind : List Record → Result Records → Result Records
 behind l (ok q at r) = ok (record { records = l ++ q .records; end = q .end }) at r
 behind l (fault f) = fault f
 
--- the records from a position on, with room for so many ids and the definitions so far
+-- the records from a position on, with room for `rooms` ids and the definitions so far
 abbrev pub recordsAt : ℕ → List Prototype → ℕ → List ℕ → Result Records
 recordsAt rooms env at s = recordsFrom rooms (length (drop at s)) env at (drop at s)
 
@@ -70,7 +70,7 @@ bare = map (λ (p : Placed Prototype). p .it)
 
 -- The rows are the definitions so far, the last one first. `offsets` says which of two equal prototypes a row stands for.
 pub record Keeps (s : List ℕ) (Valid : Type 0) (look : ℕ → Option Row) (rows : ℕ) (env : List (Placed Prototype)) : Type 0 where
-  pub holds : Represents (Stands s) Valid look rows (bare env)
+  pub holds : Represents (DefinedAt s) Valid look rows (bare env)
   pub offsets : (id : ℕ) → Option·map (λ (r : Row). r .last) (look id) ≡ Option·map (λ (p : Placed Prototype). p .offset) (findBy (λ (p : Placed Prototype). p .it .id) id env)
 
 -- the table while the file is read, a tree
@@ -93,24 +93,24 @@ pub record Ready (s : List ℕ) (p : Progress) (t : List ℕ) : Type 0 where
 
 -- For the definitions that the table holds: the records from here on are the one that was passed and those from there on; or they are the end
 -- record; or they are refused. Behind the step the table holds the definitions with the record's.
-pub data Steps (s : List ℕ) (p : Progress) (t : List ℕ) (env : List (Placed Prototype)) : Step → List ℕ → Type 0 where
+pub data StepMeets (s : List ℕ) (p : Progress) (t : List ℕ) (env : List (Placed Prototype)) : ReadStep → List ℕ → Type 0 where
   passed : (i : Record) {n rows : ℕ} {t′ : List ℕ}
       → recordsAt (length t / 3) (bare env) (p .at) s ≡ behind (i ∷ []) (recordsAt (length t / 3) (bare (consPrototype (p .at) i env)) n s)
       → p .at < n → n ≤ length s → n ≡ p .at + length (recordBytes i) → Growing s t′ rows (consPrototype (p .at) i env) → length t′ ≡ length t
-      → Steps s p t env (Go (record { at = n; rows = rows; blocks = p .blocks + blockCount (i ∷ []) })) t′
-  ended : {l : List ℕ} {n : ℕ} → recordsAt (length t / 3) (bare env) (p .at) s ≡ ok (record { records = []; end = l }) n (drop n s) → Steps s p t env (End n) t
-  refused : {f : Refusal} {t′ : List ℕ} → recordsAt (length t / 3) (bare env) (p .at) s ≡ fault (faultIs f) → length t′ ≡ length t → Steps s p t env (Refused f) t′
+      → StepMeets s p t env (Go (record { at = n; rows = rows; blocks = p .blocks + blockCount (i ∷ []) })) t′
+  ended : {l : List ℕ} {n : ℕ} → recordsAt (length t / 3) (bare env) (p .at) s ≡ ok (record { records = []; end = l }) n (drop n s) → StepMeets s p t env (End n) t
+  refused : {f : Refusal} {t′ : List ℕ} → recordsAt (length t / 3) (bare env) (p .at) s ≡ fault (faultIs f) → length t′ ≡ length t → StepMeets s p t env (Refused f) t′
 
-pub record Stepped (s : List ℕ) (p : Progress) (t : List ℕ) (r : Step) (t′ : List ℕ) : Type 0 where
-  pub steps : (env : List (Placed Prototype)) → Growing s t (p .rows) env → Steps s p t env r t′
+pub record Stepped (s : List ℕ) (p : Progress) (t : List ℕ) (r : ReadStep) (t′ : List ℕ) : Type 0 where
+  pub steps : (env : List (Placed Prototype)) → Growing s t (p .rows) env → StepMeets s p t env r t′
 
 -- the same where the head is read already: a prototype's definitions start at `fields`, a block's id at `at`
-pub record Defining (s : List ℕ) (p : Progress) (t : List ℕ) (id fields : ℕ) (r : Step) (t′ : List ℕ) : Type 0 where
+pub record Defining (s : List ℕ) (p : Progress) (t : List ℕ) (id fields : ℕ) (r : ReadStep) (t′ : List ℕ) : Type 0 where
   pub steps : (env : List (Placed Prototype)) → Growing s t (p .rows) env → (name : List ℕ) → headParser (p .at) (drop (p .at) s) ≡ ok (defining id name) fields (drop fields s)
-      → Steps s p t env r t′
+      → StepMeets s p t env r t′
 
-pub record Carrying (s : List ℕ) (p : Progress) (t : List ℕ) (id at : ℕ) (r : Step) : Type 0 where
-  pub steps : (env : List (Placed Prototype)) → Growing s t (p .rows) env → headParser (p .at) (drop (p .at) s) ≡ ok (carrying id) at (drop at s) → Steps s p t env r t
+pub record Carrying (s : List ℕ) (p : Progress) (t : List ℕ) (id at : ℕ) (r : ReadStep) : Type 0 where
+  pub steps : (env : List (Placed Prototype)) → Growing s t (p .rows) env → headParser (p .at) (drop (p .at) s) ≡ ok (carrying id) at (drop at s) → StepMeets s p t env r t
 
 -- ---- the whole walk from `start` on, and the whole file: the table holds the definitions of what was read
 

@@ -1,6 +1,6 @@
 // Data blocks under a prototype's definitions. The definitions were read before: their names are not checked again.
 use bsii_prototype::answers::Entry;
-use bsii_prototype::past::value_prototype_past;
+use bsii_prototype::skip::skip_value_prototype;
 use bsii_string::answers::Parsed;
 use bsii_value::values::value_parser;
 use bsii_word::words::id_parser;
@@ -14,7 +14,7 @@ pub fn values_parser(s: &[u8], fields: usize, start: usize) -> Parsed
     let mut field = fields;
     let mut at = start;
     loop {
-        let entry = value_prototype_past(s, field);
+        let entry = skip_value_prototype(s, field);
         match entry {
             Entry::Last(_) => return Parsed::Next(at),
             Entry::Bad(f) => return Parsed::Fault(f),

@@ -4,14 +4,14 @@ use bsii_prototype::answers::Counted;
 use bsii_prototype::answers::Head;
 use bsii_prototype::fields::fields_parser;
 use bsii_prototype::heads::head_parser;
-use bsii_prototype::past::fields_at;
+use bsii_prototype::skip::fields_at;
 use bsii_string::answers::Parsed;
 use bsii_string::answers::Refusal;
 use bsii_string::answers::TABLE_FULL;
 use bsii_string::answers::UNDEFINED_PROTOTYPE;
 use bsii_string::answers::refused;
 use bsii_string::numbers::size;
-use bsii_table::Found;
+use bsii_table::FoundRow;
 use bsii_tree::Defined;
 use bsii_tree::define;
 use bsii_tree::find;
@@ -21,7 +21,7 @@ ghost use mathlib.Core.Path.{_≡_};
 ghost use lib.ListN.{drop};
 ghost use Rattle.bsii_format.specs.File.{lengthLimit};
 ghost use Rattle.bsii_tree.specs.Table.{Named};
-ghost use Rattle.bsii_parse.specs.Walks.{Ready, Defining, Carrying, Stepped, Walks, StandingEnd};
+ghost use Rattle.bsii_parse.specs.Walks.{Ready, Defining, Carrying, Stepped, Walks, DefinedEnd};
 
 // How far the walk is: the next record's offset, the table's rows, and the blocks so far.
 pub struct Progress {
@@ -30,7 +30,7 @@ pub struct Progress {
     pub blocks: usize,
 }
 
-pub enum Step {
+pub enum ReadStep {
     Go(Progress),
     End(usize),
     Refused(Refusal),
@@ -57,7 +57,7 @@ fn word(x: usize) -> u32
 }
 
 // A prototype of this id, whose definitions start at `fields`. A new id without room is refused once the prototype is read whole.
-fn prototype_step(s: &[u8], p: Progress, table: &mut [u32], id: u32, fields: usize) -> Step
+fn prototype_step(s: &[u8], p: Progress, table: &mut [u32], id: u32, fields: usize) -> ReadStep
     requires { ⌜ Ready (now s) p (now table) × Named (now s) (p .rows) id (p .at) ⌝ }
     ensures { λ r. ⌜ Defining (now (s .entry)) p (now (table .entry)) id fields r (now (table .exit)) ⌝ }
 {
@@ -66,12 +66,12 @@ fn prototype_step(s: &[u8], p: Progress, table: &mut [u32], id: u32, fields: usi
     let blocks = p.blocks;
     let list = fields_parser(s, fields);
     match list {
-        Counted::Fault(f) => return Step::Refused(f),
+        Counted::Fault(f) => return ReadStep::Refused(f),
         Counted::Fields { count: _, next } => {
             let defined = define(s, table, rows, id, word(at));
             match defined {
-                Defined::Full => return Step::Refused(refused(TABLE_FULL, at)),
-                Defined::Rows(held) => return Step::Go(Progress {
+                Defined::Full => return ReadStep::Refused(refused(TABLE_FULL, at)),
+                Defined::Rows(held) => return ReadStep::Go(Progress {
                     at: next,
                     rows: held,
                     blocks,
@@ -83,7 +83,7 @@ fn prototype_step(s: &[u8], p: Progress, table: &mut [u32], id: u32, fields: usi
 
 // The block whose own id starts at `at`, under the prototype at the offset `prototype`.
 pub fn block_parser(s: &[u8], prototype: usize, at: usize) -> Parsed
-    ensures { λ r. ⌜ StandingEnd (now (s .entry)) prototype at r ⌝ }
+    ensures { λ r. ⌜ DefinedEnd (now (s .entry)) prototype at r ⌝ }
 {
     let fields = fields_at(s, prototype);
     match fields {
@@ -93,7 +93,7 @@ pub fn block_parser(s: &[u8], prototype: usize, at: usize) -> Parsed
 }
 
 // A block of this id, whose own id starts at `id_at`, under the definition in force.
-fn block_step(s: &[u8], p: Progress, table: &[u32], id: u32, id_at: usize) -> Step
+fn block_step(s: &[u8], p: Progress, table: &[u32], id: u32, id_at: usize) -> ReadStep
     requires { ⌜ Ready (now s) p (now table) ⌝ }
     ensures { λ r. ⌜ Carrying (now (s .entry)) p (now (table .entry)) id «id_at» r ⌝ }
 {
@@ -101,12 +101,12 @@ fn block_step(s: &[u8], p: Progress, table: &[u32], id: u32, id_at: usize) -> St
     let rows = p.rows;
     let found = find(s, table, rows, id);
     match found {
-        Found::Nothing => return Step::Refused(refused(UNDEFINED_PROTOTYPE, at)),
-        Found::At { in_force, last: _ } => {
+        FoundRow::Nothing => return ReadStep::Refused(refused(UNDEFINED_PROTOTYPE, at)),
+        FoundRow::At { in_force, last: _ } => {
             let parsed = block_parser(s, size(in_force), id_at);
             match parsed {
-                Parsed::Fault(f) => return Step::Refused(f),
-                Parsed::Next(next) => return Step::Go(Progress {
+                Parsed::Fault(f) => return ReadStep::Refused(f),
+                Parsed::Next(next) => return ReadStep::Go(Progress {
                     at: next,
                     rows,
                     blocks: p.blocks + 1,
@@ -116,14 +116,14 @@ fn block_step(s: &[u8], p: Progress, table: &[u32], id: u32, id_at: usize) -> St
     }
 }
 
-pub fn record_step(s: &[u8], p: Progress, table: &mut [u32]) -> Step
+pub fn record_step(s: &[u8], p: Progress, table: &mut [u32]) -> ReadStep
     requires { ⌜ Ready (now s) p (now table) ⌝ }
     ensures { λ r. ⌜ Stepped (now (s .entry)) p (now (table .entry)) r (now (table .exit)) ⌝ }
 {
     let head = head_parser(s, p.at);
     match head {
-        Head::End(next) => return Step::End(next),
-        Head::BadHead(f) => return Step::Refused(f),
+        Head::End(next) => return ReadStep::End(next),
+        Head::BadHead(f) => return ReadStep::Refused(f),
         Head::Prototype { id, name: _, next } => return prototype_step(s, p, table, id, next),
         Head::Block { id, next } => return block_step(s, p, table, id, next),
     }
@@ -142,13 +142,13 @@ pub fn walk(s: &[u8], start: usize, table: &mut [u32]) -> Walked
     loop {
         let step = record_step(s, p, table);
         match step {
-            Step::End(next) => return Walked::Done(Totals {
+            ReadStep::End(next) => return Walked::Done(Totals {
                 rows: p.rows,
                 blocks: p.blocks,
                 next,
             }),
-            Step::Refused(f) => return Walked::Fault(f),
-            Step::Go(further) => {
+            ReadStep::Refused(f) => return Walked::Fault(f),
+            ReadStep::Go(further) => {
                 p = further;
             }
         }

@@ -5,4 +5,4 @@
 pub mod answers;
 pub mod fields;
 pub mod heads;
-pub mod past;
+pub mod skip;

@@ -46,7 +46,7 @@ pub fn str_end(s: &[u8], at: usize) -> Parsed
 }
 
 // The end of a string whose bytes were checked before: a second walk over names need not check them twice.
-pub fn str_past(s: &[u8], at: usize) -> Parsed
+pub fn skip_str(s: &[u8], at: usize) -> Parsed
     ensures { λ r. ⌜ r ≡ endOf (uncheckedStr at (drop at (now (s .entry)))) ⌝ }
 {
     let length = le_u32(s, at);

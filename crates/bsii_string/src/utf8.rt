@@ -6,7 +6,7 @@ ghost use lib.ListN.{drop};
 ghost use Rattle.bsii_format.specs.Utf8.{_to_, within, table3-7, trailOf, step as stepOf, complete as completeOf, utf8};
 ghost use Rattle.bsii_string.specs.States.{toCome};
 
-// What is still to come of a sequence: nothing, so many bytes, or what follows one of the four lead bytes that narrow the next byte.
+// What is still to come of a sequence: nothing, one to three bytes, or what follows one of the four lead bytes that narrow the next byte.
 pub enum State {
     Between,
     One,

@@ -12,13 +12,13 @@ use Rattle.bsii_format.specs.File.{Record, prototype, block, define, defineAll}
 use Rattle.bsii_table.specs.Rows.{Row, offsets, lookup}
 use Rattle.bsii_table.specs.Table.{foundRow, withInForce, Enters}
 use Rattle.bsii_table.specs.Relation.{Matches, Represents, Holds, InForce, Follows, Entered}
-use Rattle.bsii_table.specs.declared.Found.{Found}
-use Rattle.bsii_table.specs.declared.Found.the-variants as found
+use Rattle.bsii_table.specs.declared.FoundRow.{FoundRow}
+use Rattle.bsii_table.specs.declared.FoundRow.the-variants as found
 
 module _ (At : ℕ → Prototype → Type 0) where
   -- ---- the definitions so far
 
-  module _ {Valid : Type 0} {look : ℕ → Option Row} {rows : ℕ} {env : List Prototype} (h : Represents At Valid look rows env) (id : ℕ) {r : Found} where
+  module _ {Valid : Type 0} {look : ℕ → Option Row} {rows : ℕ} {env : List Prototype} (h : Represents At Valid look rows env) (id : ℕ) {r : FoundRow} where
     -- what `find` answered, as a definition
     pub found-at : {a b : ℕ} → r ≡ found.At a b → foundRow r ≡ look id → (p : Prototype) × (getPrototype id env ≡ some p) × At a p × At b p
     found-at {a} {b} q f = go (getPrototype id env) refl (subst (Matches At (getPrototype id env)) (sym f ∙ ap foundRow q) (h .each id))
@@ -83,7 +83,7 @@ module _ (At : ℕ → Prototype → Type 0) where
       go n false q = h .each n
 
   -- `find` in the walk: the last definition, and the one in force
-  pub entered-at : {t : List ℕ} {rows : ℕ} {env last : List Prototype} → Entered At t rows env last → (id : ℕ) {r : Found} {a b : ℕ} → r ≡ found.At a b
+  pub entered-at : {t : List ℕ} {rows : ℕ} {env last : List Prototype} → Entered At t rows env last → (id : ℕ) {r : FoundRow} {a b : ℕ} → r ≡ found.At a b
       → foundRow r ≡ lookup t rows id
       → (q : Prototype) × (getPrototype id last ≡ some q) × At b q × ((p : Prototype) → getPrototype id env ≡ some p → At a p)
   entered-at {t} {rows} {env} {last} h id {r} {a} {b} q f =
@@ -94,7 +94,7 @@ module _ (At : ℕ → Prototype → Type 0) where
       go none e m = absurd m
       go (some q) e m = (q, e, m .0, λ p z. subst (λ (o : Option Prototype). InForce At o (offsets a b)) z (m .1))
 
-  pub entered-nothing : {t : List ℕ} {rows : ℕ} {env last : List Prototype} → Entered At t rows env last → (id : ℕ) {r : Found} → r ≡ found.Nothing
+  pub entered-nothing : {t : List ℕ} {rows : ℕ} {env last : List Prototype} → Entered At t rows env last → (id : ℕ) {r : FoundRow} → r ≡ found.Nothing
       → foundRow r ≡ lookup t rows id → getPrototype id last ≡ none
   entered-nothing {t} {rows} {env} {last} h id {r} q f =
       go (getPrototype id last) (subst (Follows At (getPrototype id env) (getPrototype id last)) (sym f ∙ ap foundRow q) (h .each id))
@@ -105,14 +105,14 @@ module _ (At : ℕ → Prototype → Type 0) where
 
   -- an id that is defined so far and in the file has both offsets
   pub entered-finds : {t : List ℕ} {rows : ℕ} {env last : List Prototype} → Entered At t rows env last → (id : ℕ) {p q : Prototype}
-      → getPrototype id env ≡ some p → getPrototype id last ≡ some q → (r : Found) → foundRow r ≡ lookup t rows id
+      → getPrototype id env ≡ some p → getPrototype id last ≡ some q → (r : FoundRow) → foundRow r ≡ lookup t rows id
       → (a : ℕ) × (b : ℕ) × (r ≡ found.At a b) × At a p × At b q
   entered-finds {t} {rows} {env} {last} h id {p} {q} k l r f =
       go r (subst (λ (o : Option Prototype). Follows At o (some q) (foundRow r)) k
       (subst (λ (o : Option Prototype). Follows At (getPrototype id env) o (foundRow r)) l
       (subst (Follows At (getPrototype id env) (getPrototype id last)) (sym f) (h .each id))))
     where
-      go : (r : Found) → Follows At (some p) (some q) (foundRow r) → (a : ℕ) × (b : ℕ) × (r ≡ found.At a b) × At a p × At b q
+      go : (r : FoundRow) → Follows At (some p) (some q) (foundRow r) → (a : ℕ) × (b : ℕ) × (r ≡ found.At a b) × At a p × At b q
       go (found.At a b) m = (a, b, refl, m .1, m .0)
       go found.Nothing m = absurd m
 

@@ -21,7 +21,7 @@ idAt t i = getD t (3 * i) 0
 abbrev pub rowAt : List ℕ → ℕ → Row
 rowAt t i = offsets (getD t (3 * i + 1) 0) (getD t (3 * i + 2) 0)
 
--- the first of so many rows, from the row i on, whose key is the id
+-- the first of n rows, from the row i on, whose key is the id
 unfoldable pub lookupFrom : (ℕ → ℕ) → (ℕ → Row) → ℕ → ℕ → ℕ → Option Row
 lookupFrom key row i zero id = none
 lookupFrom key row i (suc left) id = cond (eqb id (key i)) (some (row i)) (lookupFrom key row (suc i) left id)

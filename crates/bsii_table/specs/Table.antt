@@ -7,13 +7,13 @@ use mathlib.Core.List.{List}
 use lib.ListN.{length}
 use lib.Dec.{eqb}
 use Rattle.bsii_table.specs.Rows.{Row, offsets, idAt, lookup, Rows}
-use Rattle.bsii_table.specs.declared.Found.{Found}
-use Rattle.bsii_table.specs.declared.Found.the-variants as found
+use Rattle.bsii_table.specs.declared.FoundRow.{FoundRow}
+use Rattle.bsii_table.specs.declared.FoundRow.the-variants as found
 use Rattle.bsii_table.specs.declared.Slot.{Slot}
 use Rattle.bsii_table.specs.declared.Slot.the-variants as slot
 
 -- an answer of `find` as what was looked up
-abbrev pub foundRow : Found → Option Row
+abbrev pub foundRow : FoundRow → Option Row
 foundRow (found.At a b) = some (offsets a b)
 foundRow found.Nothing = none
 

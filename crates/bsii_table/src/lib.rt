@@ -13,7 +13,7 @@ ghost use lib.ListN.{length, replicate};
 ghost use Rattle.bsii_table.specs.Rows.{Rows, lookup};
 ghost use Rattle.bsii_table.specs.Table.{foundRow, Locate, Enters};
 
-pub enum Found {
+pub enum FoundRow {
     At { in_force: u32, last: u32 },
     Nothing,
 }
@@ -25,7 +25,7 @@ enum Slot {
 }
 
 // Where the id would stand if the ids were spread evenly from the first to the last. Only a guess: any row will do.
-fn likely_row(table: &[u32], rows: usize, id: u32) -> usize
+fn interpolated_row(table: &[u32], rows: usize, id: u32) -> usize
     requires { ⌜ Rows (now table) rows × (0 < rows) ⌝ }
     ensures { λ r. ⌜ r < rows ⌝ }
 {
@@ -69,7 +69,7 @@ fn locate(table: &[u32], rows: usize, id: u32) -> Slot
     ensures { λ r. ⌜ Locate (now (table .entry)) rows id r ⌝ }
 {
     if 0 < rows {
-        let row = likely_row(table, rows, id);
+        let row = interpolated_row(table, rows, id);
         if table[3 * row] == id {
             return Slot::Row(3 * row);
         }
@@ -78,16 +78,16 @@ fn locate(table: &[u32], rows: usize, id: u32) -> Slot
 }
 
 // The offsets of an id.
-pub fn find(table: &[u32], rows: usize, id: u32) -> Found
+pub fn find(table: &[u32], rows: usize, id: u32) -> FoundRow
     requires { ⌜ Rows (now table) rows ⌝ }
     ensures { λ r. ⌜ foundRow r ≡ lookup (now (table .entry)) rows id ⌝ }
 {
     match locate(table, rows, id) {
-        Slot::Row(at) => Found::At {
+        Slot::Row(at) => FoundRow::At {
             in_force: table[at + 1],
             last: table[at + 2],
         },
-        Slot::Missing => Found::Nothing,
+        Slot::Missing => FoundRow::Nothing,
     }
 }
 

@@ -28,11 +28,11 @@ use Rattle.bsii_string.specs.declared.answers.Parsed.the-variants.{Next as Past
 use Rattle.bsii_string.proofs.Ends.{next≢fault, next-same}
 use Rattle.bsii_prototype.specs.Entries.{uncheckedHead}
 use Rattle.bsii_prototype.proofs.Beginnings.{head-past}
-use Rattle.bsii_past.specs.Unchecked.{uncheckedElement}
-use Rattle.bsii_past.proofs.Values.{element-same}
-use Rattle.bsii_past.proofs.Blocks.{turn, done}
-use Rattle.bsii_parse.specs.Walks.{Stands}
-use Rattle.bsii_again.proofs.Naming.{head-ends, standing}
+use Rattle.bsii_skip.specs.Unchecked.{uncheckedElement}
+use Rattle.bsii_skip.proofs.Values.{element-same}
+use Rattle.bsii_skip.proofs.Blocks.{turn, done}
+use Rattle.bsii_parse.specs.Walks.{DefinedAt}
+use Rattle.bsii_walk.proofs.Naming.{head-ends, standing}
 use Rattle.bsii_definition.specs.Pairs.{SameCount}
 use Rattle.bsii_lines.proofs.LineLaws.{own-bytes}
 use Rattle.bsii_window.specs.Window.{Wrote}
@@ -87,7 +87,7 @@ module _ (s : List ℕ) (id start fields name lastFields : ℕ) {old : List ℕ}
 
 -- ---- how many fields the two definitions have
 
-fields-of : {s : List ℕ} {o : ℕ} {p : Prototype} (h : Stands s o p) {k : ℕ} → h .fields ≡ k → fieldsParser k (drop k s) ≡ ok (record { fields = p .fields; terminator = p .terminator }) (h .next) (drop (h .next) s)
+fields-of : {s : List ℕ} {o : ℕ} {p : Prototype} (h : DefinedAt s o p) {k : ℕ} → h .fields ≡ k → fieldsParser k (drop k s) ≡ ok (record { fields = p .fields; terminator = p .terminator }) (h .next) (drop (h .next) s)
 fields-of {s} h e = ap (λ (k : ℕ). fieldsParser k (drop k s)) (sym e) ∙ h .list
 
 module _ (s : List ℕ) (inForce last fields lastFields : ℕ) where
@@ -139,15 +139,15 @@ module _ (s : List ℕ) (offset at inForce last : ℕ) (old : List ℕ) (to : �
 
   module _ {x : Parsed} (e : x ≡ endOf (uncheckedHead inForce (drop inForce s))) {fields : ℕ} (f : x ≡ Past fields)
       {y : Parsed} (g : y ≡ endOf (uncheckedHead last (drop last s))) {lastFields : ℕ} (h : y ≡ Past lastFields) where
-    fields-are : (p : Prototype) (k : Stands s inForce p) → k .fields ≡ fields
+    fields-are : (p : Prototype) (k : DefinedAt s inForce p) → k .fields ≡ fields
     fields-are p k = next-same (sym (standing s inForce e p k) ∙ f)
 
-    last-are : (q : Prototype) (k : Stands s last q) → k .fields ≡ lastFields
+    last-are : (q : Prototype) (k : DefinedAt s last q) → k .fields ≡ lastFields
     last-are q k = next-same (sym (standing s last g q k) ∙ h)
 
     module _ {r : Bool} (w : SameFields s inForce last fields lastFields r) where
       -- the two counts that the text compares
-      counts : (p q : Prototype) → Stands s inForce p → Stands s last q → (vs : List DataValue) → length vs ≡ length (p .fields) → eqb (length (q .fields)) (length vs) ≡ r
+      counts : (p q : Prototype) → DefinedAt s inForce p → DefinedAt s last q → (vs : List DataValue) → length vs ≡ length (p .fields) → eqb (length (q .fields)) (length vs) ≡ r
       counts p q k l vs v = ap (eqb (length (q .fields))) v ∙ sym (w .is p q k l (fields-are p k) (last-are q l))
 
       pub other-count : {x : Refusal} → x ≡ refusedAt fieldCount offset → not r ≡ true → BlockWritten s offset at inForce last old to (Refused x) old
@@ -170,7 +170,7 @@ module _ (s : List ℕ) (offset at inForce last : ℕ) (old : List ℕ) (to : �
             not-false true e = refl
             not-false false e = sym e
 
-        name-is : (q : Prototype) → Stands s last q → take (lastFields - (last + 13)) (drop (last + 13) s) ≡ q .name
+        name-is : (q : Prototype) → DefinedAt s last q → take (lastFields - (last + 13)) (drop (last + 13) s) ≡ q .name
         name-is q k = ap (λ (a : ℕ). take (a - (last + 13)) (drop (last + 13) s)) (sym (last-are q k)) ∙ sym (head-ends s last (head-past last (drop last s) (k .head)) .place)
 
         pub whole-block : {v : Written} {new : List ℕ} → BodyWritten s at start fields (last + 13) lastFields old to v new → BlockWritten s offset at inForce last old to v new

@@ -19,7 +19,7 @@ use Rattle.bsii_format.proofs.Parsers.{value-exact}
 use Rattle.bsii_format.proofs.Positions.{step}
 use Rattle.bsii_string.specs.Answers.{faultIs, refusedAt}
 use Rattle.bsii_string.specs.declared.answers.Refusal.{Refusal}
-use Rattle.bsii_past.proofs.Blocks.{turn, done as no-values}
+use Rattle.bsii_skip.proofs.Blocks.{turn, done as no-values}
 use Rattle.bsii_definition.specs.Pairs.{definition, Paired, PairIs, both, ends, last-longer, last-shorter, PairOf}
 use Rattle.bsii_definition.specs.declared.pairs.Definition.{Definition}
 use Rattle.bsii_definition.specs.declared.pairs.Pair.{Pair}

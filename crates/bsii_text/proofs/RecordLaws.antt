@@ -18,20 +18,20 @@ use Rattle.bsii_format.specs.Text.{valueText}
 use Rattle.bsii_format.specs.BlockText.{joined, blockText, recordsText}
 use Rattle.bsii_table.specs.Rows.{lookup}
 use Rattle.bsii_table.specs.Table.{foundRow}
-use Rattle.bsii_table.specs.declared.Found.{Found}
-use Rattle.bsii_table.specs.declared.Found.the-variants.{At, Nothing as NotFound}
+use Rattle.bsii_table.specs.declared.FoundRow.{FoundRow}
+use Rattle.bsii_table.specs.declared.FoundRow.the-variants.{At, Nothing as NotFound}
 use Rattle.bsii_table.proofs.Relation.{entered-at, entered-nothing, still-defined}
-use Rattle.bsii_parse.specs.Walks.{Stands}
-use Rattle.bsii_again.specs.Again.{KindAt, PrototypeAgain}
-use Rattle.bsii_again.specs.Seek.{Standing}
-use Rattle.bsii_again.specs.declared.records.Kind.{Kind}
-use Rattle.bsii_again.specs.declared.records.Kind.the-variants.{Ends, Defines, Carries}
-use Rattle.bsii_again.specs.declared.records.Met.{Met}
-use Rattle.bsii_again.specs.declared.records.Met.the-variants.{Prototype as MetPrototype, Block as MetBlock, Nothing}
-use Rattle.bsii_again.proofs.records.Met.{the-type}
-use Rattle.bsii_again.proofs.Parts.{stands, block-parts}
-use Rattle.bsii_again.proofs.Meeting.{ends≢defines, ends≢carries, defines≢carries, defines-is, carries-id, carries-next, is-prototype, is-block, is-end}
-use Rattle.bsii_again.proofs.Seeking.{Accepted, the-end, a-record, accepted}
+use Rattle.bsii_parse.specs.Walks.{DefinedAt}
+use Rattle.bsii_walk.specs.Again.{KindAt, PrototypeAgain}
+use Rattle.bsii_walk.specs.Seek.{Standing}
+use Rattle.bsii_walk.specs.declared.records.RecordKind.{RecordKind}
+use Rattle.bsii_walk.specs.declared.records.RecordKind.the-variants.{Ends, Defines, Carries}
+use Rattle.bsii_walk.specs.declared.records.Met.{Met}
+use Rattle.bsii_walk.specs.declared.records.Met.the-variants.{Prototype as MetPrototype, Block as MetBlock, Nothing}
+use Rattle.bsii_walk.proofs.records.Met.{the-type}
+use Rattle.bsii_walk.proofs.Parts.{stands, block-parts}
+use Rattle.bsii_walk.proofs.Meeting.{ends≢defines, ends≢carries, defines≢carries, defines-is, carries-id, carries-next, is-prototype, is-block, is-end}
+use Rattle.bsii_walk.proofs.Seeking.{Accepted, the-end, a-record, accepted}
 use Rattle.bsii_window.proofs.Laws.{same}
 use Rattle.bsii_window.proofs.Loops.{begin}
 use Rattle.bsii_window.proofs.Loops as loops
@@ -39,8 +39,8 @@ use Rattle.bsii_text.specs.Blocks.{WrittenIs, BlockWritten}
 use Rattle.bsii_text.specs.Records.{StepIs, BlockStep, PrototypeStep, Stepped, went, ended, refused, RecordWritten}
 use Rattle.bsii_text.specs.declared.blocks.Written.{Written}
 use Rattle.bsii_text.specs.declared.blocks.Written.the-variants.{Next, Refused as Not}
-use Rattle.bsii_text.specs.declared.records.Step.{Step}
-use Rattle.bsii_text.specs.declared.records.Step.the-variants.{Go, End, Refused}
+use Rattle.bsii_text.specs.declared.records.WriteStep.{WriteStep}
+use Rattle.bsii_text.specs.declared.records.WriteStep.the-variants.{Go, End, Refused}
 use Rattle.bsii_text.proofs.FieldLaws.{joined-none}
 
 none≢some : {A P : Type 0} {a : A} → _≡_ {A = Option A} none (some a) → P
@@ -52,7 +52,7 @@ some-is e = cc
 -- ---- a block
 
 -- the same answer in the record's terms
-abbrev pub stepOf : Written → Step
+abbrev pub stepOf : Written → WriteStep
 stepOf (Next at r) = Go at r
 stepOf (Not f) = Refused f
 
@@ -62,17 +62,17 @@ step-is old to (gives t) n (Not g) new h = absurd h
 step-is old to (refuses f) n (Next at r) new h = absurd h
 step-is old to (refuses f) n (Not g) new h = h
 
-module _ (s : List ℕ) (offset : ℕ) (t : List ℕ) (rows prototypeId at : ℕ) (old : List ℕ) (to : ℕ) {f : Found} (e : foundRow f ≡ lookup t rows prototypeId) where
+module _ (s : List ℕ) (offset : ℕ) (t : List ℕ) (rows prototypeId at : ℕ) (old : List ℕ) (to : ℕ) {f : FoundRow} (e : foundRow f ≡ lookup t rows prototypeId) where
   pub block-unknown : f ≡ NotFound → BlockStep s offset t rows prototypeId at old to End old
-  block-unknown z = record { steps = λ env last k p q g h b i j a c d v. none≢some (sym (entered-nothing (Stands s) k prototypeId z e) ∙ h); size = refl }
+  block-unknown z = record { steps = λ env last k p q g h b i j a c d v. none≢some (sym (entered-nothing (DefinedAt s) k prototypeId z e) ∙ h); size = refl }
 
-  pub block-step : {a b x y : ℕ} → f ≡ At a b → x ≡ a → y ≡ b → {w : Written} {new : List ℕ} → BlockWritten s offset at x y old to w new → {r : Step} → stepOf w ≡ r → BlockStep s offset t rows prototypeId at old to r new
+  pub block-step : {a b x y : ℕ} → f ≡ At a b → x ≡ a → y ≡ b → {w : Written} {new : List ℕ} → BlockWritten s offset at x y old to w new → {r : WriteStep} → stepOf w ≡ r → BlockStep s offset t rows prototypeId at old to r new
   block-step {a} {b} {x} {y} z i j {w} {new} h {r} g = record {
     steps = λ env last k p q m l d o c u v n d′.
-        let under = entered-at (Stands s) k prototypeId z e in
-        subst (λ (r : Step). StepIs old to (blockText valueText offset (some q) d) n r new) g
+        let under = entered-at (DefinedAt s) k prototypeId z e in
+        subst (λ (r : WriteStep). StepIs old to (blockText valueText offset (some q) d) n r new) g
         (step-is old to (blockText valueText offset (some q) d) n w new
-        (h .writes p q (subst (λ (c : ℕ). Stands s c p) (sym i) (under .3 p m)) (subst (λ (c : ℕ). Stands s c q) (sym j) (subst (Stands s b) (some-is (sym (under .1) ∙ l)) (under .2))) d o c u v n d′));
+        (h .writes p q (subst (λ (c : ℕ). DefinedAt s c p) (sym i) (under .3 p m)) (subst (λ (c : ℕ). DefinedAt s c q) (sym j) (subst (DefinedAt s b) (some-is (sym (under .1) ∙ l)) (under .2))) d o c u v n d′));
     size = h .size;
   }
 
@@ -115,7 +115,7 @@ unfolding recordsText
 records-block last at b l {n} e {q} g = ap₂ (λ (o : Option Prototype) (k : ℕ). joined (blockText valueText at o b) (recordsText valueText last k l)) g (sym e)
 
 -- a block's answer, said of the records
-finish : (s : List ℕ) (at rows : ℕ) (old : List ℕ) (to rooms : ℕ) (last env : List Prototype) (rest : List Record) (n : ℕ) (b : DataBlock) (l : List Record) (r : Step) (new t : List ℕ) (o : Reply (List ℕ))
+finish : (s : List ℕ) (at rows : ℕ) (old : List ℕ) (to rooms : ℕ) (last env : List Prototype) (rest : List Record) (n : ℕ) (b : DataBlock) (l : List Record) (r : WriteStep) (new t : List ℕ) (o : Reply (List ℕ))
     → StepIs old to o n r new → recordsText valueText last at rest ≡ joined o (recordsText valueText last n l) → Standing s rooms rows last t n (define (block b) env) l → at < n → n ≤ length s
     → Stepped s rooms rows last at env rest old to r t new
 unfolding joined
@@ -127,7 +127,7 @@ finish s at rows old to rooms last env rest n b l (Go m r) new t (refuses f) a e
 finish s at rows old to rooms last env rest n b l (Refused g) new t (refuses f) a e w p q = refused (e ∙ ap refuses (sym a))
 finish s at rows old to rooms last env rest n b l End new t (refuses f) a e w p q = absurd a
 
-module _ (s : List ℕ) (at : ℕ) (t : List ℕ) (rows : ℕ) (old : List ℕ) (to : ℕ) (inside : at ≤ length s) {k : Kind} (e : KindAt s at k) where
+module _ (s : List ℕ) (at : ℕ) (t : List ℕ) (rows : ℕ) (old : List ℕ) (to : ℕ) (inside : at ≤ length s) {k : RecordKind} (e : KindAt s at k) where
   here : (rooms : ℕ) (last env : List Prototype) (rest : List Record) (w : Standing s rooms rows last t at env rest) → Accepted rooms env at s (w .n) (w .end) rest
   here rooms last env rest w = accepted rooms env at s (w .n) (w .end) rest (w .reads)
 
@@ -140,7 +140,7 @@ module _ (s : List ℕ) (at : ℕ) (t : List ℕ) (rows : ℕ) (old : List ℕ) 
       go rooms last env rest w q (a-record (prototype p) n l h d) = ends≢defines (sym z ∙ is-prototype s at t rows e env p n (h .reads))
       go rooms last env rest w q (a-record (block b) n l h d) = ends≢carries (sym z ∙ is-block s at t rows e env b n (h .reads))
 
-  pub record-prototype : {id : ℕ} → k ≡ Defines id → {r : Step} {t′ : List ℕ} → to ≤ 0xffff_ffff_ffff_ffff → length old < 0x8000_0000_0000_0000 → PrototypeStep s at t rows id to r t′
+  pub record-prototype : {id : ℕ} → k ≡ Defines id → {r : WriteStep} {t′ : List ℕ} → to ≤ 0xffff_ffff_ffff_ffff → length old < 0x8000_0000_0000_0000 → PrototypeStep s at t rows id to r t′
       → RecordWritten s at t rows old to r t′ old
   unfolding define defineAll
   record-prototype {id} z {r} {t′} a c x = record { steps = λ rooms last env rest w. go rooms last env rest w refl (here rooms last env rest w); size = refl; tableSize = x .size }
@@ -153,11 +153,11 @@ module _ (s : List ℕ) (at : ℕ) (t : List ℕ) (rows : ℕ) (old : List ℕ) 
           let y = stands env s at n p (h .reads) in
           let g = x .steps env last (w .entered) p (y .0) (sym (defines-is (sym z ∙ is-prototype s at t rows e env p n (h .reads)))) in
           let moves : r ≡ Go n to = g .0 ∙ ap (λ (i : ℕ). Go i to) (y .1) in
-          subst (λ (r : Step). Stepped s rooms rows last at env rest old to r t′ old) (sym moves)
+          subst (λ (r : WriteStep). Stepped s rooms rows last at env rest old to r t′ old) (sym moves)
           (went (prototype p) l [] (record { end = w .end; n = w .n; reads = d; entered = g .1; lasts = w .lasts ∙ ap (λ (m : List Record). defineAll m env) q }) (h .later) (h .inside inside)
           (ap (recordsText valueText last at) q ∙ records-prototype last at p l (h .place)) (loops.end (begin {x = []} a c) refl))
 
-  pub record-block : {id next : ℕ} → k ≡ Carries id next → {r : Step} {new : List ℕ} → BlockStep s at t rows id next old to r new → RecordWritten s at t rows old to r t new
+  pub record-block : {id next : ℕ} → k ≡ Carries id next → {r : WriteStep} {new : List ℕ} → BlockStep s at t rows id next old to r new → RecordWritten s at t rows old to r t new
   unfolding define defineAll
   record-block {id} {next} z {r} {new} x = record { steps = λ rooms last env rest w. go rooms last env rest w refl (here rooms last env rest w); size = x .size; tableSize = refl }
     where

@@ -13,15 +13,15 @@ use Rattle.bsii_string.specs.Answers.{faultIs}
 use Rattle.bsii_string.specs.declared.answers.Refusal.{Refusal}
 use Rattle.bsii_table.specs.Rows.{Rows}
 use Rattle.bsii_table.proofs.Relation.{entered-again}
-use Rattle.bsii_parse.specs.Walks.{Stands}
-use Rattle.bsii_again.specs.Seek.{Standing, Readable}
+use Rattle.bsii_parse.specs.Walks.{DefinedAt}
+use Rattle.bsii_walk.specs.Seek.{Standing, Readable}
 use Rattle.bsii_window.specs.Window.{Wrote}
 use Rattle.bsii_window.proofs.Laws.{then, being, same}
 use Rattle.bsii_window.proofs.Loops.{begin}
 use Rattle.bsii_window.proofs.Loops as loops
 use Rattle.bsii_text.specs.Records.{Stepped, went, ended, refused, RecordWritten, TextsAre, Serves, RecordsWritten, BsiiWritten}
-use Rattle.bsii_text.specs.declared.records.Step.{Step}
-use Rattle.bsii_text.specs.declared.records.Step.the-variants.{Go, End, Refused}
+use Rattle.bsii_text.specs.declared.records.WriteStep.{WriteStep}
+use Rattle.bsii_text.specs.declared.records.WriteStep.the-variants.{Go, End, Refused}
 use Rattle.bsii_text.specs.declared.records.Texts.{Texts}
 use Rattle.bsii_text.specs.declared.records.Texts.the-variants.{To, Refused as Not}
 use Rattle.bsii_text.proofs.FieldLaws.{joined-none, joined-behind}
@@ -62,7 +62,7 @@ module _ (s : List ℕ) (start : ℕ) (t₀ : List ℕ) (rows : ℕ) (old : List
     pub go-rows : Readable s start t₀ rows → Rows t rows
     go-rows w = g .walk (w .rooms) (w .last) (w .rest) (w .standing) .standing .entered .valid
 
-    module _ {r : Step} {t′ new : List ℕ} (h : RecordWritten s at t rows out here r t′ new) where
+    module _ {r : WriteStep} {t′ new : List ℕ} (h : RecordWritten s at t rows out here r t′ new) where
       -- the turn, for records that the walk started from
       stepped : (rooms : ℕ) (last : List Prototype) (rest : List Record) (w : Standing s rooms rows last t₀ start [] rest)
           → let x = g .walk rooms last rest w in Stepped s rooms rows last at (x .env) (x .rest) out here r t′ new
@@ -76,14 +76,14 @@ module _ (s : List ℕ) (start : ℕ) (t₀ : List ℕ) (rows : ℕ) (old : List
         tableSize = h .tableSize ∙ g .tableSize;
       }
         where
-          finish : (rooms : ℕ) (last : List Prototype) {env : List Prototype} {rest : List Record} {r : Step} {whole : Reply (List ℕ)} (done : List ℕ) → Wrote old to done here out
+          finish : (rooms : ℕ) (last : List Prototype) {env : List Prototype} {rest : List Record} {r : WriteStep} {whole : Reply (List ℕ)} (done : List ℕ) → Wrote old to done here out
               → Stepped s rooms rows last at env rest out here r t′ new → r ≡ End → whole ≡ joined (gives done) (recordsText valueText last at rest)
               → TextsAre old to whole (To here) new × Serves s rows last (To here) t′
           finish rooms last done w (went i l x a b c e f) z h = let y : _≡_ {A = ℕ} 0 1 = cc in let f : ⊥ = omega arith in absurd f
           finish rooms last done w (refused e) z h = let y : _≡_ {A = ℕ} 0 1 = cc in let f : ⊥ = omega arith in absurd f
           finish rooms last done w (ended e y f) z h = (
             subst (λ (x : Reply (List ℕ)). TextsAre old to x (To here) new) (sym (h ∙ ap (λ (l : List Record). joined (gives done) (recordsText valueText last at l)) e)) (being (sym (append-nil done)) (subst (λ (n : List ℕ). Wrote old to done here n) (sym y) w)),
-            entered-again (Stands s) f,
+            entered-again (DefinedAt s) f,
           )
 
       pub go-refused : {f : Refusal} → r ≡ Refused f → RecordsWritten s start t₀ rows old to (Not f) t′ new
@@ -94,7 +94,7 @@ module _ (s : List ℕ) (start : ℕ) (t₀ : List ℕ) (rows : ℕ) (old : List
         tableSize = h .tableSize ∙ g .tableSize;
       }
         where
-          finish : (rooms : ℕ) (last : List Prototype) {env : List Prototype} {rest : List Record} {r : Step} {whole : Reply (List ℕ)} (done : List ℕ)
+          finish : (rooms : ℕ) (last : List Prototype) {env : List Prototype} {rest : List Record} {r : WriteStep} {whole : Reply (List ℕ)} (done : List ℕ)
               → Stepped s rooms rows last at env rest out here r t′ new → r ≡ Refused f → whole ≡ joined (gives done) (recordsText valueText last at rest) → TextsAre old to whole (Not f) new
           finish rooms last done (went i l x a b c e f) z h = let y : _≡_ {A = ℕ} 0 1 = cc in let f : ⊥ = omega arith in absurd f
           finish rooms last done (ended e v f) z h = let y : _≡_ {A = ℕ} 0 1 = cc in let f : ⊥ = omega arith in absurd f
@@ -110,7 +110,7 @@ module _ (s : List ℕ) (start : ℕ) (t₀ : List ℕ) (rows : ℕ) (old : List
       goes : (n m : ℕ) → r ≡ Go n m → (rooms : ℕ) (last : List Prototype) (rest : List Record) (w : Standing s rooms rows last t₀ start [] rest) → On rooms last rest n m
       goes n m z rooms last rest w = let x = g .walk rooms last rest w in go (x .done) (x .wrote) (x .text) (stepped rooms last rest w) z
         where
-          go : {env : List Prototype} {rest₁ : List Record} {r : Step} (done : List ℕ) → Wrote old to done here out → recordsText valueText last start rest ≡ joined (gives done) (recordsText valueText last at rest₁)
+          go : {env : List Prototype} {rest₁ : List Record} {r : WriteStep} (done : List ℕ) → Wrote old to done here out → recordsText valueText last start rest ≡ joined (gives done) (recordsText valueText last at rest₁)
               → Stepped s rooms rows last at env rest₁ out here r t′ new → r ≡ Go n m → On rooms last rest n m
           go done w h (ended e v f) z = let y : _≡_ {A = ℕ} 0 1 = cc in let f : ⊥ = omega arith in absurd f
           go done w h (refused e) z = let y : _≡_ {A = ℕ} 0 1 = cc in let f : ⊥ = omega arith in absurd f

@@ -14,7 +14,7 @@ use Rattle.bsii_format.specs.Blocks.{DataValue, DataBlock, dataValuesParser}
 use Rattle.bsii_format.specs.Text.{valueText}
 use Rattle.bsii_format.specs.BlockText.{joined, blockOpening, closing, fieldsText, blockText}
 use Rattle.bsii_string.specs.Answers.{faultIs}
-use Rattle.bsii_parse.specs.Walks.{Stands}
+use Rattle.bsii_parse.specs.Walks.{DefinedAt}
 use Rattle.bsii_window.specs.Window.{Wrote}
 use Rattle.bsii_text.specs.declared.blocks.Written.{Written}
 use Rattle.bsii_text.specs.declared.blocks.Written.the-variants.{Next, Refused}
@@ -61,11 +61,11 @@ pub record BodyWritten (s : List ℕ) (id start fields name lastFields : ℕ) (o
   pub size : length new ≡ length old
 
 pub record SameFields (s : List ℕ) (inForce last fields lastFields : ℕ) (r : Bool) : Type 0 where
-  pub is : (p q : Prototype) (h : Stands s inForce p) (k : Stands s last q) → h .fields ≡ fields → k .fields ≡ lastFields → r ≡ eqb (length (q .fields)) (length (p .fields))
+  pub is : (p q : Prototype) (h : DefinedAt s inForce p) (k : DefinedAt s last q) → h .fields ≡ fields → k .fields ≡ lastFields → r ≡ eqb (length (q .fields)) (length (p .fields))
 
 -- a block b at an offset, read up to e under the definition p in force, and named by the last one q
 pub record BlockWritten (s : List ℕ) (offset id inForce last : ℕ) (old : List ℕ) (to : ℕ) (r : Written) (new : List ℕ) : Type 0 where
-  pub writes : (p q : Prototype) → Stands s inForce p → Stands s last q → (b : DataBlock) → id ≡ offset + length (b .head)
+  pub writes : (p q : Prototype) → DefinedAt s inForce p → DefinedAt s last q → (b : DataBlock) → id ≡ offset + length (b .head)
       → (i : ℕ) → i ≡ id + length (b .id .raw) → idParser id (drop id s) ≡ ok (b .id .value) i (drop i s)
       → (e : ℕ) → dataValuesParser (p .fields) i (drop i s) ≡ ok (b .values) e (drop e s) → WrittenIs old to (blockText valueText offset (some q) b) e r new
   pub size : length new ≡ length old

@@ -15,18 +15,18 @@ use Rattle.bsii_format.specs.BlockText.{joined, fileOpening, closing, blockText
 use Rattle.bsii_string.specs.Answers.{faultIs}
 use Rattle.bsii_string.specs.declared.answers.Refusal.{Refusal}
 use Rattle.bsii_table.specs.Relation.{Entered}
-use Rattle.bsii_parse.specs.Walks.{Stands}
-use Rattle.bsii_again.specs.Seek.{Standing}
+use Rattle.bsii_parse.specs.Walks.{DefinedAt}
+use Rattle.bsii_walk.specs.Seek.{Standing}
 use Rattle.bsii_window.specs.Window.{Wrote}
-use Rattle.bsii_text.specs.declared.records.Step.{Step}
-use Rattle.bsii_text.specs.declared.records.Step.the-variants.{Go, End, Refused}
+use Rattle.bsii_text.specs.declared.records.WriteStep.{WriteStep}
+use Rattle.bsii_text.specs.declared.records.WriteStep.the-variants.{Go, End, Refused}
 use Rattle.bsii_text.specs.declared.records.Texts.{Texts}
 use Rattle.bsii_text.specs.declared.records.Texts.the-variants.{To, Refused as Not}
 
 -- ---- one record
 
 -- a block's text, with the offset n behind it; or the refusal
-abbrev pub StepIs : List ℕ → ℕ → Reply (List ℕ) → ℕ → Step → List ℕ → Type 0
+abbrev pub StepIs : List ℕ → ℕ → Reply (List ℕ) → ℕ → WriteStep → List ℕ → Type 0
 StepIs old to (gives t) n (Go at r) new = (at ≡ n) × Wrote old to t r new
 StepIs old to (refuses f) n (Refused g) new = faultIs g ≡ f
 StepIs old to (gives t) n (Refused g) new = ⊥
@@ -35,25 +35,25 @@ StepIs old to (refuses f) n (Go at r) new = ⊥
 StepIs old to (refuses f) n End new = ⊥
 
 -- a block b at an offset, read up to e, where the table follows the walk
-pub record BlockStep (s : List ℕ) (offset : ℕ) (t : List ℕ) (rows prototypeId id : ℕ) (old : List ℕ) (to : ℕ) (r : Step) (new : List ℕ) : Type 0 where
-  pub steps : (env last : List Prototype) → Entered (Stands s) t rows env last → (p q : Prototype) → getPrototype prototypeId env ≡ some p → getPrototype prototypeId last ≡ some q
+pub record BlockStep (s : List ℕ) (offset : ℕ) (t : List ℕ) (rows prototypeId id : ℕ) (old : List ℕ) (to : ℕ) (r : WriteStep) (new : List ℕ) : Type 0 where
+  pub steps : (env last : List Prototype) → Entered (DefinedAt s) t rows env last → (p q : Prototype) → getPrototype prototypeId env ≡ some p → getPrototype prototypeId last ≡ some q
       → (b : DataBlock) → id ≡ offset + length (b .head) → (i : ℕ) → i ≡ id + length (b .id .raw) → idParser id (drop id s) ≡ ok (b .id .value) i (drop i s)
       → (e : ℕ) → dataValuesParser (p .fields) i (drop i s) ≡ ok (b .values) e (drop e s) → StepIs old to (blockText valueText offset (some q) b) e r new
   pub size : length new ≡ length old
 
-pub record PrototypeStep (s : List ℕ) (at : ℕ) (t : List ℕ) (rows id to : ℕ) (r : Step) (t′ : List ℕ) : Type 0 where
-  pub steps : (env last : List Prototype) → Entered (Stands s) t rows env last → (p : Prototype) (h : Stands s at p) → p .id ≡ id
-      → (r ≡ Go (h .next) to) × Entered (Stands s) t′ rows (p ∷ env) last
+pub record PrototypeStep (s : List ℕ) (at : ℕ) (t : List ℕ) (rows id to : ℕ) (r : WriteStep) (t′ : List ℕ) : Type 0 where
+  pub steps : (env last : List Prototype) → Entered (DefinedAt s) t rows env last → (p : Prototype) (h : DefinedAt s at p) → p .id ≡ id
+      → (r ≡ Go (h .next) to) × Entered (DefinedAt s) t′ rows (p ∷ env) last
   pub size : length t′ ≡ length t
 
 -- The records `rest` from `at` on: the first one i is passed and its text x written; or there is none left; or their text is refused.
-pub data Stepped (s : List ℕ) (rooms rows : ℕ) (last : List Prototype) (at : ℕ) (env : List Prototype) (rest : List Record) (old : List ℕ) (to : ℕ) : Step → List ℕ → List ℕ → Type 0 where
+pub data Stepped (s : List ℕ) (rooms rows : ℕ) (last : List Prototype) (at : ℕ) (env : List Prototype) (rest : List Record) (old : List ℕ) (to : ℕ) : WriteStep → List ℕ → List ℕ → Type 0 where
   went : (i : Record) (l : List Record) {n r : ℕ} {t new : List ℕ} (x : List ℕ) → Standing s rooms rows last t n (define i env) l → at < n → n ≤ length s
       → recordsText valueText last at rest ≡ joined (gives x) (recordsText valueText last n l) → Wrote old to x r new → Stepped s rooms rows last at env rest old to (Go n r) t new
-  ended : {t new : List ℕ} → rest ≡ [] → new ≡ old → Entered (Stands s) t rows env last → Stepped s rooms rows last at env rest old to End t new
+  ended : {t new : List ℕ} → rest ≡ [] → new ≡ old → Entered (DefinedAt s) t rows env last → Stepped s rooms rows last at env rest old to End t new
   refused : {f : Refusal} {t new : List ℕ} → recordsText valueText last at rest ≡ refuses (faultIs f) → Stepped s rooms rows last at env rest old to (Refused f) t new
 
-pub record RecordWritten (s : List ℕ) (at : ℕ) (t : List ℕ) (rows : ℕ) (old : List ℕ) (to : ℕ) (r : Step) (t′ new : List ℕ) : Type 0 where
+pub record RecordWritten (s : List ℕ) (at : ℕ) (t : List ℕ) (rows : ℕ) (old : List ℕ) (to : ℕ) (r : WriteStep) (t′ new : List ℕ) : Type 0 where
   pub steps : (rooms : ℕ) (last env : List Prototype) (rest : List Record) → Standing s rooms rows last t at env rest → Stepped s rooms rows last at env rest old to r t′ new
   pub size : length new ≡ length old
   pub tableSize : length t′ ≡ length t
@@ -68,7 +68,7 @@ TextsAre old to (refuses f) (To r) new = ⊥
 
 -- a text that is written leaves the table fit for one more walk
 abbrev pub Serves : List ℕ → ℕ → List Prototype → Texts → List ℕ → Type 0
-Serves s rows last (To r) t = Entered (Stands s) t rows [] last
+Serves s rows last (To r) t = Entered (DefinedAt s) t rows [] last
 Serves s rows last (Not f) t = Unit {0}
 
 pub record RecordsWritten (s : List ℕ) (start : ℕ) (t : List ℕ) (rows : ℕ) (old : List ℕ) (to : ℕ) (r : Texts) (t′ new : List ℕ) : Type 0 where

@@ -5,8 +5,8 @@ use bsii_definition::pairs::pair_at;
 use bsii_definition::pairs::same_count;
 use bsii_lines::fields::Lines;
 use bsii_lines::fields::write_field;
-use bsii_past::element_past;
-use bsii_prototype::past::fields_at;
+use bsii_prototype::skip::fields_at;
+use bsii_skip::skip_element;
 use bsii_string::answers::ENUM_VALUE;
 use bsii_string::answers::FIELD_COUNT;
 use bsii_string::answers::Parsed;
@@ -175,7 +175,7 @@ pub fn write_data_block(
     let Parsed::Next(last_fields) = last_list else {
         return Written::Refused(refused(FIELD_COUNT, offset));
     };
-    let end = element_past(s, id, Kind::Id);
+    let end = skip_element(s, id, Kind::Id);
     let Parsed::Next(start) = end else {
         return Written::Refused(refused(FIELD_COUNT, offset));
     };

@@ -1,24 +1,24 @@
 // The blocks of a file, and the frame around them.
 use crate::blocks::Written;
 use crate::blocks::write_data_block;
-use bsii_again::records::Kind;
-use bsii_again::records::Met;
-use bsii_again::records::kind_at;
-use bsii_again::records::prototype_again;
 use bsii_string::answers::Refusal;
 use bsii_string::numbers::size;
-use bsii_table::Found;
+use bsii_table::FoundRow;
 use bsii_table::find;
+use bsii_walk::records::Met;
+use bsii_walk::records::RecordKind;
+use bsii_walk::records::kind_at;
+use bsii_walk::records::prototype_again;
 use bsii_window::window::put_all;
 ghost use Prim.Native.Nat.{_≤_};
 ghost use lib.ListN.{length};
 ghost use Rattle.bsii_format.specs.File.{lengthLimit};
 ghost use Rattle.bsii_table.specs.Rows.{Rows};
-ghost use Rattle.bsii_again.specs.Seek.{Readable};
+ghost use Rattle.bsii_walk.specs.Seek.{Readable};
 ghost use Rattle.bsii_text.specs.Records.{BlockStep, PrototypeStep, RecordWritten, RecordsWritten, BsiiWritten};
 
 // One record: the next record's offset, and the position behind what was written; or the end record; or a refusal.
-pub enum Step {
+pub enum WriteStep {
     Go { at: usize, to: usize },
     End,
     Refused(Refusal),
@@ -40,35 +40,42 @@ fn write_block(
     rows: usize,
     prototype_id: u32,
     id: usize,
-) -> Step
+) -> WriteStep
     requires { ⌜ Rows (now table) rows ⌝ }
     ensures { λ r. ⌜ BlockStep (now (s .entry)) offset (now (table .entry)) rows «prototype_id» id (now (out .entry)) to r (now (out .exit)) ⌝ }
 {
     let found = find(table, rows, prototype_id);
     match found {
-        Found::Nothing => return Step::End,
-        Found::At { in_force, last } => {
+        FoundRow::Nothing => return WriteStep::End,
+        FoundRow::At { in_force, last } => {
             let under = size(in_force);
             let named = size(last);
             let written = write_data_block(out, to, s, offset, id, under, named);
             match written {
-                Written::Refused(f) => return Step::Refused(f),
-                Written::Next { at, to: end } => return Step::Go { at, to: end },
+                Written::Refused(f) => return WriteStep::Refused(f),
+                Written::Next { at, to: end } => return WriteStep::Go { at, to: end },
             }
         }
     }
 }
 
 // A prototype writes nothing, and is in force from here on.
-fn pass_prototype(to: usize, s: &[u8], at: usize, table: &mut [u32], rows: usize, id: u32) -> Step
+fn pass_prototype(
+    to: usize,
+    s: &[u8],
+    at: usize,
+    table: &mut [u32],
+    rows: usize,
+    id: u32,
+) -> WriteStep
     requires { ⌜ (length (now s) ≤ lengthLimit) × (at ≤ length (now s)) × Rows (now table) rows ⌝ }
     ensures { λ r. ⌜ PrototypeStep (now (s .entry)) at (now (table .entry)) rows id to r (now (table .exit)) ⌝ }
 {
     let met = prototype_again(s, at, table, rows, id);
     let Met::Prototype(next) = met else {
-        return Step::End;
+        return WriteStep::End;
     };
-    Step::Go { at: next, to }
+    WriteStep::Go { at: next, to }
 }
 
 fn write_record(
@@ -78,15 +85,24 @@ fn write_record(
     at: usize,
     table: &mut [u32],
     rows: usize,
-) -> Step
+) -> WriteStep
     requires { ⌜ (length (now s) ≤ lengthLimit) × (at ≤ length (now s)) × Rows (now table) rows ⌝ }
     ensures { λ r. ⌜ RecordWritten (now (s .entry)) at (now (table .entry)) rows (now (out .entry)) to r (now (table .exit)) (now (out .exit)) ⌝ }
 {
     let kind = kind_at(s, at);
     match kind {
-        Kind::Ends => return Step::End,
-        Kind::Defines(id) => return pass_prototype(to, s, at, table, rows, id),
-        Kind::Carries { id, next } => return write_block(out, to, s, at, table, rows, id, next),
+        RecordKind::Ends => return WriteStep::End,
+        RecordKind::Defines(id) => return pass_prototype(to, s, at, table, rows, id),
+        RecordKind::Carries { id, next } => return write_block(
+            out,
+            to,
+            s,
+            at,
+            table,
+            rows,
+            id,
+            next,
+        ),
     }
 }
 
@@ -107,9 +123,9 @@ fn write_records(
     loop {
         let step = write_record(out, here, s, at, table, rows);
         match step {
-            Step::End => return Texts::To(here),
-            Step::Refused(f) => return Texts::Refused(f),
-            Step::Go { at: next, to: end } => {
+            WriteStep::End => return Texts::To(here),
+            WriteStep::Refused(f) => return Texts::Refused(f),
+            WriteStep::Go { at: next, to: end } => {
                 at = next;
                 here = end;
             }

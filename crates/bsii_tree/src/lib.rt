@@ -6,7 +6,7 @@
 // `find` and `define` require `Linked`, that the rows are in the table and such a tree: callers have it from the relation to the
 // definitions so far that they carry anyway.
 use bsii_string::numbers::quad;
-use bsii_table::Found;
+use bsii_table::FoundRow;
 ghost use Prim.Native.Nat.{_+_, _*_, _≤_, _<_};
 ghost use mathlib.Core.Path.{_≡_};
 ghost use lib.ListN.{length};
@@ -60,22 +60,22 @@ fn seek(file: &[u8], table: &[u32], rows: usize, id: u32) -> Slot
 }
 
 // The offset of an id's last definition so far, which is in force.
-pub fn find(file: &[u8], table: &[u32], rows: usize, id: u32) -> Found
+pub fn find(file: &[u8], table: &[u32], rows: usize, id: u32) -> FoundRow
     requires { ⌜ Linked (now file) (now table) rows ⌝ }
     ensures { λ r. ⌜ foundRow r ≡ lookupTree (now (file .entry)) (now (table .entry)) rows id ⌝ }
 {
     if rows == 0 {
-        return Found::Nothing;
+        return FoundRow::Nothing;
     }
     match seek(file, table, rows, id) {
         Slot::Row(at) => {
             let offset = table[at];
-            Found::At {
+            FoundRow::At {
                 in_force: offset,
                 last: offset,
             }
         }
-        Slot::Link(_) => Found::Nothing,
+        Slot::Link(_) => FoundRow::Nothing,
     }
 }
 

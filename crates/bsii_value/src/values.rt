@@ -16,7 +16,7 @@ use bsii_string::numbers::left;
 use bsii_string::numbers::size;
 use bsii_string::strings::str_end;
 use bsii_word::words::id_parser;
-use bsii_word::words::word_past;
+use bsii_word::words::word_end;
 ghost use mathlib.Core.Option.{some};
 ghost use mathlib.Core.Path.{_≡_};
 ghost use Prim.Native.Nat.{_*_};
@@ -29,7 +29,7 @@ ghost use Rattle.bsii_string.specs.Answers.{endOf};
 ghost use Rattle.bsii_value.specs.Kinds.{numericIs, kindIs};
 
 // The end of a row of numbers, or the first number that runs out: computed, since an array of numbers need not be walked.
-pub fn numbers_past(s: &[u8], at: usize, count: usize, width: usize) -> Parsed
+pub fn numbers_end(s: &[u8], at: usize, count: usize, width: usize) -> Parsed
     ensures { λ r. ⌜ r ≡ endOf (repeat count (number width) at (drop at (now (s .entry)))) ⌝ }
 {
     if width == 0 {
@@ -50,12 +50,12 @@ fn product(n: u32, m: u32) -> usize
 }
 
 // One value of a few numbers: only where it runs out a division says which number does.
-pub fn numeric_past(s: &[u8], at: usize, n: Numeric) -> Parsed
+pub fn numeric_end(s: &[u8], at: usize, n: Numeric) -> Parsed
     ensures { λ r. ⌜ r ≡ endOf (elementParser (numbers (numericIs n)) at (drop at (now (s .entry)))) ⌝ }
 {
     let total = byte_count(n);
     if left(s, at) < total {
-        return numbers_past(s, at, size(arity(n)), size(width(n)));
+        return numbers_end(s, at, size(arity(n)), size(width(n)));
     }
     Parsed::Next(at + total)
 }
@@ -64,14 +64,14 @@ pub fn element_parser(s: &[u8], at: usize, kind: Kind) -> Parsed
     ensures { λ r. ⌜ r ≡ endOf (elementParser (kindIs kind) at (drop at (now (s .entry)))) ⌝ }
 {
     match kind {
-        Kind::Numbers(n) => numeric_past(s, at, n),
+        Kind::Numbers(n) => numeric_end(s, at, n),
         Kind::String => str_end(s, at),
-        Kind::EncodedString => word_past(s, at),
+        Kind::EncodedString => word_end(s, at),
         Kind::Id => id_parser(s, at),
     }
 }
 
-fn elements_past(s: &[u8], start: usize, count: u32, kind: Kind) -> Parsed
+fn elements_end(s: &[u8], start: usize, count: u32, kind: Kind) -> Parsed
     ensures { λ r. ⌜ r ≡ endOf (repeat count (elementParser (kindIs kind)) start (drop start (now (s .entry)))) ⌝ }
 {
     let mut left = count;
@@ -96,13 +96,8 @@ fn array_parser(s: &[u8], at: usize, kind: Kind) -> Parsed
     match count {
         Num::Short(f) => Parsed::Fault(f),
         Num::Got(n, next) => match kind {
-            Kind::Numbers(form) => numbers_past(
-                s,
-                next,
-                product(n, arity(form)),
-                size(width(form)),
-            ),
-            _ => elements_past(s, next, n, kind),
+            Kind::Numbers(form) => numbers_end(s, next, product(n, arity(form)), size(width(form))),
+            _ => elements_end(s, next, n, kind),
         },
     }
 }
@@ -114,9 +109,9 @@ pub fn value_parser(s: &[u8], at: usize, type_id: u32) -> Parsed
     match shape {
         // The arms of element_parser once more: told apart here, a kind need not be read as a whole from where its parts were stored a moment before.
         Shape::One(kind) => match kind {
-            Kind::Numbers(n) => numeric_past(s, at, n),
+            Kind::Numbers(n) => numeric_end(s, at, n),
             Kind::String => str_end(s, at),
-            Kind::EncodedString => word_past(s, at),
+            Kind::EncodedString => word_end(s, at),
             Kind::Id => id_parser(s, at),
         },
         Shape::Many(kind) => array_parser(s, at, kind),

@@ -141,13 +141,13 @@ index-some l (some i) e = (i, refl)
 -- ---- an old block, where it stands now
 
 module _ (text : ValuePrototype → Value → Option (List ℕ)) where
-  record Stands (last : List (Mark MarkedPrototype)) (M : MarkedRecords) (k : ℕ) (b : DataBlock) : Type 0 where
+  record Renumbered (last : List (Mark MarkedPrototype)) (M : MarkedRecords) (k : ℕ) (b : DataBlock) : Type 0 where
     pub at : MarkedBlock
     pub there : getElem? (blocks (newRecords M)) (renumber M k) ≡ some (newBlock at)
     pub same : oldBlock at ≡ b
     pub fine : OldBlock last at
 
-  stands : {last env : List (Mark MarkedPrototype)} {M : MarkedRecords} (k : ℕ) (b : DataBlock) → Inv text last env M → getElem? (blocks (oldRecords M)) k ≡ some b → Stands last M k b
+  stands : {last env : List (Mark MarkedPrototype)} {M : MarkedRecords} (k : ℕ) (b : DataBlock) → Inv text last env M → getElem? (blocks (oldRecords M)) k ≡ some b → Renumbered last M k b
   unfolding blocks oldRecords newRecords renumber unmark
   stands k b done e = none≢some e
   stands k b (prototype-old g h) e = let x = stands k b h e in record { at = x .at; there = x .there; same = x .same; fine = x .fine }

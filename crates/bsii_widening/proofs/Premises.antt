@@ -79,17 +79,17 @@ any-numbers enums bool l h = tt
 any-numbers enums enum l h = let x = h refl in in-list enums (getD l 0 0) (x .place) (x .pair) (x .there) (x .number)
 
 -- an element that is an enum's number has it in the list
-abbrev pub Stands : List EnumValue → Element → Type 0
-Stands enums e = (l : List ℕ) → e ≡ nums enum l → InList enums (getD l 0 0)
+abbrev pub ElementInList : List EnumValue → Element → Type 0
+ElementInList enums e = (l : List ℕ) → e ≡ nums enum l → InList enums (getD l 0 0)
 
-pub any-element : (enums : List EnumValue) (e : Element) → Stands enums e → T (elementListed enums e)
+pub any-element : (enums : List EnumValue) (e : Element) → ElementInList enums e → T (elementListed enums e)
 unfolding elementListed
 any-element enums (nums k l) h = any-numbers enums k l (λ e. h l (ap (λ z. nums z l) e))
 any-element enums (str s) h = tt
 any-element enums (word n) h = tt
 any-element enums (ident i) h = tt
 
-any-elements : (enums : List EnumValue) (l : List (Consumed Element)) → ((i : ℕ) (e : Consumed Element) → At l i e → Stands enums (e .value)) → ElementsListed enums l
+any-elements : (enums : List EnumValue) (l : List (Consumed Element)) → ((i : ℕ) (e : Consumed Element) → At l i e → ElementInList enums (e .value)) → ElementsListed enums l
 any-elements enums [] h = tt
 any-elements enums (e ∷ l) h = (any-element enums (e .value) (h 0 e refl), any-elements enums l (λ i. h (suc i)))
 
@@ -98,16 +98,16 @@ elementsOf (single e) = e ∷ []
 elementsOf (array l) = l
 
 -- each element of the value does so
-abbrev pub AllStand : ValuePrototype → Value → Type 0
-AllStand d v = (i : ℕ) (e : Consumed Element) → At (elementsOf v) i e → Stands (d .enumValues) (e .value)
+abbrev pub AllInList : ValuePrototype → Value → Type 0
+AllInList d v = (i : ℕ) (e : Consumed Element) → At (elementsOf v) i e → ElementInList (d .enumValues) (e .value)
 
-any-value : (d : ValuePrototype) (v : Value) → AllStand d v → EnumListed d v
+any-value : (d : ValuePrototype) (v : Value) → AllInList d v → EnumListed d v
 unfolding elementsOf
 any-value d (single e) h = any-element (d .enumValues) (e .value) (h 0 e refl)
 any-value d (array l) h = any-elements (d .enumValues) l h
 
 any-row : (fs : List (Consumed ValuePrototype)) (l : List DataValue)
-    → ((i : ℕ) (f : Consumed ValuePrototype) (v : DataValue) → At fs i f → At l i v → AllStand (f .value) (v .value)) → EnumsListed fs l
+    → ((i : ℕ) (f : Consumed ValuePrototype) (v : DataValue) → At fs i f → At l i v → AllInList (f .value) (v .value)) → EnumsListed fs l
 any-row [] l h = tt
 any-row (f ∷ fs) [] h = tt
 any-row (f ∷ fs) (v ∷ l) h = (any-value (f .value) (v .value) (h 0 f v refl refl), any-row fs l (λ i. h (suc i)))
@@ -125,7 +125,7 @@ any-name name (f ∷ fs) h =
     none-of (same name (f .value .name)) (hasName name fs) (λ t. h 0 f refl (same→eq name (f .value .name) t)) (any-name name fs (λ i. h (suc i)))
 
 abbrev pub GoodFor : Consumed ValuePrototype → DataValue → Type 0
-GoodFor d v = WellFormed (dataValueParser (d .value .typeId)) v (v .raw) × AllStand (d .value) (v .value)
+GoodFor d v = WellFormed (dataValueParser (d .value .typeId)) v (v .raw) × AllInList (d .value) (v .value)
 
 value-for : (n : ℕ) (d : Consumed ValuePrototype) (v : DataValue) (b : MarkedBlock) → (b .prototypeId ≡ n → GoodFor d v) → ValueAllowed n d v (markedBlock b)
 value-for n d v b h t = let g = h (sym (eqb→eq n (b .prototypeId) t)) in (g .0, any-value (d .value) (v .value) (g .1))
@@ -173,7 +173,7 @@ any-prototype k p M w h = record { wellFormed = w; undefined = unknown (p .id) (
 -- ---- (iii) "a whole block after its prototype"
 
 pub any-block : (k : ℕ) (b : DataBlock) (M : MarkedRecords) → WellFormed (recordParser (prototypesOf (take k (newRecords M)))) (more (block b)) (recordBytes (block b))
-    → ((q : Prototype) (i : ℕ) (f : Consumed ValuePrototype) (v : DataValue) → getPrototype (b .prototypeId) (prototypesOf (newRecords M)) ≡ some q → At (q .fields) i f → At (b .values) i v → AllStand (f .value) (v .value))
+    → ((q : Prototype) (i : ℕ) (f : Consumed ValuePrototype) (v : DataValue) → getPrototype (b .prototypeId) (prototypesOf (newRecords M)) ≡ some q → At (q .fields) i f → At (b .values) i v → AllInList (f .value) (v .value))
     → Allowed (aBlock k b) M
 any-block k b M w h = record { wellFormed = w; enums = λ q e. any-row (q .fields) (b .values) (λ i f v. h q i f v e) }
 

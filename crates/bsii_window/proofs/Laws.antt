@@ -11,9 +11,9 @@ use lib.ListN.{set, length, getD, take, drop, length-append, length-drop, take-a
 use lib.Seq.{sets, length-take-le, take-suc, take-all, set-out, length-sets, drop-append-le, drop-append-add, drop-nil, sets-eq, take-at}
 use borrow.Author.Tests.{le-leb, lt-leb, ltb-true, ltb-false}
 use Rattle.bsii_window.specs.Window.{capped, written, Wrote}
-use Rattle.bsii_window.specs.Places.{PlaceOf}
-use Rattle.bsii_window.specs.declared.window.Place.{Place}
-use Rattle.bsii_window.specs.declared.window.Place.the-variants as place
+use Rattle.bsii_window.specs.Overlaps.{OverlapOf}
+use Rattle.bsii_window.specs.declared.window.Overlap.{Overlap}
+use Rattle.bsii_window.specs.declared.window.Overlap.the-variants as place
 
 pub bool-cases : (b : Bool) → (b ≡ true) ⊎ (b ≡ false)
 bool-cases true = inl refl
@@ -174,22 +174,22 @@ pub stays : {a b : List ℕ} {at r : ℕ} {x : List ℕ} → Wrote a at x r b �
 stays {a} {b} {at} {r} {x} f = rw (f .next) (capped-twice at (length x) 0 ∙ ap (capped at) (add-zero (length x)))
 
 -- a text past the window's end, by the place of n bytes
-pub past-by : {a : List ℕ} {at r : ℕ} (n : ℕ) {m : ℕ} {x : List ℕ} {p : Place} → p ≡ place.Past → PlaceOf (length a) at n p → m ≡ length x → r ≡ capped at m
+pub past-by : {a : List ℕ} {at r : ℕ} (n : ℕ) {m : ℕ} {x : List ℕ} {p : Overlap} → p ≡ place.Past → OverlapOf (length a) at n p → m ≡ length x → r ≡ capped at m
     → length a < 0x8000_0000_0000_0000 → Wrote a at x r a
 past-by {a} {at} n {x = x} q h k e l =
-    let g : length a + 0x8000_0000_0000_0000 ≤ at = subst (PlaceOf (length a) at n) q h in
+    let g : length a + 0x8000_0000_0000_0000 ≤ at = subst (OverlapOf (length a) at n) q h in
     record { next = e ∙ ap (capped at) k; window = sym (written-past a at x (omega arith) (omega arith)); room = l }
 
 -- its own place
-pub past : {a : List ℕ} {at r n : ℕ} {x : List ℕ} {p : Place} → p ≡ place.Past → PlaceOf (length a) at n p → n ≡ length x → r ≡ capped at n
+pub past : {a : List ℕ} {at r n : ℕ} {x : List ℕ} {p : Overlap} → p ≡ place.Past → OverlapOf (length a) at n p → n ≡ length x → r ≡ capped at n
     → length a < 0x8000_0000_0000_0000 → Wrote a at x r a
 past {n = n} q h k e l = past-by n q h k e l
 
--- where a text of so many bytes starts, if all of it lies in the window
-pub starts : {room at start : ℕ} (n : ℕ) {p : Place} → p ≡ place.Inside start → PlaceOf room at n p → (at ≡ start + 0x8000_0000_0000_0000) × (start + n ≤ room)
-starts {room} {at} n q h = subst (PlaceOf room at n) q h
+-- where a text of n bytes starts, if all of it lies in the window
+pub starts : {room at start : ℕ} (n : ℕ) {p : Overlap} → p ≡ place.Inside start → OverlapOf room at n p → (at ≡ start + 0x8000_0000_0000_0000) × (start + n ≤ room)
+starts {room} {at} n q h = subst (OverlapOf room at n) q h
 
-pub inside-by : {a b : List ℕ} {at r start : ℕ} (n : ℕ) {m : ℕ} {x : List ℕ} {p : Place} → p ≡ place.Inside start → PlaceOf (length a) at n p → m ≡ length x
+pub inside-by : {a b : List ℕ} {at r start : ℕ} (n : ℕ) {m : ℕ} {x : List ℕ} {p : Overlap} → p ≡ place.Inside start → OverlapOf (length a) at n p → m ≡ length x
     → r ≡ capped at m → b ≡ sets a start x → length a < 0x8000_0000_0000_0000 → Wrote a at x r b
 inside-by {a} {at = at} {start = start} n {x = x} q h k e w l =
     let g = starts n q h in
@@ -197,7 +197,7 @@ inside-by {a} {at = at} {start = start} n {x = x} q h k e w l =
     record { next = e ∙ ap (capped at) k; window = w ∙ ap (λ (i : ℕ). sets a i x) z ∙ sym (written-in a at x (omega (arith, g .0))); room = l }
 
 -- the position behind it, without a test: no slice is so long that it could stay where it is
-pub inside-sum : {a b : List ℕ} {at n start : ℕ} {x : List ℕ} {p : Place} → p ≡ place.Inside start → PlaceOf (length a) at n p → n ≡ length x
+pub inside-sum : {a b : List ℕ} {at n start : ℕ} {x : List ℕ} {p : Overlap} → p ≡ place.Inside start → OverlapOf (length a) at n p → n ≡ length x
     → b ≡ sets a start x → length a < 0x8000_0000_0000_0000 → Wrote a at x (at + n) b
 inside-sum {at = at} {n} q h k w l = let g = starts n q h in inside-by n q h k (sym (capped-fits at n (omega (arith, g)))) w l
 

@@ -1,3 +1,3 @@
 pub mod Window
-pub mod Places
+pub mod Overlaps
 pub mod Counts

@@ -7,7 +7,7 @@ use lib.ListN.{length, drop}
 use lib.Seq.{sets}
 use lib.Dec.{leb}
 
--- the position so many bytes behind a position, and 2^64 - 1 for all that lie there or further on
+-- the position n bytes behind a position, and 2^64 - 1 for all that lie there or further on
 unfoldable pub capped : ℕ → ℕ → ℕ
 capped at n = cond (leb 0xffff_ffff_ffff_ffff (at + n)) 0xffff_ffff_ffff_ffff (at + n)
 

@@ -1,7 +1,7 @@
 // Decimal and hexadecimal digits.
-use crate::window::Place;
+use crate::window::Overlap;
 use crate::window::further;
-use crate::window::place_of;
+use crate::window::overlap_of;
 use crate::window::put_all;
 ghost use mathlib.Core.Path.{_≡_};
 ghost use Prim.Native.Nat.{_+_, _-_, _≤_, _<_};
@@ -102,18 +102,18 @@ pub fn write_decimal(out: &mut [u8], at: usize, n: u64) -> usize
     ensures { λ r. ⌜ Wrote (now (out .entry)) at (decimal n) r (now (out .exit)) ⌝ }
 {
     let count = decimal_count(n);
-    let place = place_of(out.len(), at, count);
+    let place = overlap_of(out.len(), at, count);
     match place {
-        Place::Past => return further(at, count),
-        Place::Across => return put_decimal(out, at, n, count),
-        Place::Inside(start) => {
+        Overlap::Past => return further(at, count),
+        Overlap::Across => return put_decimal(out, at, n, count),
+        Overlap::Inside(start) => {
             fill_decimal(out, start + count, n);
             return at + count;
         }
     }
 }
 
-// The last so many digits up to an index, from the last ones on.
+// The last `count` digits up to an index, from the last ones on.
 pub fn fill_hex(out: &mut [u8], end: usize, n: u64, count: u32)
     requires { ⌜ (count ≤ end) × (end ≤ length (now out)) ⌝ }
     ensures { λ _. ⌜ now (out .exit) ≡ sets (now (out .entry)) (end - count) (hexPadded count n) ⌝ }
@@ -143,17 +143,17 @@ fn put_hex(out: &mut [u8], at: usize, n: u64, count: u32) -> usize
     put_all(out, at, &text[..width])
 }
 
-// The last so many digits.
+// The last `count` digits.
 pub fn write_hex_padded(out: &mut [u8], at: usize, n: u64, count: u32) -> usize
     requires { ⌜ count ≤ 16 ⌝ }
     ensures { λ r. ⌜ Wrote (now (out .entry)) at (hexPadded count n) r (now (out .exit)) ⌝ }
 {
     let width = count as usize;
-    let place = place_of(out.len(), at, width);
+    let place = overlap_of(out.len(), at, width);
     match place {
-        Place::Past => return further(at, width),
-        Place::Across => return put_hex(out, at, n, count),
-        Place::Inside(start) => {
+        Overlap::Past => return further(at, width),
+        Overlap::Across => return put_hex(out, at, n, count),
+        Overlap::Inside(start) => {
             fill_hex(out, start + width, n, count);
             return at + width;
         }

@@ -5,30 +5,30 @@ ghost use Prim.Native.Nat.{_≤_, min};
 ghost use lib.ListN.{length};
 ghost use lib.Seq.{sets};
 ghost use Rattle.bsii_window.specs.Window.{capped, Wrote};
-ghost use Rattle.bsii_window.specs.Places.{PlaceOf};
+ghost use Rattle.bsii_window.specs.Overlaps.{OverlapOf};
 
 // Where a text lies: all of it in the window, from an index on; past the window's end; or, for all that is known, across an edge.
-pub enum Place {
+pub enum Overlap {
     Inside(usize),
     Past,
     Across,
 }
 
-// The place of a text of so many bytes, for a window of so many.
-pub fn place_of(room: usize, at: usize, count: usize) -> Place
-    ensures { λ r. ⌜ PlaceOf room at count r ⌝ }
+// Where a text of `count` bytes lies, for a window of `room`.
+pub fn overlap_of(room: usize, at: usize, count: usize) -> Overlap
+    ensures { λ r. ⌜ OverlapOf room at count r ⌝ }
 {
     if at < 0x8000_0000_0000_0000 {
-        return Place::Across;
+        return Overlap::Across;
     }
     let start = at - 0x8000_0000_0000_0000;
     if room <= start {
-        return Place::Past;
+        return Overlap::Past;
     }
     if room - start < count {
-        return Place::Across;
+        return Overlap::Across;
     }
-    Place::Inside(start)
+    Overlap::Inside(start)
 }
 
 pub fn further(at: usize, count: usize) -> usize
@@ -100,11 +100,11 @@ pub fn put_all(out: &mut [u8], at: usize, text: &[u8]) -> usize
     ensures { λ r. ⌜ Wrote (now (out .entry)) at (now (text .entry)) r (now (out .exit)) ⌝ }
 {
     let count = text.len();
-    let place = place_of(out.len(), at, count);
+    let place = overlap_of(out.len(), at, count);
     match place {
-        Place::Past => return further(at, count),
-        Place::Across => return put_across(out, at, text),
-        Place::Inside(start) => {
+        Overlap::Past => return further(at, count),
+        Overlap::Across => return put_across(out, at, text),
+        Overlap::Inside(start) => {
             store(out, start, text);
             return at + count;
         }

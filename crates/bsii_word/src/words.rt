@@ -62,7 +62,7 @@ pub fn encoded_str_parser(s: &[u8], at: usize) -> Word
     }
 }
 
-pub fn word_past(s: &[u8], at: usize) -> Parsed
+pub fn word_end(s: &[u8], at: usize) -> Parsed
     ensures { λ r. ⌜ r ≡ endOf (encodedStrParser at (drop at (now (s .entry)))) ⌝ }
 {
     let word = encoded_str_parser(s, at);
@@ -72,13 +72,13 @@ pub fn word_past(s: &[u8], at: usize) -> Parsed
     }
 }
 
-fn words_past(s: &[u8], start: usize, count: u32) -> Parsed
+fn words_end(s: &[u8], start: usize, count: u32) -> Parsed
     ensures { λ r. ⌜ r ≡ endOf (repeat count encodedStrParser start (drop start (now (s .entry)))) ⌝ }
 {
     let mut left = count;
     let mut at = start;
     while 0 < left {
-        let word = word_past(s, at);
+        let word = word_end(s, at);
         match word {
             Parsed::Next(next) => {
                 at = next;
@@ -90,7 +90,7 @@ fn words_past(s: &[u8], start: usize, count: u32) -> Parsed
     Parsed::Next(at)
 }
 
-fn u64_past(s: &[u8], at: usize) -> Parsed
+fn u64_end(s: &[u8], at: usize) -> Parsed
     ensures { λ r. ⌜ r ≡ endOf (number 8 at (drop at (now (s .entry)))) ⌝ }
 {
     if left(s, at) < 8 {
@@ -107,9 +107,9 @@ pub fn id_parser(s: &[u8], at: usize) -> Parsed
         Num::Short(f) => Parsed::Fault(f),
         Num::Got(n, next) => {
             if n == 0xff {
-                return u64_past(s, next);
+                return u64_end(s, next);
             }
-            words_past(s, next, n)
+            words_end(s, next, n)
         }
     }
 }

@@ -15,7 +15,7 @@ use Rattle.bsii_write_word.specs.Words.{spelling}
 unfoldable pub wordAt : List ℕ → ℕ → List ℕ
 wordAt s at = spelling (low63 (numberAt 8 s at))
 
--- so many words, each with a dot in front
+-- n words, each with a dot in front
 unfoldable pub dottedAt : ℕ → List ℕ → ℕ → List ℕ
 dottedAt zero s at = []
 dottedAt (suc n) s at = ascii "." ++ wordAt s at ++ dottedAt n s (at + 8)

@@ -4,9 +4,9 @@ use bsii_string::at::u8_at;
 use bsii_string::at::u64_at;
 use bsii_window::digits::fill_hex;
 use bsii_window::digits::hex_count;
-use bsii_window::window::Place;
+use bsii_window::window::Overlap;
 use bsii_window::window::further;
-use bsii_window::window::place_of;
+use bsii_window::window::overlap_of;
 use bsii_window::window::put;
 use bsii_window::window::put_all;
 use bsii_window::window::store;
@@ -22,7 +22,7 @@ ghost use Rattle.bsii_format.specs.Strings.{nameless};
 ghost use Rattle.bsii_window.specs.Window.{Wrote};
 ghost use Rattle.bsii_write_word.specs.Ids.{wordAt, dottedAt, IdWritten};
 
-// A dot and the last so many digits, up to an index.
+// A dot and the last `count` digits, up to an index.
 fn fill_group(out: &mut [u8], end: usize, n: u64, count: u32)
     requires { ⌜ (count + 1 ≤ end) × (end ≤ length (now out)) ⌝ }
     ensures { λ _. ⌜ now (out .exit) ≡ sets (now (out .entry)) (end - (count + 1)) (ascii "." ++ hexPadded count n) ⌝ }
@@ -55,7 +55,7 @@ fn nameless_count(n: u64) -> usize
     9 + digits + (digits + 3) / 4
 }
 
-// All of its text, of so many bytes, from an index on.
+// All of its text, of `count` bytes, from an index on.
 fn fill_nameless(out: &mut [u8], start: usize, n: u64, count: usize)
     requires { ⌜ (count ≡ length (idText (nameless n))) × (start + count ≤ length (now out)) ⌝ }
     ensures { λ _. ⌜ now (out .exit) ≡ sets (now (out .entry)) start (idText (nameless n)) ⌝ }
@@ -78,11 +78,11 @@ fn write_nameless(out: &mut [u8], at: usize, n: u64) -> usize
     ensures { λ r. ⌜ Wrote (now (out .entry)) at (idText (nameless n)) r (now (out .exit)) ⌝ }
 {
     let count = nameless_count(n);
-    let place = place_of(out.len(), at, count);
+    let place = overlap_of(out.len(), at, count);
     match place {
-        Place::Past => return further(at, count),
-        Place::Across => return put_nameless(out, at, n, count),
-        Place::Inside(start) => {
+        Overlap::Past => return further(at, count),
+        Overlap::Across => return put_nameless(out, at, n, count),
+        Overlap::Inside(start) => {
             fill_nameless(out, start, n, count);
             return at + count;
         }
@@ -103,7 +103,7 @@ fn write_dotted_word(out: &mut [u8], at: usize, raw: &[u8], place: usize) -> usi
     write_word_at(out, next, raw, place)
 }
 
-// So many words behind the first one, each with a dot in front.
+// `count` words behind the first one, each with a dot in front.
 fn write_dotted(out: &mut [u8], at: usize, raw: &[u8], count: u32) -> usize
     ensures { λ r. ⌜ Wrote (now (out .entry)) at (dottedAt count (now (raw .entry)) 9) r (now (out .exit)) ⌝ }
 {

@@ -1,8 +1,8 @@
 // Encoded words.
 use bsii_window::digits::reaches;
-use bsii_window::window::Place;
+use bsii_window::window::Overlap;
 use bsii_window::window::further;
-use bsii_window::window::place_of;
+use bsii_window::window::overlap_of;
 use bsii_window::window::put_all;
 ghost use mathlib.Core.Path.{_≡_};
 ghost use Prim.Native.Nat.{_+_, _≤_, _<_};
@@ -77,11 +77,11 @@ fn put_word(out: &mut [u8], at: usize, word: u64) -> usize
 pub fn write_word(out: &mut [u8], at: usize, word: u64) -> usize
     ensures { λ r. ⌜ Wrote (now (out .entry)) at (spelling word) r (now (out .exit)) ⌝ }
 {
-    let place = place_of(out.len(), at, 13);
+    let place = overlap_of(out.len(), at, 13);
     match place {
-        Place::Past => return further(at, word_count(word)),
-        Place::Across => return put_word(out, at, word),
-        Place::Inside(start) => {
+        Overlap::Past => return further(at, word_count(word)),
+        Overlap::Across => return put_word(out, at, word),
+        Overlap::Inside(start) => {
             let end = fill_word(out, start, word);
             return further(at, end - start);
         }

@@ -42,7 +42,7 @@ fn is_equal(s: &[u8], table: &mut [u32], output: &mut [u8], index: u32) -> bool 
     false
 }
 
-// The list's next n bytes, at the buffer's start; whether there are so many, and room for them.
+// The list's next n bytes, at the buffer's start; whether there are n, and room for them.
 fn fill(buffer: &mut [u8], n: usize) -> bool
     ensures { λ r. ⌜ (r ≡ true → n ≤ length (now (buffer .exit))) ⌝ }
 {
@@ -107,7 +107,7 @@ fn print_counts(files: u32, equal: u32) {
     print(b" equal\n");
 }
 
-// So many records.
+// `count` records.
 fn replay_list(buffer: &mut [u8], table: &mut [u32], output: &mut [u8], count: u32) {
     let mut index: u32 = 0;
     let mut equal: u32 = 0;

@@ -26,9 +26,9 @@ abbrev μ-definitions : tie.MeasureT-definitions
 definitions-holds : tie.Need-definitions-holds Inv-loop μ-loop Inv-definitions μ-definitions
 definitions-holds c = (omega arith, seek-start)
 
-value-prototype-past-requires :
-    tie.Need-value-prototype-past-requires Inv-loop μ-loop Inv-definitions μ-definitions
-value-prototype-past-requires c κs = search needs
+skip-value-prototype-requires :
+    tie.Need-skip-value-prototype-requires Inv-loop μ-loop Inv-definitions μ-definitions
+skip-value-prototype-requires c κs = search needs
 
 enum-known-entry : tie.Need-enum-known-entry Inv-loop μ-loop Inv-definitions μ-definitions
 enum-known-entry c = search needs
@@ -37,8 +37,8 @@ returns : tie.Need-returns Inv-loop μ-loop Inv-definitions μ-definitions
 returns c =
     let d = c .before .before in
     let x = d .definitions in
-    let e = c .before .value-prototype-past .ensures in
-    unfielded (c .before .value-prototype-past .result) (c .match .keys2)
+    let e = c .before .skip-value-prototype .ensures in
+    unfielded (c .before .skip-value-prototype .result) (c .match .keys2)
     (λ n z. seek-last (x .inv .1) (sym z ∙ e))
     (λ f z. seek-bad (x .inv .1) (sym z ∙ e) _)
 
@@ -47,7 +47,7 @@ add-index c =
     let d = c .before .before .before .before in
     let a = d .before .before .before .args in
     let s = now (a .s) in
-    let e = sym (c .before .entry .given .1) ∙ c .before .before .before .value-prototype-past .ensures in
+    let e = sym (c .before .entry .given .1) ∙ c .before .before .before .skip-value-prototype .ensures in
     omega (arith, field-inside s (d .definitions .field) e)
 
 sub-if1 : tie.Need-sub-if1 Inv-loop μ-loop Inv-definitions μ-definitions
@@ -55,7 +55,7 @@ sub-if1 c =
     let d = c .before .before .before .before in
     let a = d .before .before .before .args in
     let s = now (a .s) in
-    let e = sym (c .before .entry .given .1) ∙ c .before .before .before .value-prototype-past .ensures in
+    let e = sym (c .before .entry .given .1) ∙ c .before .before .before .skip-value-prototype .ensures in
     omega (arith, field-inside s (d .definitions .field) e)
 
 definitions-less : tie.Need-definitions-less Inv-loop μ-loop Inv-definitions μ-definitions
@@ -64,7 +64,7 @@ definitions-less c =
     let d = k .before .before .before .before in
     let a = d .before .before .before .args in
     let s = now (a .s) in
-    let e = sym (k .before .entry .given .1) ∙ k .before .before .before .value-prototype-past .ensures in
+    let e = sym (k .before .entry .given .1) ∙ k .before .before .before .skip-value-prototype .ensures in
     omega (arith, field-inside s (d .definitions .field) e)
 
 definitions-again : tie.Need-definitions-again Inv-loop μ-loop Inv-definitions μ-definitions
@@ -74,7 +74,7 @@ definitions-again c =
     let a = d .before .before .before .args in
     let s = now (a .s) in
     let g = k .before .entry .given .0 in
-    let e = sym (k .before .entry .given .1) ∙ k .before .before .before .value-prototype-past .ensures in
+    let e = sym (k .before .entry .given .1) ∙ k .before .before .before .skip-value-prototype .ensures in
     let x = d .definitions in
     let other = size-other s (now (a .name)) (g .1 .0) (g .1 .1 .0) (let z = field-inside s (x .field) e in (z .2, z .3)) (c .if1 .taken) in
     (omega (arith, field-inside s (x .field) e), seek-on (x .inv .1) e other)
@@ -88,7 +88,7 @@ add-if2 c =
     let d = k .before .before .before .before in
     let a = d .before .before .before .args in
     let s = now (a .s) in
-    let e = sym (k .before .entry .given .1) ∙ k .before .before .before .value-prototype-past .ensures in
+    let e = sym (k .before .entry .given .1) ∙ k .before .before .before .skip-value-prototype .ensures in
     omega (arith, field-inside s (d .definitions .field) e)
 
 shared-slice-read-if2 :
@@ -98,7 +98,7 @@ shared-slice-read-if2 c =
     let d = k .before .before .before .before in
     let a = d .before .before .before .args in
     let s = now (a .s) in
-    let e = sym (k .before .entry .given .1) ∙ k .before .before .before .value-prototype-past .ensures in
+    let e = sym (k .before .entry .given .1) ∙ k .before .before .before .skip-value-prototype .ensures in
     omega (arith, field-inside s (d .definitions .field) e)
 
 shared-slice-read-if2-2 :
@@ -111,7 +111,7 @@ definitions-less-2 c =
     let d = k .before .before .before .before in
     let a = d .before .before .before .args in
     let s = now (a .s) in
-    let e = sym (k .before .entry .given .1) ∙ k .before .before .before .value-prototype-past .ensures in
+    let e = sym (k .before .entry .given .1) ∙ k .before .before .before .skip-value-prototype .ensures in
     omega (arith, field-inside s (d .definitions .field) e)
 
 definitions-again-2 : tie.Need-definitions-again-2 Inv-loop μ-loop Inv-definitions μ-definitions
@@ -121,7 +121,7 @@ definitions-again-2 c =
     let a = d .before .before .before .args in
     let s = now (a .s) in
     let g = k .before .entry .given .0 in
-    let e = sym (k .before .entry .given .1) ∙ k .before .before .before .value-prototype-past .ensures in
+    let e = sym (k .before .entry .given .1) ∙ k .before .before .before .skip-value-prototype .ensures in
     let x = d .definitions in
     let l = c .before .before .before .before in
     let other = byte-other s (now (a .name)) (g .1 .0) (g .1 .1 .0) (l .loop .i) (omega arith) (c .if2 .taken) in
@@ -140,7 +140,7 @@ loop-again c =
     let a = d .before .before .before .args in
     let s = now (a .s) in
     let g = k .before .entry .given .0 in
-    let e = sym (k .before .entry .given .1) ∙ k .before .before .before .value-prototype-past .ensures in
+    let e = sym (k .before .entry .given .1) ∙ k .before .before .before .skip-value-prototype .ensures in
     let l = c .before .before .before .before in
     (omega arith, byte-more s (now (a .name)) (g .1 .0) (g .1 .1 .0) (l .loop .i) (l .loop .inv .1) (omega arith) (omega (arith, field-inside s (d .definitions .field) e)) (c .if2 .left))
 
@@ -151,7 +151,7 @@ returns-2 c =
     let a = d .before .before .before .args in
     let s = now (a .s) in
     let g = k .before .entry .given .0 in
-    let e = sym (k .before .entry .given .1) ∙ k .before .before .before .value-prototype-past .ensures in
+    let e = sym (k .before .entry .given .1) ∙ k .before .before .before .skip-value-prototype .ensures in
     let x = d .definitions in
     let l = c .before .loop in
     seek-here (x .inv .1) e (bytes-all s (now (a .name)) (g .1 .0) (g .1 .1 .0) (l .i) (l .inv .1) (omega arith) (omega arith))
@@ -165,7 +165,7 @@ field-index-spec =
     Inv-definitions
     μ-definitions
     definitions-holds
-    value-prototype-past-requires
+    skip-value-prototype-requires
     enum-known-entry
     returns
     add-index

@@ -20,8 +20,8 @@ abbrev μ-loop : tie.MeasureT-loop
 loop-holds : tie.Need-loop-holds Inv-loop μ-loop
 loop-holds c = (omega arith, go-start)
 
-value-prototype-past-requires : tie.Need-value-prototype-past-requires Inv-loop μ-loop
-value-prototype-past-requires c κs = search needs
+skip-value-prototype-requires : tie.Need-skip-value-prototype-requires Inv-loop μ-loop
+skip-value-prototype-requires c κs = search needs
 
 enum-known-entry : tie.Need-enum-known-entry Inv-loop μ-loop
 enum-known-entry c = search needs
@@ -30,13 +30,13 @@ returns : tie.Need-returns Inv-loop μ-loop
 returns c =
     let l = c .before .before in
     let x = l .loop in
-    let e = c .before .value-prototype-past .ensures in
-    unfielded (c .before .value-prototype-past .result) (c .match .keys2)
+    let e = c .before .skip-value-prototype .ensures in
+    unfielded (c .before .skip-value-prototype .result) (c .match .keys2)
     (λ n z. go-last (x .inv .1) (sym z ∙ e))
     (λ f z. go-bad (x .inv .1) (sym z ∙ e))
 
-value-past-requires : tie.Need-value-past-requires Inv-loop μ-loop
-value-past-requires c κs = search needs
+skip-value-requires : tie.Need-skip-value-requires Inv-loop μ-loop
+skip-value-requires c κs = search needs
 
 enum-known-value : tie.Need-enum-known-value Inv-loop μ-loop
 enum-known-value c = search needs
@@ -49,16 +49,16 @@ returns-2 c =
     let k = c .before .before .before in
     let l = k .before .before .before .before in
     let x = l .loop in
-    let e = sym (k .before .entry .given .1) ∙ k .before .before .before .value-prototype-past .ensures in
-    go-fault (x .inv .1) e (sym (c .enum-told .given .1) ∙ c .before .before .value-past .ensures)
+    let e = sym (k .before .entry .given .1) ∙ k .before .before .before .skip-value-prototype .ensures in
+    go-fault (x .inv .1) e (sym (c .enum-told .given .1) ∙ c .before .before .skip-value .ensures)
 
 returns-3 : tie.Need-returns-3 Inv-loop μ-loop
 returns-3 c =
     let k = c .before .before .before .before .before in
     let l = k .before .before .before .before in
     let x = l .loop in
-    let e = sym (k .before .entry .given .1) ∙ k .before .before .before .value-prototype-past .ensures in
-    go-here (x .inv .1) e (sym (c .before .before .value .given .1) ∙ c .before .before .before .before .value-past .ensures) (c .if1 .taken)
+    let e = sym (k .before .entry .given .1) ∙ k .before .before .before .skip-value-prototype .ensures in
+    go-here (x .inv .1) e (sym (c .before .before .value .given .1) ∙ c .before .before .before .before .skip-value .ensures) (c .if1 .taken)
 
 add-passed : tie.Need-add-passed Inv-loop μ-loop
 add-passed c = omega arith
@@ -69,7 +69,7 @@ loop-less c =
     let l = k .before .before .before .before in
     let a = l .before .before .args in
     let x = l .loop in
-    let e = sym (k .before .entry .given .1) ∙ k .before .before .before .value-prototype-past .ensures in
+    let e = sym (k .before .entry .given .1) ∙ k .before .before .before .skip-value-prototype .ensures in
     omega (arith, field-inside (now (a .s)) (x .field) e)
 
 loop-again : tie.Need-loop-again Inv-loop μ-loop
@@ -77,8 +77,8 @@ loop-again c =
     let k = c .before .before .before .before .before in
     let l = k .before .before .before .before in
     let x = l .loop in
-    let e = sym (k .before .entry .given .1) ∙ k .before .before .before .value-prototype-past .ensures in
-    (omega arith, go-on (x .inv .1) e (sym (c .before .before .value .given .1) ∙ c .before .before .before .before .value-past .ensures) (omega arith))
+    let e = sym (k .before .entry .given .1) ∙ k .before .before .before .skip-value-prototype .ensures in
+    (omega arith, go-on (x .inv .1) e (sym (c .before .before .value .given .1) ∙ c .before .before .before .before .skip-value .ensures) (omega arith))
 
 pub value-at-spec : {M : Type 1} → statement M
 value-at-spec =
@@ -87,10 +87,10 @@ value-at-spec =
     Inv-loop
     μ-loop
     loop-holds
-    value-prototype-past-requires
+    skip-value-prototype-requires
     enum-known-entry
     returns
-    value-past-requires
+    skip-value-requires
     enum-known-value
     enum-told
     returns-2

@@ -21,8 +21,8 @@ returns c =
     let a = c .before .before .before .before .args in
     no-number (now (a .s)) (a .at) (sym (c .before .before .le-u32 .ensures) ∙ ap (numOf (now (a .s))) (c .enum-told .given .1))
 
-str-past-requires : tie.Need-str-past-requires
-str-past-requires c κs = search needs
+skip-str-requires : tie.Need-skip-str-requires
+skip-str-requires c κs = search needs
 
 enum-known-end : tie.Need-enum-known-end
 enum-known-end c = search needs
@@ -35,21 +35,21 @@ returns-2 c =
     let k = c .before .before .before in
     let a = k .before .before .before .before .before .args in
     let e = sym (k .before .before .before .le-u32 .ensures) ∙ ap (numOf (now (a .s))) (k .before .number .given .1) in
-    no-string (now (a .s)) (a .at) e (sym (c .enum-told2 .given .1) ∙ c .before .before .str-past .ensures)
+    no-string (now (a .s)) (a .at) e (sym (c .enum-told2 .given .1) ∙ c .before .before .skip-str .ensures)
 
 add-t8 : tie.Need-add-t8
 add-t8 c =
     let k = c .before .before .before .before in
     let a = k .before .before .before .before .before .args in
     let e = sym (k .before .before .before .le-u32 .ensures) ∙ ap (numOf (now (a .s))) (k .before .number .given .1) in
-    omega (arith, a-pair (now (a .s)) (a .at) e (sym (c .before .end .given .1) ∙ c .before .before .before .str-past .ensures) .inside)
+    omega (arith, a-pair (now (a .s)) (a .at) e (sym (c .before .end .given .1) ∙ c .before .before .before .skip-str .ensures) .inside)
 
 returns-3 : tie.Need-returns-3
 returns-3 c =
     let k = c .before .before .before .before in
     let a = k .before .before .before .before .before .args in
     let e = sym (k .before .before .before .le-u32 .ensures) ∙ ap (numOf (now (a .s))) (k .before .number .given .1) in
-    a-pair (now (a .s)) (a .at) e (sym (c .before .end .given .1) ∙ c .before .before .before .str-past .ensures)
+    a-pair (now (a .s)) (a .at) e (sym (c .before .end .given .1) ∙ c .before .before .before .skip-str .ensures)
 
 pub enum-pair-spec : {M : Type 1} → statement M
 enum-pair-spec =
@@ -59,7 +59,7 @@ enum-pair-spec =
     enum-known-number
     enum-told
     returns
-    str-past-requires
+    skip-str-requires
     enum-known-end
     enum-told-2
     returns-2

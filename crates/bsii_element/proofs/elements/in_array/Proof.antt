@@ -24,11 +24,11 @@ returns c = λ n e.
     let a = c .before .before .before .before .before .args in
     ap (λ (f : Refusal). refuses (faultIs f)) (c .refused .ensures) ∙ array-absent (kindIs (a .kind)) (now (a .part)) e (a .index) (omega arith)
 
-cast-elements-past : tie.Need-cast-elements-past
-cast-elements-past c = search needs
+cast-skip-elements : tie.Need-cast-skip-elements
+cast-skip-elements c = search needs
 
-elements-past-requires : tie.Need-elements-past-requires
-elements-past-requires c κs = search needs
+skip-elements-requires : tie.Need-skip-elements-requires
+skip-elements-requires c κs = search needs
 
 enum-known-start : tie.Need-enum-known-start
 enum-known-start c = search needs
@@ -45,14 +45,14 @@ returns-2 c = λ n e.
     let walked = started .before .before in
     let a = walked .before .before .before .before .before .args in
     c .decode .ensures
-    ∙ array-element (kindIs (a .kind)) (now (a .part)) e (a .index) (omega arith) (walked .elements-past .ensures) (started .start .given .1)
+    ∙ array-element (kindIs (a .kind)) (now (a .part)) e (a .index) (omega arith) (walked .skip-elements .ensures) (started .start .given .1)
 
 returns-3 : tie.Need-returns-3
 returns-3 c = λ n e.
     let stopped = c .before in
     let walked = stopped .before .before in
     let a = walked .before .before .before .before .before .args in
-    array-ends (kindIs (a .kind)) (now (a .part)) e (a .index) (omega arith) (walked .elements-past .ensures) (stopped .start2 .given .1)
+    array-ends (kindIs (a .kind)) (now (a .part)) e (a .index) (omega arith) (walked .skip-elements .ensures) (stopped .start2 .given .1)
 
 pub in-array-spec : {M : Type 1} → statement M
 in-array-spec =
@@ -62,8 +62,8 @@ in-array-spec =
     size-requires
     refused-requires
     returns
-    cast-elements-past
-    elements-past-requires
+    cast-skip-elements
+    skip-elements-requires
     enum-known-start
     decode-requires
     enum-known-start-2

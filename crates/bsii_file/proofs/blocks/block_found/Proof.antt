@@ -4,8 +4,8 @@ use borrow.Author.Needs.{needs}
 use Rattle.bsii_file.proofs.blocks.block_found.Statement.{statement}
 use Rattle.bsii_file.proofs.blocks.block_found.Tie as tie
 
-id-past-requires : tie.Need-id-past-requires
-id-past-requires c κs = search needs
+skip-id-requires : tie.Need-skip-id-requires
+skip-id-requires c κs = search needs
 
 enum-known-end : tie.Need-enum-known-end
 enum-known-end c = search needs
@@ -21,23 +21,23 @@ sub-t9 c =
     let told = c .before .before in
     let passed = told .before .before in
     let a = passed .before .before .args in
-    id-later (now (a .s)) (a .b .id) (passed .id-past .ensures) (told .end2 .given .1)
+    id-later (now (a .s)) (a .b .id) (passed .skip-id .ensures) (told .end2 .given .1)
 
 returns : tie.Need-returns
 returns c =
     let told = c .before in
-    answered-fault (told .before .before .id-past .ensures) (told .end .given .1) _
+    answered-fault (told .before .before .skip-id .ensures) (told .end .given .1) _
 
 returns-2 : tie.Need-returns-2
 returns-2 c =
     let told = c .before .before in
-    answered (told .before .before .id-past .ensures) (told .end2 .given .1) (c .u32-at .ensures)
+    answered (told .before .before .skip-id .ensures) (told .end2 .given .1) (c .u32-at .ensures)
 
 pub block-found-spec : {M : Type 1} → statement M
 block-found-spec =
     tie.close
     (tie.spec
-    id-past-requires
+    skip-id-requires
     enum-known-end
     enum-known-end-2
     u32-at-requires

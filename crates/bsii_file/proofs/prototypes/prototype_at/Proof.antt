@@ -1,6 +1,6 @@
 use denote.Ref.{now}
 use native.Mathlib.Omega.{arith}
-use Rattle.bsii_again.proofs.Naming.{name-inside}
+use Rattle.bsii_walk.proofs.Naming.{name-inside}
 use Rattle.bsii_file.proofs.Definitions.{head-fault, list-fault, prototype-here}
 use borrow.Author.Needs.{needs}
 use Rattle.bsii_file.proofs.prototypes.prototype_at.Statement.{statement}
@@ -21,8 +21,8 @@ add-name c =
     let w = name-inside (now (a .s)) (a .offset) (c .before .before .before .fields-at .ensures) (c .before .head2 .given .1) in
     omega (arith, w .0, w .1)
 
-fields-past-requires : tie.Need-fields-past-requires
-fields-past-requires c κs = search needs
+skip-fields-requires : tie.Need-skip-fields-requires
+skip-fields-requires c κs = search needs
 
 enum-known-list : tie.Need-enum-known-list
 enum-known-list c = search needs
@@ -44,12 +44,12 @@ returns c =
 returns-2 : tie.Need-returns-2
 returns-2 c =
     let k = c .before .before .before .before in
-    list-fault (k .before .before .before .fields-at .ensures) (k .before .head2 .given .1) (c .before .before .before .fields-past .ensures) (c .before .list .given .1) _
+    list-fault (k .before .before .before .fields-at .ensures) (k .before .head2 .given .1) (c .before .before .before .skip-fields .ensures) (c .before .list .given .1) _
 
 returns-3 : tie.Need-returns-3
 returns-3 c =
     let k = c .before .before .before .before in
-    prototype-here (k .before .before .before .fields-at .ensures) (k .before .head2 .given .1) (c .before .before .before .fields-past .ensures) (c .before .list2 .given .1)
+    prototype-here (k .before .before .before .fields-at .ensures) (k .before .head2 .given .1) (c .before .before .before .skip-fields .ensures) (c .before .list2 .given .1)
 
 pub prototype-at-spec : {M : Type 1} → statement M
 prototype-at-spec =
@@ -59,7 +59,7 @@ prototype-at-spec =
     enum-known-head
     enum-known-head-2
     add-name
-    fields-past-requires
+    skip-fields-requires
     enum-known-list
     enum-known-list-2
     sub-t12

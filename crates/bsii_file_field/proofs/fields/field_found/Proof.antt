@@ -24,8 +24,8 @@ fields-at-requires-2 c κs = search needs
 next-of-requires-2 : tie.Need-next-of-requires-2
 next-of-requires-2 c κs = search needs
 
-id-past-requires : tie.Need-id-past-requires
-id-past-requires c κs = search needs
+skip-id-requires : tie.Need-skip-id-requires
+skip-id-requires c κs = search needs
 
 next-of-requires-3 : tie.Need-next-of-requires-3
 next-of-requires-3 c κs = search needs
@@ -37,7 +37,7 @@ returns : tie.Need-returns
 returns c = let k = c .before .before in field-absent (k .before .before .fields-at .ensures) (k .before .next-of .ensures) (k .field-index .ensures) (c .enum-told .given .1)
 
 returns-2 : tie.Need-returns-2
-returns-2 c = let k = c .before .before .before .before .before .before .before .before in field-value (k .before .before .fields-at .ensures) (k .before .next-of .ensures) (k .field-index .ensures) (c .before .before .before .before .before .before .index .given .1) (c .before .before .before .before .fields-at2 .ensures) (c .before .before .before .next-of2 .ensures) (c .before .before .id-past .ensures) (c .before .next-of3 .ensures) (c .value-at .ensures)
+returns-2 c = let k = c .before .before .before .before .before .before .before .before in field-value (k .before .before .fields-at .ensures) (k .before .next-of .ensures) (k .field-index .ensures) (c .before .before .before .before .before .before .index .given .1) (c .before .before .before .before .fields-at2 .ensures) (c .before .before .before .next-of2 .ensures) (c .before .before .skip-id .ensures) (c .before .next-of3 .ensures) (c .value-at .ensures)
 
 pub field-found-spec : {M : Type 1} → statement M
 field-found-spec =
@@ -50,7 +50,7 @@ field-found-spec =
     enum-known-index
     fields-at-requires-2
     next-of-requires-2
-    id-past-requires
+    skip-id-requires
     next-of-requires-3
     value-at-requires
     returns

@@ -4,8 +4,8 @@ use denote.Ref.{now}
 use Rattle.bsii_string.specs.Answers.{endOf}
 use Rattle.bsii_value.specs.Kinds.{numericIs, kindIs}
 use Rattle.bsii_value.specs.declared.types.Kind.{Kind}
-use Rattle.bsii_past.specs.Unchecked.{uncheckedElement}
-use Rattle.bsii_past.proofs.Skips.{numbers-same}
+use Rattle.bsii_skip.specs.Unchecked.{uncheckedElement}
+use Rattle.bsii_skip.proofs.Skips.{numbers-same}
 use borrow.Author.Needs.{needs}
 use Rattle.bsii_lines.proofs.fields.element_end.Statement.{statement}
 use Rattle.bsii_lines.proofs.fields.element_end.Tie as tie
@@ -13,17 +13,17 @@ use Rattle.bsii_lines.proofs.fields.element_end.Tie as tie
 enum-known-kind : tie.Need-enum-known-kind
 enum-known-kind c = search needs
 
-numeric-past-requires : tie.Need-numeric-past-requires
-numeric-past-requires c κs = search needs
+numeric-end-requires : tie.Need-numeric-end-requires
+numeric-end-requires c κs = search needs
 
-element-past-requires : tie.Need-element-past-requires
-element-past-requires c κs = search needs
+skip-element-requires : tie.Need-skip-element-requires
+skip-element-requires c κs = search needs
 
 returns : tie.Need-returns
 returns c =
     let a = c .before .before .before .before .before .args in
     let g = c .before .before .kind .given in
-    c .numeric-past .ensures
+    c .numeric-end .ensures
     ∙ numbers-same (numericIs (g .0 .0)) (a .at) (drop (a .at) (now (a .s)))
     ∙ ap (λ (k : Kind). endOf (uncheckedElement (kindIs k) (a .at) (drop (a .at) (now (a .s))))) (sym (g .1))
 
@@ -33,4 +33,4 @@ returns-2 c = search needs
 pub element-end-spec : {M : Type 1} → statement M
 element-end-spec =
     tie.close
-    (tie.spec enum-known-kind numeric-past-requires element-past-requires returns returns-2)
+    (tie.spec enum-known-kind numeric-end-requires skip-element-requires returns returns-2)

@@ -20,11 +20,11 @@ write-vec3-requires c κs = search needs
 put-requires : tie.Need-put-requires
 put-requires c κs = search needs
 
-turn-requires : tie.Need-turn-requires
-turn-requires c κs = search needs
+rotation-requires : tie.Need-rotation-requires
+rotation-requires c κs = search needs
 
-turn-bits-requires : tie.Need-turn-bits-requires
-turn-bits-requires c κs = search needs
+rotation-bits-requires : tie.Need-rotation-bits-requires
+rotation-bits-requires c κs = search needs
 
 write-float-vec4-requires : tie.Need-write-float-vec4-requires
 write-float-vec4-requires c κs = search needs
@@ -39,9 +39,9 @@ returns c =
     let position-bits = c .before .before .before .before .before .before .before .before .before .before .before .before .before .position-bits in
     let write-vec3 = c .before .before .before .before .before .before .before .before .before .before .before .before .write-vec3 in
     let put = c .before .before .before .before .before .before .before .before .put in
-    let turn = c .before .before .before .before .turn in
-    let turn-bits = c .before .before .before .turn-bits in
-    being (ap₂ (λ (x y : List ℕ). x ++ ascii " " ++ y) (ap₂ vec3With (position .ensures) (position-bits .ensures)) (ap₂ vec4With (turn .ensures) (turn-bits .ensures)))
+    let rotation = c .before .before .before .before .rotation in
+    let rotation-bits = c .before .before .before .rotation-bits in
+    being (ap₂ (λ (x y : List ℕ). x ++ ascii " " ++ y) (ap₂ vec3With (position .ensures) (position-bits .ensures)) (ap₂ vec4With (rotation .ensures) (rotation-bits .ensures)))
     (then (then (write-vec3 .ensures) (put .ensures)) (c .before .before .write-float-vec4 .ensures))
 
 pub write-float-vec8-spec : {M : Type 1} → statement M
@@ -52,8 +52,8 @@ write-float-vec8-spec =
     position-bits-requires
     write-vec3-requires
     put-requires
-    turn-requires
-    turn-bits-requires
+    rotation-requires
+    rotation-bits-requires
     write-float-vec4-requires
     same-length
     returns)

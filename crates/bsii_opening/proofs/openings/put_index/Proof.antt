@@ -18,8 +18,8 @@ add-count c = omega (arith, c .index-count .ensures, count-most (c .before .befo
 add-count-2 : tie.Need-add-count-2
 add-count-2 c = omega (arith, c .index-count .ensures, count-most (c .before .before .before .args .i))
 
-place-of-requires : tie.Need-place-of-requires
-place-of-requires c κs = search needs
+overlap-of-requires : tie.Need-overlap-of-requires
+overlap-of-requires c κs = search needs
 
 enum-told : tie.Need-enum-told
 enum-told c = search needs
@@ -31,7 +31,7 @@ returns : tie.Need-returns
 returns c =
     let a = c .before .before .before .before .before .before .before .args in
     let d = c .before .before .before .before .index-count in
-    past (c .before .enum-told .given .1) (c .before .before .before .place-of .ensures) (index-length (now (a .name)) (a .i) (d .result) (d .ensures)) (c .further .ensures) (omega arith)
+    past (c .before .enum-told .given .1) (c .before .before .before .overlap-of .ensures) (index-length (now (a .name)) (a .i) (d .result) (d .ensures)) (c .further .ensures) (omega arith)
 
 enum-told-2 : tie.Need-enum-told-2
 enum-told-2 c = search needs
@@ -51,10 +51,10 @@ enum-known-place c = search needs
 store-index-requires : tie.Need-store-index-requires
 store-index-requires c κs =
     let d = c .before .before .before .before .before .index-count in
-    (d .ensures, starts (length (now (c .before .before .before .before .before .before .before .before .args .name)) + d .result + 6) (c .before .before .place .given .1) (c .before .before .before .before .place-of .ensures) .1)
+    (d .ensures, starts (length (now (c .before .before .before .before .before .before .before .before .args .name)) + d .result + 6) (c .before .before .place .given .1) (c .before .before .before .before .overlap-of .ensures) .1)
 
 add-result : tie.Need-add-result
-add-result c = omega (arith, starts (length (now (c .before .before .before .before .before .before .before .before .before .before .before .args .name)) + c .before .before .before .before .before .before .before .before .index-count .result + 6) (c .before .before .before .before .before .place .given .1) (c .before .before .before .before .before .before .before .place-of .ensures))
+add-result c = omega (arith, starts (length (now (c .before .before .before .before .before .before .before .before .before .before .before .args .name)) + c .before .before .before .before .before .before .before .before .index-count .result + 6) (c .before .before .before .before .before .place .given .1) (c .before .before .before .before .before .before .before .overlap-of .ensures))
 
 same-length-2 : tie.Need-same-length-2
 same-length-2 c = search needs
@@ -63,7 +63,7 @@ returns-3 : tie.Need-returns-3
 returns-3 c =
     let a = c .before .before .before .before .before .before .before .before .before .before .before .args in
     let d = c .before .before .before .before .before .before .before .before .index-count in
-    inside-sum (c .before .before .before .before .before .place .given .1) (c .before .before .before .before .before .before .before .place-of .ensures) (index-length (now (a .name)) (a .i) (d .result) (d .ensures)) (c .before .before .store-index .ensures) (omega arith)
+    inside-sum (c .before .before .before .before .before .place .given .1) (c .before .before .before .before .before .before .before .overlap-of .ensures) (index-length (now (a .name)) (a .i) (d .result) (d .ensures)) (c .before .before .store-index .ensures) (omega arith)
 
 pub put-index-spec : {M : Type 1} → statement M
 put-index-spec =
@@ -72,7 +72,7 @@ put-index-spec =
     index-count-requires
     add-count
     add-count-2
-    place-of-requires
+    overlap-of-requires
     enum-told
     further-requires
     returns

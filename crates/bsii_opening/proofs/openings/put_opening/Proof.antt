@@ -11,8 +11,8 @@ use Rattle.bsii_opening.proofs.openings.put_opening.Tie as tie
 add-count : tie.Need-add-count
 add-count c = search needs
 
-place-of-requires : tie.Need-place-of-requires
-place-of-requires c κs = search needs
+overlap-of-requires : tie.Need-overlap-of-requires
+overlap-of-requires c κs = search needs
 
 enum-told : tie.Need-enum-told
 enum-told c = search needs
@@ -23,7 +23,7 @@ further-requires c κs = search needs
 returns : tie.Need-returns
 returns c =
     let a = c .before .before .before .before .before .before .args in
-    past (c .before .enum-told .given .1) (c .before .before .before .place-of .ensures) (opening-length (now (a .name))) (c .further .ensures) (omega arith)
+    past (c .before .enum-told .given .1) (c .before .before .before .overlap-of .ensures) (opening-length (now (a .name))) (c .further .ensures) (omega arith)
 
 enum-told-2 : tie.Need-enum-told-2
 enum-told-2 c = search needs
@@ -41,10 +41,10 @@ enum-known-place : tie.Need-enum-known-place
 enum-known-place c = search needs
 
 store-opening-requires : tie.Need-store-opening-requires
-store-opening-requires c κs = starts (length (now (c .before .before .before .before .before .before .before .args .name)) + 4) (c .before .before .place .given .1) (c .before .before .before .before .place-of .ensures) .1
+store-opening-requires c κs = starts (length (now (c .before .before .before .before .before .before .before .args .name)) + 4) (c .before .before .place .given .1) (c .before .before .before .before .overlap-of .ensures) .1
 
 add-result : tie.Need-add-result
-add-result c = omega (arith, starts (length (now (c .before .before .before .before .before .before .before .before .before .before .args .name)) + 4) (c .before .before .before .before .before .place .given .1) (c .before .before .before .before .before .before .before .place-of .ensures))
+add-result c = omega (arith, starts (length (now (c .before .before .before .before .before .before .before .before .before .before .args .name)) + 4) (c .before .before .before .before .before .place .given .1) (c .before .before .before .before .before .before .before .overlap-of .ensures))
 
 same-length-2 : tie.Need-same-length-2
 same-length-2 c = search needs
@@ -52,14 +52,14 @@ same-length-2 c = search needs
 returns-3 : tie.Need-returns-3
 returns-3 c =
     let a = c .before .before .before .before .before .before .before .before .before .before .args in
-    inside-sum (c .before .before .before .before .before .place .given .1) (c .before .before .before .before .before .before .before .place-of .ensures) (opening-length (now (a .name))) (c .before .before .store-opening .ensures) (omega arith)
+    inside-sum (c .before .before .before .before .before .place .given .1) (c .before .before .before .before .before .before .before .overlap-of .ensures) (opening-length (now (a .name))) (c .before .before .store-opening .ensures) (omega arith)
 
 pub put-opening-spec : {M : Type 1} → statement M
 put-opening-spec =
     tie.close
     (tie.spec
     add-count
-    place-of-requires
+    overlap-of-requires
     enum-told
     further-requires
     returns

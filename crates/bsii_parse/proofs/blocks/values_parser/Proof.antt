@@ -22,8 +22,8 @@ abbrev μ-loop : tie.MeasureT-loop
 loop-holds : tie.Need-loop-holds Inv-loop μ-loop
 loop-holds c = step-start
 
-value-prototype-past-requires : tie.Need-value-prototype-past-requires Inv-loop μ-loop
-value-prototype-past-requires c κs = search needs
+skip-value-prototype-requires : tie.Need-skip-value-prototype-requires Inv-loop μ-loop
+skip-value-prototype-requires c κs = search needs
 
 enum-told : tie.Need-enum-told Inv-loop μ-loop
 enum-told c = search needs
@@ -31,7 +31,7 @@ enum-told c = search needs
 returns : tie.Need-returns Inv-loop μ-loop
 returns c =
     let l = c .before .before .before in
-    step-last (l .loop .inv) (sym (c .enum-told .given .1) ∙ c .before .before .value-prototype-past .ensures)
+    step-last (l .loop .inv) (sym (c .enum-told .given .1) ∙ c .before .before .skip-value-prototype .ensures)
 
 enum-known-entry : tie.Need-enum-known-entry Inv-loop μ-loop
 enum-known-entry c = search needs
@@ -39,7 +39,7 @@ enum-known-entry c = search needs
 returns-2 : tie.Need-returns-2 Inv-loop μ-loop
 returns-2 c =
     let l = c .before .before .before .before in
-    step-bad (l .loop .inv) (sym (c .before .entry .given .1) ∙ c .before .before .before .value-prototype-past .ensures) _
+    step-bad (l .loop .inv) (sym (c .before .entry .given .1) ∙ c .before .before .before .skip-value-prototype .ensures) _
 
 enum-known-entry-2 : tie.Need-enum-known-entry-2 Inv-loop μ-loop
 enum-known-entry-2 c = search needs
@@ -53,7 +53,7 @@ enum-known-value c = search needs
 returns-3 : tie.Need-returns-3 Inv-loop μ-loop
 returns-3 c =
     let l = c .before .before .before .before .before .before .before .before in
-    let e = sym (c .before .before .before .before .before .entry2 .given .1) ∙ c .before .before .before .before .before .before .before .value-prototype-past .ensures in
+    let e = sym (c .before .before .before .before .before .entry2 .given .1) ∙ c .before .before .before .before .before .before .before .skip-value-prototype .ensures in
     step-fault (l .loop .inv) e (sym (c .before .value .given .1) ∙ c .before .before .before .value-parser .ensures)
 
 enum-known-value-2 : tie.Need-enum-known-value-2 Inv-loop μ-loop
@@ -63,13 +63,13 @@ loop-less : tie.Need-loop-less Inv-loop μ-loop
 loop-less c =
     let l = c .before .before .before .before .before .before .before .before in
     let s = now (l .before .before .args .s) in
-    let e = sym (c .before .before .before .before .before .entry2 .given .1) ∙ c .before .before .before .before .before .before .before .value-prototype-past .ensures in
+    let e = sym (c .before .before .before .before .before .entry2 .given .1) ∙ c .before .before .before .before .before .before .before .skip-value-prototype .ensures in
     omega (arith, count-later uncheckedStr (unchecked .exact) s (l .loop .field) e)
 
 loop-again : tie.Need-loop-again Inv-loop μ-loop
 loop-again c =
     let l = c .before .before .before .before .before .before .before .before in
-    let e = sym (c .before .before .before .before .before .entry2 .given .1) ∙ c .before .before .before .before .before .before .before .value-prototype-past .ensures in
+    let e = sym (c .before .before .before .before .before .entry2 .given .1) ∙ c .before .before .before .before .before .before .before .skip-value-prototype .ensures in
     step-next (l .loop .inv) e (sym (c .before .value2 .given .1) ∙ c .before .before .before .value-parser .ensures)
 
 pub values-parser-spec : {M : Type 1} → statement M
@@ -79,7 +79,7 @@ values-parser-spec =
     Inv-loop
     μ-loop
     loop-holds
-    value-prototype-past-requires
+    skip-value-prototype-requires
     enum-told
     returns
     enum-known-entry

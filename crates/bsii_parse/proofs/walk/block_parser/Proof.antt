@@ -1,4 +1,4 @@
-use Rattle.bsii_parse.proofs.Values.{standing-fault, standing-block}
+use Rattle.bsii_parse.proofs.Values.{defined-fault, defined-block}
 use borrow.Author.Needs.{needs}
 use Rattle.bsii_parse.proofs.walk.block_parser.Statement.{statement}
 use Rattle.bsii_parse.proofs.walk.block_parser.Tie as tie
@@ -16,10 +16,10 @@ data-block-parser-requires : tie.Need-data-block-parser-requires
 data-block-parser-requires c κs = search needs
 
 returns : tie.Need-returns
-returns c = standing-fault (c .before .before .before .fields-at .ensures) (c .before .fields .given .1) _
+returns c = defined-fault (c .before .before .before .fields-at .ensures) (c .before .fields .given .1) _
 
 returns-2 : tie.Need-returns-2
-returns-2 c = standing-block (c .before .before .before .before .fields-at .ensures) (c .before .before .fields2 .given .1) (c .data-block-parser .ensures)
+returns-2 c = defined-block (c .before .before .before .before .fields-at .ensures) (c .before .before .fields2 .given .1) (c .data-block-parser .ensures)
 
 pub block-parser-spec : {M : Type 1} → statement M
 block-parser-spec =

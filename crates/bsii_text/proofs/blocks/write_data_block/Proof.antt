@@ -3,7 +3,7 @@ use native.Mathlib.Omega.{arith}
 use denote.Ref.{now}
 use Rattle.bsii_format.specs.Types.{id}
 use Rattle.bsii_field.proofs.Bounds.{element-moves}
-use Rattle.bsii_again.proofs.Naming.{name-inside}
+use Rattle.bsii_walk.proofs.Naming.{name-inside}
 use Rattle.bsii_text.proofs.BlockLaws.{no-definition, no-last, no-id, other-count, whole-block}
 use borrow.Author.Needs.{needs}
 use Rattle.bsii_text.proofs.blocks.write_data_block.Statement.{statement}
@@ -45,8 +45,8 @@ returns-2 c =
     let a = told .before .before .before .before .before .before .before .before .before .args in
     no-last (now (a .s)) (a .offset) (a .id) (a .in-force) (a .last) (now (a .out)) (a .to) (told .before .before .fields-at2 .ensures) (told .enum-told2 .given .1) _
 
-element-past-requires : tie.Need-element-past-requires
-element-past-requires c κs = search needs
+skip-element-requires : tie.Need-skip-element-requires
+skip-element-requires c κs = search needs
 
 enum-known-end : tie.Need-enum-known-end
 enum-known-end c = search needs
@@ -61,7 +61,7 @@ returns-3 : tie.Need-returns-3
 returns-3 c =
     let told = c .before in
     let a = told .before .before .before .before .before .before .before .before .before .before .before .before .before .args in
-    no-id (now (a .s)) (a .offset) (a .id) (a .in-force) (a .last) (now (a .out)) (a .to) (told .before .before .element-past .ensures) (told .enum-told3 .given .1) _
+    no-id (now (a .s)) (a .offset) (a .id) (a .in-force) (a .last) (now (a .out)) (a .to) (told .before .before .skip-element .ensures) (told .enum-told3 .given .1) _
 
 same-fields-requires : tie.Need-same-fields-requires
 same-fields-requires c κs = search needs
@@ -89,7 +89,7 @@ write-body-requires c κs =
     let lasts = ids .before .before .before .before in
     let a = lasts .before .before .before .before .before .before .before .before .before .args in
     let n = name-inside (now (a .s)) (a .last) (lasts .before .before .fields-at2 .ensures) (lasts .last-list .given .1) in
-    let i = element-moves id (now (a .s)) (a .id) (sym (ids .end .given .1) ∙ ids .before .before .element-past .ensures) in
+    let i = element-moves id (now (a .s)) (a .id) (sym (ids .end .given .1) ∙ ids .before .before .skip-element .ensures) in
     (omega (arith, i), i .1, n .0, n .1)
 
 same-length : tie.Need-same-length
@@ -102,7 +102,7 @@ returns-5 c =
     let lasts = ids .before .before .before .before in
     let forces = lasts .before .before .before .before in
     let a = forces .before .before .before .before .before .args in
-    whole-block (now (a .s)) (a .offset) (a .id) (a .in-force) (a .last) (now (a .out)) (a .to) (forces .before .before .fields-at .ensures) (forces .list .given .1) (lasts .before .before .fields-at2 .ensures) (lasts .last-list .given .1) (even .before .same-fields .ensures) (even .if1 .left) (ids .before .before .element-past .ensures) (ids .end .given .1) (c .before .before .write-body .ensures)
+    whole-block (now (a .s)) (a .offset) (a .id) (a .in-force) (a .last) (now (a .out)) (a .to) (forces .before .before .fields-at .ensures) (forces .list .given .1) (lasts .before .before .fields-at2 .ensures) (lasts .last-list .given .1) (even .before .same-fields .ensures) (even .if1 .left) (ids .before .before .skip-element .ensures) (ids .end .given .1) (c .before .before .write-body .ensures)
 
 pub write-data-block-spec : {M : Type 1} → statement M
 write-data-block-spec =
@@ -118,7 +118,7 @@ write-data-block-spec =
     enum-told-2
     refused-requires-2
     returns-2
-    element-past-requires
+    skip-element-requires
     enum-known-end
     enum-told-3
     refused-requires-3

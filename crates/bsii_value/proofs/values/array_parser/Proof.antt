@@ -40,11 +40,11 @@ width-requires c κs = search needs
 size-requires : tie.Need-size-requires
 size-requires c κs = search needs
 
-numbers-past-requires : tie.Need-numbers-past-requires
-numbers-past-requires c κs = search needs
+numbers-end-requires : tie.Need-numbers-end-requires
+numbers-end-requires c κs = search needs
 
-elements-past-requires : tie.Need-elements-past-requires
-elements-past-requires c κs = search needs
+elements-end-requires : tie.Need-elements-end-requires
+elements-end-requires c κs = search needs
 
 returns : tie.Need-returns
 unfolding endOf
@@ -59,7 +59,7 @@ returns-2 c =
     let k = d .before .before .kind .given in
     let a = d .before .before .before .before .before .before .before .before .before .args in
     let e = sym (d .before .before .before .before .before .before .before .le-u32 .ensures) ∙ ap (numOf (now (a .s))) (g .1) in
-    c .numbers-past .ensures
+    c .numbers-end .ensures
     ∙ ap₂ (λ (n w : ℕ). endOf (repeat n (number w) (g .0 .1 .0) (drop (g .0 .1 .0) (now (a .s))))) (c .before .before .before .product .ensures ∙ ap (λ (m : ℕ). g .0 .0 * m) (d .arity .ensures)) (c .before .size .ensures ∙ c .before .before .width .ensures)
     ∙ sym (many-numbers (a .at) (drop (a .at) (now (a .s))) (g .0 .0) (g .0 .1 .0) _ e (numericIs (k .0 .0)))
     ∙ ap (λ (k : Kind). endOf (shapeParser (some (many (kindIs k))) (a .at) (drop (a .at) (now (a .s))))) (sym (k .1))
@@ -69,7 +69,7 @@ returns-3 c =
     let g = c .before .before .before .count2 .given in
     let a = c .before .before .before .before .before .before .before .args in
     let e = sym (c .before .before .before .before .before .le-u32 .ensures) ∙ ap (numOf (now (a .s))) (g .1) in
-    c .elements-past .ensures ∙ sym (many-end (a .at) (drop (a .at) (now (a .s))) (g .0 .0) (g .0 .1 .0) _ e (kindIs (a .kind)))
+    c .elements-end .ensures ∙ sym (many-end (a .at) (drop (a .at) (now (a .s))) (g .0 .0) (g .0 .1 .0) _ e (kindIs (a .kind)))
 
 pub array-parser-spec : {M : Type 1} → statement M
 array-parser-spec =
@@ -83,8 +83,8 @@ array-parser-spec =
     product-requires
     width-requires
     size-requires
-    numbers-past-requires
-    elements-past-requires
+    numbers-end-requires
+    elements-end-requires
     returns
     returns-2
     returns-3)

@@ -25,8 +25,8 @@ enum-known-shape c = search needs
 enum-known-kind : tie.Need-enum-known-kind
 enum-known-kind c = search needs
 
-numeric-past-requires : tie.Need-numeric-past-requires
-numeric-past-requires c κs = search needs
+numeric-end-requires : tie.Need-numeric-end-requires
+numeric-end-requires c κs = search needs
 
 enum-told : tie.Need-enum-told
 enum-told c = search needs
@@ -37,8 +37,8 @@ str-end-requires c κs = search needs
 enum-told-2 : tie.Need-enum-told-2
 enum-told-2 c = search needs
 
-word-past-requires : tie.Need-word-past-requires
-word-past-requires c κs = search needs
+word-end-requires : tie.Need-word-end-requires
+word-end-requires c κs = search needs
 
 enum-told-3 : tie.Need-enum-told-3
 enum-told-3 c = search needs
@@ -61,7 +61,7 @@ refused-requires c κs = search needs
 returns : tie.Need-returns
 returns c =
     let a = c .before .before .before .before .before .before .before .before .before .args in
-    c .numeric-past .ensures ∙ ap (λ (k : Kind). endOf (elementParser (kindIs k) (a .at) (drop (a .at) (now (a .s))))) (sym (c .before .before .kind .given .1))
+    c .numeric-end .ensures ∙ ap (λ (k : Kind). endOf (elementParser (kindIs k) (a .at) (drop (a .at) (now (a .s))))) (sym (c .before .before .kind .given .1))
     ∙ one-value (a .type-id) (a .at) (drop (a .at) (now (a .s))) (ap shapeIs (sym (c .before .before .before .before .before .shape .given .1)) ∙ c .before .before .before .before .before .before .before .shape-of .ensures)
 
 returns-2 : tie.Need-returns-2
@@ -75,7 +75,7 @@ returns-3 : tie.Need-returns-3
 unfolding elementParser
 returns-3 c =
     let a = c .before .before .before .before .before .before .before .before .args in
-    c .word-past .ensures ∙ sym (mapped word encodedStrParser (a .at) (drop (a .at) (now (a .s)))) ∙ ap (λ (k : Kind). endOf (elementParser (kindIs k) (a .at) (drop (a .at) (now (a .s))))) (sym (c .before .enum-told2 .given .1))
+    c .word-end .ensures ∙ sym (mapped word encodedStrParser (a .at) (drop (a .at) (now (a .s)))) ∙ ap (λ (k : Kind). endOf (elementParser (kindIs k) (a .at) (drop (a .at) (now (a .s))))) (sym (c .before .enum-told2 .given .1))
     ∙ one-value (a .type-id) (a .at) (drop (a .at) (now (a .s))) (ap shapeIs (sym (c .before .before .before .before .shape .given .1)) ∙ c .before .before .before .before .before .before .shape-of .ensures)
 
 returns-4 : tie.Need-returns-4
@@ -105,11 +105,11 @@ value-parser-spec =
     shape-of-requires
     enum-known-shape
     enum-known-kind
-    numeric-past-requires
+    numeric-end-requires
     enum-told
     str-end-requires
     enum-told-2
-    word-past-requires
+    word-end-requires
     enum-told-3
     id-parser-requires
     enum-known-shape-2

@@ -13,8 +13,8 @@ use Rattle.bsii_window.proofs.digits.write_decimal.Tie as tie
 decimal-count-requires : tie.Need-decimal-count-requires
 decimal-count-requires c κs = search needs
 
-place-of-requires : tie.Need-place-of-requires
-place-of-requires c κs = search needs
+overlap-of-requires : tie.Need-overlap-of-requires
+overlap-of-requires c κs = search needs
 
 enum-told : tie.Need-enum-told
 enum-told c = search needs
@@ -24,7 +24,7 @@ further-requires c κs = search needs
 
 returns : tie.Need-returns
 returns c =
-    past (c .before .enum-told .given .1) (c .before .before .before .place-of .ensures) (c .before .before .before .before .decimal-count .ensures) (c .further .ensures) (omega arith)
+    past (c .before .enum-told .given .1) (c .before .before .before .overlap-of .ensures) (c .before .before .before .before .decimal-count .ensures) (c .further .ensures) (omega arith)
 
 enum-told-2 : tie.Need-enum-told-2
 enum-told-2 c = search needs
@@ -42,14 +42,14 @@ enum-known-place : tie.Need-enum-known-place
 enum-known-place c = search needs
 
 add-fill-decimal : tie.Need-add-fill-decimal
-add-fill-decimal c = omega (arith, starts (c .before .before .before .before .before .decimal-count .result) (c .before .before .place .given .1) (c .before .before .before .before .place-of .ensures))
+add-fill-decimal c = omega (arith, starts (c .before .before .before .before .before .decimal-count .result) (c .before .before .place .given .1) (c .before .before .before .before .overlap-of .ensures))
 
 fill-decimal-requires : tie.Need-fill-decimal-requires
 fill-decimal-requires c κs =
-    (omega (arith, c .before .before .before .before .before .decimal-count .ensures), starts (c .before .before .before .before .before .decimal-count .result) (c .before .before .place .given .1) (c .before .before .before .before .place-of .ensures) .1)
+    (omega (arith, c .before .before .before .before .before .decimal-count .ensures), starts (c .before .before .before .before .before .decimal-count .result) (c .before .before .place .given .1) (c .before .before .before .before .overlap-of .ensures) .1)
 
 add-result : tie.Need-add-result
-add-result c = omega (arith, starts (c .before .before .before .before .before .before .before .before .decimal-count .result) (c .before .before .before .before .before .place .given .1) (c .before .before .before .before .before .before .before .place-of .ensures))
+add-result c = omega (arith, starts (c .before .before .before .before .before .before .before .before .decimal-count .result) (c .before .before .before .before .before .place .given .1) (c .before .before .before .before .before .before .before .overlap-of .ensures))
 
 same-length-2 : tie.Need-same-length-2
 same-length-2 c = search needs
@@ -60,7 +60,7 @@ returns-3 c =
     let start = c .before .before .before .before .before .place .given .0 .0 in
     let n = c .before .before .before .before .before .before .before .before .decimal-count .result in
     let z : start + n - length (decimal (a .n)) ≡ start = omega (arith, c .before .before .before .before .before .before .before .before .decimal-count .ensures) in
-    inside-sum (c .before .before .before .before .before .place .given .1) (c .before .before .before .before .before .before .before .place-of .ensures) (c .before .before .before .before .before .before .before .before .decimal-count .ensures)
+    inside-sum (c .before .before .before .before .before .place .given .1) (c .before .before .before .before .before .before .before .overlap-of .ensures) (c .before .before .before .before .before .before .before .before .decimal-count .ensures)
     (c .before .before .fill-decimal .ensures ∙ ap (λ (k : ℕ). sets (now (a .out)) k (decimal (a .n))) z) (omega arith)
 
 pub write-decimal-spec : {M : Type 1} → statement M
@@ -68,7 +68,7 @@ write-decimal-spec =
     tie.close
     (tie.spec
     decimal-count-requires
-    place-of-requires
+    overlap-of-requires
     enum-told
     further-requires
     returns

@@ -10,8 +10,8 @@ use borrow.Author.Needs.{needs}
 use Rattle.bsii_window.proofs.digits.write_hex_padded.Statement.{statement}
 use Rattle.bsii_window.proofs.digits.write_hex_padded.Tie as tie
 
-place-of-requires : tie.Need-place-of-requires
-place-of-requires c κs = search needs
+overlap-of-requires : tie.Need-overlap-of-requires
+overlap-of-requires c κs = search needs
 
 enum-told : tie.Need-enum-told
 enum-told c = search needs
@@ -22,7 +22,7 @@ further-requires c κs = search needs
 returns : tie.Need-returns
 returns c =
     let a = c .before .before .before .before .before .args in
-    past (c .before .enum-told .given .1) (c .before .before .before .place-of .ensures) (sym (padded-length (a .count) (a .n))) (c .further .ensures) (omega arith)
+    past (c .before .enum-told .given .1) (c .before .before .before .overlap-of .ensures) (sym (padded-length (a .count) (a .n))) (c .further .ensures) (omega arith)
 
 enum-told-2 : tie.Need-enum-told-2
 enum-told-2 c = search needs
@@ -40,13 +40,13 @@ enum-known-place : tie.Need-enum-known-place
 enum-known-place c = search needs
 
 add-fill-hex : tie.Need-add-fill-hex
-add-fill-hex c = omega (arith, starts (c .before .before .before .before .before .before .args .count) (c .before .before .place .given .1) (c .before .before .before .before .place-of .ensures))
+add-fill-hex c = omega (arith, starts (c .before .before .before .before .before .before .args .count) (c .before .before .place .given .1) (c .before .before .before .before .overlap-of .ensures))
 
 fill-hex-requires : tie.Need-fill-hex-requires
-fill-hex-requires c κs = (omega arith, starts (c .before .before .before .before .before .before .args .count) (c .before .before .place .given .1) (c .before .before .before .before .place-of .ensures) .1)
+fill-hex-requires c κs = (omega arith, starts (c .before .before .before .before .before .before .args .count) (c .before .before .place .given .1) (c .before .before .before .before .overlap-of .ensures) .1)
 
 add-result : tie.Need-add-result
-add-result c = omega (arith, starts (c .before .before .before .before .before .before .before .before .before .args .count) (c .before .before .before .before .before .place .given .1) (c .before .before .before .before .before .before .before .place-of .ensures))
+add-result c = omega (arith, starts (c .before .before .before .before .before .before .before .before .before .args .count) (c .before .before .before .before .before .place .given .1) (c .before .before .before .before .before .before .before .overlap-of .ensures))
 
 same-length-2 : tie.Need-same-length-2
 same-length-2 c = search needs
@@ -55,14 +55,14 @@ returns-3 : tie.Need-returns-3
 returns-3 c =
     let a = c .before .before .before .before .before .before .before .before .before .args in
     let z : c .before .before .before .before .before .place .given .0 .0 + a .count - a .count ≡ c .before .before .before .before .before .place .given .0 .0 = omega arith in
-    inside-sum (c .before .before .before .before .before .place .given .1) (c .before .before .before .before .before .before .before .place-of .ensures) (sym (padded-length (a .count) (a .n)))
+    inside-sum (c .before .before .before .before .before .place .given .1) (c .before .before .before .before .before .before .before .overlap-of .ensures) (sym (padded-length (a .count) (a .n)))
     (c .before .before .fill-hex .ensures ∙ ap (λ (k : ℕ). sets (now (a .out)) k (hexPadded (a .count) (a .n))) z) (omega arith)
 
 pub write-hex-padded-spec : {M : Type 1} → statement M
 write-hex-padded-spec =
     tie.close
     (tie.spec
-    place-of-requires
+    overlap-of-requires
     enum-told
     further-requires
     returns

@@ -7,8 +7,8 @@ use borrow.Author.Needs.{needs}
 use Rattle.bsii_window.proofs.window.put_all.Statement.{statement}
 use Rattle.bsii_window.proofs.window.put_all.Tie as tie
 
-place-of-requires : tie.Need-place-of-requires
-place-of-requires c κs = search needs
+overlap-of-requires : tie.Need-overlap-of-requires
+overlap-of-requires c κs = search needs
 
 enum-told : tie.Need-enum-told
 enum-told c = search needs
@@ -17,7 +17,7 @@ further-requires : tie.Need-further-requires
 further-requires c κs = search needs
 
 returns : tie.Need-returns
-returns c = past (c .before .enum-told .given .1) (c .before .before .before .place-of .ensures) refl (c .further .ensures) (omega arith)
+returns c = past (c .before .enum-told .given .1) (c .before .before .before .overlap-of .ensures) refl (c .further .ensures) (omega arith)
 
 enum-told-2 : tie.Need-enum-told-2
 enum-told-2 c = search needs
@@ -37,25 +37,25 @@ enum-known-place c = search needs
 store-requires : tie.Need-store-requires
 store-requires c κs =
     let a = c .before .before .before .before .before .before .before .args in
-    omega (arith, starts (length (now (a .text))) (c .before .before .place .given .1) (c .before .before .before .before .place-of .ensures))
+    omega (arith, starts (length (now (a .text))) (c .before .before .place .given .1) (c .before .before .before .before .overlap-of .ensures))
 
 add-result : tie.Need-add-result
 add-result c =
     let a = c .before .before .before .before .before .before .before .before .before .before .args in
-    omega (arith, starts (length (now (a .text))) (c .before .before .before .before .before .place .given .1) (c .before .before .before .before .before .before .before .place-of .ensures))
+    omega (arith, starts (length (now (a .text))) (c .before .before .before .before .before .place .given .1) (c .before .before .before .before .before .before .before .overlap-of .ensures))
 
 same-length-2 : tie.Need-same-length-2
 same-length-2 c = search needs
 
 returns-3 : tie.Need-returns-3
 returns-3 c =
-    inside-sum (c .before .before .before .before .before .place .given .1) (c .before .before .before .before .before .before .before .place-of .ensures) refl (c .before .before .store .ensures) (omega arith)
+    inside-sum (c .before .before .before .before .before .place .given .1) (c .before .before .before .before .before .before .before .overlap-of .ensures) refl (c .before .before .store .ensures) (omega arith)
 
 pub put-all-spec : {M : Type 1} → statement M
 put-all-spec =
     tie.close
     (tie.spec
-    place-of-requires
+    overlap-of-requires
     enum-told
     further-requires
     returns

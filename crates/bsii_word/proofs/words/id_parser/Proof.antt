@@ -17,17 +17,17 @@ enum-known-count c = search needs
 enum-known-count-2 : tie.Need-enum-known-count-2
 enum-known-count-2 c = search needs
 
-u64-past-requires : tie.Need-u64-past-requires
-u64-past-requires c κs = search needs
+u64-end-requires : tie.Need-u64-end-requires
+u64-end-requires c κs = search needs
 
 returns : tie.Need-returns
 returns c =
     let a = c .before .before .before .before .before .before .before .args in
     let e = sym (c .before .before .before .before .before .le-u8 .ensures) ∙ ap (numOf (now (a .s))) (c .before .before .before .count2 .given .1) in
-    c .u64-past .ensures ∙ sym (id-nameless (drop (a .at) (now (a .s))) (a .at) _ _ _ e (c .before .if1 .taken))
+    c .u64-end .ensures ∙ sym (id-nameless (drop (a .at) (now (a .s))) (a .at) _ _ _ e (c .before .if1 .taken))
 
-words-past-requires : tie.Need-words-past-requires
-words-past-requires c κs = search needs
+words-end-requires : tie.Need-words-end-requires
+words-end-requires c κs = search needs
 
 returns-2 : tie.Need-returns-2
 unfolding endOf
@@ -39,7 +39,7 @@ returns-3 : tie.Need-returns-3
 returns-3 c =
     let a = c .before .before .before .before .before .before .before .args in
     let e = sym (c .before .before .before .before .before .le-u8 .ensures) ∙ ap (numOf (now (a .s))) (c .before .before .before .count2 .given .1) in
-    c .words-past .ensures ∙ sym (id-named (drop (a .at) (now (a .s))) (a .at) _ _ _ e (c .before .if1 .left))
+    c .words-end .ensures ∙ sym (id-named (drop (a .at) (now (a .s))) (a .at) _ _ _ e (c .before .if1 .left))
 
 pub id-parser-spec : {M : Type 1} → statement M
 id-parser-spec =
@@ -48,8 +48,8 @@ id-parser-spec =
     le-u8-requires
     enum-known-count
     enum-known-count-2
-    u64-past-requires
+    u64-end-requires
     returns
-    words-past-requires
+    words-end-requires
     returns-2
     returns-3)

@@ -5,8 +5,8 @@ use borrow.Author.Needs.{needs}
 use Rattle.bsii_write_word.proofs.words.write_word.Statement.{statement}
 use Rattle.bsii_write_word.proofs.words.write_word.Tie as tie
 
-place-of-requires : tie.Need-place-of-requires
-place-of-requires c κs = search needs
+overlap-of-requires : tie.Need-overlap-of-requires
+overlap-of-requires c κs = search needs
 
 enum-told : tie.Need-enum-told
 enum-told c = search needs
@@ -19,7 +19,7 @@ further-requires c κs = search needs
 
 returns : tie.Need-returns
 returns c =
-    past-by 13 (c .before .before .enum-told .given .1) (c .before .before .before .before .place-of .ensures) (c .before .word-count .ensures) (c .further .ensures) (omega arith)
+    past-by 13 (c .before .before .enum-told .given .1) (c .before .before .before .before .overlap-of .ensures) (c .before .word-count .ensures) (c .further .ensures) (omega arith)
 
 enum-told-2 : tie.Need-enum-told-2
 enum-told-2 c = search needs
@@ -39,7 +39,7 @@ enum-known-place c = search needs
 fill-word-requires : tie.Need-fill-word-requires
 fill-word-requires c κs =
     let word = c .before .before .before .before .before .before .args .word in
-    omega (arith, at-most-thirteen word (omega arith), starts 13 (c .before .before .place .given .1) (c .before .before .before .before .place-of .ensures) .1)
+    omega (arith, at-most-thirteen word (omega arith), starts 13 (c .before .before .place .given .1) (c .before .before .before .before .overlap-of .ensures) .1)
 
 sub-further : tie.Need-sub-further
 sub-further c = search needs
@@ -53,15 +53,15 @@ same-length-2 c = search needs
 returns-3 : tie.Need-returns-3
 returns-3 c =
     let place = c .before .before .before .before .before .before .place in
-    let place-of = c .before .before .before .before .before .before .before .before .place-of in
+    let overlap-of = c .before .before .before .before .before .before .before .before .overlap-of in
     let fill = c .before .before .before .fill-word in
-    inside-by 13 (place .given .1) (place-of .ensures) (omega (arith, fill .ensures .1)) (c .further2 .ensures) (fill .ensures .0) (omega arith)
+    inside-by 13 (place .given .1) (overlap-of .ensures) (omega (arith, fill .ensures .1)) (c .further2 .ensures) (fill .ensures .0) (omega arith)
 
 pub write-word-spec : {M : Type 1} → statement M
 write-word-spec =
     tie.close
     (tie.spec
-    place-of-requires
+    overlap-of-requires
     enum-told
     word-count-requires
     further-requires

@@ -1,8 +1,0 @@
-pub mod Parts
-pub mod HeadKinds
-pub mod Past
-pub mod Meeting
-pub mod Naming
-pub mod Seeking
-pub mod Loops
-pub mod Searching

@@ -1,0 +1,8 @@
+pub mod Parts
+pub mod HeadKinds
+pub mod Skipped
+pub mod Meeting
+pub mod Naming
+pub mod Seeking
+pub mod Loops
+pub mod Searching
