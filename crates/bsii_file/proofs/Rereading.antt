@@ -20,7 +20,7 @@ use Rattle.bsii_prototype.proofs.Names.{number-front}
 use Rattle.bsii_table.proofs.Relation.{holds-entered}
 use Rattle.bsii_parse.specs.Walks.{DefinedAt, recordsAt}
 use Rattle.bsii_parse.specs.declared.walk.Totals.{Totals}
-use Rattle.bsii_walk.specs.Seek.{Standing, Readable, blocksFrom}
+use Rattle.bsii_walk.specs.Seek.{WalkAt, Readable, blocksFrom}
 use Rattle.bsii_file.proofs.Lookups.{WasRead, holds-last}
 
 -- ---- the header has 8 bytes
@@ -72,7 +72,7 @@ file-parts words s {f} {n} e =
 -- ---- the second walk
 
 module _ {s t : List ℕ} {a : Totals} {t′ : List ℕ} (w : WasRead s t a t′) where
-  pub walk-first : Standing s (length t / 3) (a .rows) (prototypesOf (w .file .records)) t′ 8 [] (w .file .records)
+  pub walk-first : WalkAt s (length t / 3) (a .rows) (prototypesOf (w .file .records)) t′ 8 [] (w .file .records)
   unfolding prototypesOf
   walk-first = let p = file-parts (length t) s (w .parsed) in
       record { end = w .file .end; n = a .next; reads = p .reads; entered = holds-entered (DefinedAt s) (holds-last w); lasts = refl }

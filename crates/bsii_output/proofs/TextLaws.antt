@@ -20,7 +20,7 @@ use Rattle.bsii_parse.specs.Walks.{DefinedAt, ReadFile}
 use Rattle.bsii_parse.specs.declared.walk.Totals.{Totals}
 use Rattle.bsii_parse.specs.declared.walk.Walked.{Walked}
 use Rattle.bsii_parse.specs.declared.walk.Walked.the-variants.{Done, Fault as Stopped}
-use Rattle.bsii_walk.specs.Seek.{Standing, Readable}
+use Rattle.bsii_walk.specs.Seek.{WalkAt, Readable}
 use Rattle.bsii_file.proofs.Lookups.{was-read, read-answers, unread-refuses}
 use Rattle.bsii_file.proofs.Rereading.{file-parts, walk-first}
 use Rattle.bsii_length.proofs.Bounded.{text-bounded}
@@ -35,12 +35,12 @@ use Rattle.bsii_output.specs.declared.text.TextReply.the-variants.{Text,
 
 -- ---- the table after a walk
 
-stand-again : {s t : List ℕ} {rooms rows : ℕ} {last : List Prototype} {rest : List Record} {t′ : List ℕ} → Standing s rooms rows last t 8 [] rest → Entered (DefinedAt s) t′ rows [] last
-    → Standing s rooms rows last t′ 8 [] rest
+stand-again : {s t : List ℕ} {rooms rows : ℕ} {last : List Prototype} {rest : List Record} {t′ : List ℕ} → WalkAt s rooms rows last t 8 [] rest → Entered (DefinedAt s) t′ rows [] last
+    → WalkAt s rooms rows last t′ 8 [] rest
 stand-again w e = record { end = w .end; n = w .n; reads = w .reads; entered = e; lasts = w .lasts }
 
 module _ {s t : List ℕ} {rows : ℕ} {old : List ℕ} {e : ℕ} {t′ new : List ℕ} (h : BsiiWritten s 8 t rows old (To e) t′ new) where
-  pub serves : {rooms : ℕ} {last : List Prototype} {rest : List Record} → Standing s rooms rows last t 8 [] rest → Standing s rooms rows last t′ 8 [] rest
+  pub serves : {rooms : ℕ} {last : List Prototype} {rest : List Record} → WalkAt s rooms rows last t 8 [] rest → WalkAt s rooms rows last t′ 8 [] rest
   serves {rooms} {last} {rest} w = stand-again w (h .writes rooms last rest w .1)
 
   pub read-again : Readable s 8 t rows → Readable s 8 t′ rows
@@ -116,7 +116,7 @@ module _ (s t : List ℕ) (rows : ℕ) (old : List ℕ) {m : Texts} {t′ lent :
   pub text-measured : {e : ℕ} → m ≡ To e → {r : TextReply} {new : List ℕ} → TextWritten s t′ rows (lent ++ old) e r new → TextRead s t rows old r new
   text-measured {e} z {r} {new} v = record { answers = λ rooms last rest w b. go rooms last rest w b (framedText last rest) refl (walk-by z h .writes rooms last rest w .0) }
     where
-      go : (rooms : ℕ) (last : List Prototype) (rest : List Record) (w : Standing s rooms rows last t 8 [] rest) → ((x : List ℕ) → framedText last rest ≡ gives x → length x < 0x4000_0000_0000_0000)
+      go : (rooms : ℕ) (last : List Prototype) (rest : List Record) (w : WalkAt s rooms rows last t 8 [] rest) → ((x : List ℕ) → framedText last rest ≡ gives x → length x < 0x4000_0000_0000_0000)
           → (o : Reply (List ℕ)) → framedText last rest ≡ o → TextsAre [] 0x8000_0000_0000_0000 o (To e) lent → textIs r new ≡ textAnswer old o
       go rooms last rest w b (refuses f) q a = absurd a
       go rooms last rest w b (gives x) q a =

@@ -10,7 +10,7 @@ use Rattle.bsii_format.specs.Text.{valueText}
 use Rattle.bsii_format.specs.BlockText.{joined, fileOpening, closing, recordsText}
 use Rattle.bsii_format.specs.Calls.{TextAnswer, textAnswer}
 use Rattle.bsii_string.specs.Answers.{faultIs}
-use Rattle.bsii_walk.specs.Seek.{Standing}
+use Rattle.bsii_walk.specs.Seek.{WalkAt}
 use Rattle.bsii_output.specs.declared.text.TextReply.{TextReply}
 use Rattle.bsii_output.specs.declared.text.TextReply.the-variants.{Text, Refused}
 
@@ -25,10 +25,10 @@ framedText last l = joined (joined (gives fileOpening) (recordsText valueText la
 
 -- a text x, which was measured to end at `end`
 pub record TextWritten (s t : List ℕ) (rows : ℕ) (old : List ℕ) (end : ℕ) (r : TextReply) (new : List ℕ) : Type 0 where
-  pub answers : (rooms : ℕ) (last : List Prototype) (rest : List Record) → Standing s rooms rows last t 8 [] rest → (x : List ℕ) → framedText last rest ≡ gives x
+  pub answers : (rooms : ℕ) (last : List Prototype) (rest : List Record) → WalkAt s rooms rows last t 8 [] rest → (x : List ℕ) → framedText last rest ≡ gives x
       → end ≡ 0x8000_0000_0000_0000 + length x → textIs r new ≡ textAnswer old (gives x)
 
 -- a text that is short enough for its positions to be exact
 pub record TextRead (s t : List ℕ) (rows : ℕ) (old : List ℕ) (r : TextReply) (new : List ℕ) : Type 0 where
-  pub answers : (rooms : ℕ) (last : List Prototype) (rest : List Record) → Standing s rooms rows last t 8 [] rest
+  pub answers : (rooms : ℕ) (last : List Prototype) (rest : List Record) → WalkAt s rooms rows last t 8 [] rest
       → ((x : List ℕ) → framedText last rest ≡ gives x → length x < 0x4000_0000_0000_0000) → textIs r new ≡ textAnswer old (framedText last rest)

@@ -23,7 +23,7 @@ use Rattle.bsii_table.specs.declared.FoundRow.the-variants.{At, Nothing as NotF
 use Rattle.bsii_table.proofs.Relation.{entered-at, entered-nothing, still-defined}
 use Rattle.bsii_parse.specs.Walks.{DefinedAt}
 use Rattle.bsii_walk.specs.Again.{KindAt, PrototypeAgain}
-use Rattle.bsii_walk.specs.Seek.{Standing}
+use Rattle.bsii_walk.specs.Seek.{WalkAt}
 use Rattle.bsii_walk.specs.declared.records.RecordKind.{RecordKind}
 use Rattle.bsii_walk.specs.declared.records.RecordKind.the-variants.{Ends, Defines, Carries}
 use Rattle.bsii_walk.specs.declared.records.Met.{Met}
@@ -116,7 +116,7 @@ records-block last at b l {n} e {q} g = ap₂ (λ (o : Option Prototype) (k : �
 
 -- a block's answer, said of the records
 finish : (s : List ℕ) (at rows : ℕ) (old : List ℕ) (to rooms : ℕ) (last env : List Prototype) (rest : List Record) (n : ℕ) (b : DataBlock) (l : List Record) (r : WriteStep) (new t : List ℕ) (o : Reply (List ℕ))
-    → StepIs old to o n r new → recordsText valueText last at rest ≡ joined o (recordsText valueText last n l) → Standing s rooms rows last t n (define (block b) env) l → at < n → n ≤ length s
+    → StepIs old to o n r new → recordsText valueText last at rest ≡ joined o (recordsText valueText last n l) → WalkAt s rooms rows last t n (define (block b) env) l → at < n → n ≤ length s
     → Stepped s rooms rows last at env rest old to r t new
 unfolding joined
 finish s at rows old to rooms last env rest n b l (Go m r) new t (gives x) a e w p q =
@@ -128,13 +128,13 @@ finish s at rows old to rooms last env rest n b l (Refused g) new t (refuses f) 
 finish s at rows old to rooms last env rest n b l End new t (refuses f) a e w p q = absurd a
 
 module _ (s : List ℕ) (at : ℕ) (t : List ℕ) (rows : ℕ) (old : List ℕ) (to : ℕ) (inside : at ≤ length s) {k : RecordKind} (e : KindAt s at k) where
-  here : (rooms : ℕ) (last env : List Prototype) (rest : List Record) (w : Standing s rooms rows last t at env rest) → Accepted rooms env at s (w .n) (w .end) rest
+  here : (rooms : ℕ) (last env : List Prototype) (rest : List Record) (w : WalkAt s rooms rows last t at env rest) → Accepted rooms env at s (w .n) (w .end) rest
   here rooms last env rest w = accepted rooms env at s (w .n) (w .end) rest (w .reads)
 
   pub record-end : k ≡ Ends → RecordWritten s at t rows old to End t old
   record-end z = record { steps = λ rooms last env rest w. go rooms last env rest w refl (here rooms last env rest w); size = refl; tableSize = refl }
     where
-      go : (rooms : ℕ) (last env : List Prototype) (rest : List Record) (w : Standing s rooms rows last t at env rest) {l : List Record} → rest ≡ l → Accepted rooms env at s (w .n) (w .end) l
+      go : (rooms : ℕ) (last env : List Prototype) (rest : List Record) (w : WalkAt s rooms rows last t at env rest) {l : List Record} → rest ≡ l → Accepted rooms env at s (w .n) (w .end) l
           → Stepped s rooms rows last at env rest old to End t old
       go rooms last env rest w q (the-end h) = ended q refl (w .entered)
       go rooms last env rest w q (a-record (prototype p) n l h d) = ends≢defines (sym z ∙ is-prototype s at t rows e env p n (h .reads))
@@ -145,7 +145,7 @@ module _ (s : List ℕ) (at : ℕ) (t : List ℕ) (rows : ℕ) (old : List ℕ) 
   unfolding define defineAll
   record-prototype {id} z {r} {t′} a c x = record { steps = λ rooms last env rest w. go rooms last env rest w refl (here rooms last env rest w); size = refl; tableSize = x .size }
     where
-      go : (rooms : ℕ) (last env : List Prototype) (rest : List Record) (w : Standing s rooms rows last t at env rest) {l : List Record} → rest ≡ l → Accepted rooms env at s (w .n) (w .end) l
+      go : (rooms : ℕ) (last env : List Prototype) (rest : List Record) (w : WalkAt s rooms rows last t at env rest) {l : List Record} → rest ≡ l → Accepted rooms env at s (w .n) (w .end) l
           → Stepped s rooms rows last at env rest old to r t′ old
       go rooms last env rest w q (the-end {l = l} {m = m} {r = u} h) = ends≢defines (sym (is-end s at t rows e env l m u h) ∙ z)
       go rooms last env rest w q (a-record (block b) n l h d) = defines≢carries (sym z ∙ is-block s at t rows e env b n (h .reads))
@@ -161,7 +161,7 @@ module _ (s : List ℕ) (at : ℕ) (t : List ℕ) (rows : ℕ) (old : List ℕ) 
   unfolding define defineAll
   record-block {id} {next} z {r} {new} x = record { steps = λ rooms last env rest w. go rooms last env rest w refl (here rooms last env rest w); size = x .size; tableSize = refl }
     where
-      go : (rooms : ℕ) (last env : List Prototype) (rest : List Record) (w : Standing s rooms rows last t at env rest) {l : List Record} → rest ≡ l → Accepted rooms env at s (w .n) (w .end) l
+      go : (rooms : ℕ) (last env : List Prototype) (rest : List Record) (w : WalkAt s rooms rows last t at env rest) {l : List Record} → rest ≡ l → Accepted rooms env at s (w .n) (w .end) l
           → Stepped s rooms rows last at env rest old to r t new
       go rooms last env rest w q (the-end {l = l} {m = m} {r = u} h) = ends≢carries (sym (is-end s at t rows e env l m u h) ∙ z)
       go rooms last env rest w q (a-record (prototype p) n l h d) = defines≢carries (sym (is-prototype s at t rows e env p n (h .reads)) ∙ z)

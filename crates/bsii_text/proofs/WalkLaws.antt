@@ -14,7 +14,7 @@ use Rattle.bsii_string.specs.declared.answers.Refusal.{Refusal}
 use Rattle.bsii_table.specs.Rows.{Rows}
 use Rattle.bsii_table.proofs.Relation.{entered-again}
 use Rattle.bsii_parse.specs.Walks.{DefinedAt}
-use Rattle.bsii_walk.specs.Seek.{Standing, Readable}
+use Rattle.bsii_walk.specs.Seek.{WalkAt, Readable}
 use Rattle.bsii_window.specs.Window.{Wrote}
 use Rattle.bsii_window.proofs.Laws.{then, being, same}
 use Rattle.bsii_window.proofs.Loops.{begin}
@@ -30,7 +30,7 @@ use Rattle.bsii_text.proofs.FieldLaws.{joined-none, joined-behind}
 pub record Here (s : List ℕ) (rooms rows : ℕ) (last : List Prototype) (old : List ℕ) (to at here : ℕ) (t out : List ℕ) (whole : Reply (List ℕ)) : Type 0 where
   pub env : List Prototype
   pub rest : List Record
-  pub standing : Standing s rooms rows last t at env rest
+  pub standing : WalkAt s rooms rows last t at env rest
   pub done : List ℕ
   pub wrote : Wrote old to done here out
   pub text : whole ≡ joined (gives done) (recordsText valueText last at rest)
@@ -40,7 +40,7 @@ module _ (s : List ℕ) (start : ℕ) (t₀ : List ℕ) (rows : ℕ) (old : List
     pub inside : at ≤ length s
     pub size : length out ≡ length old
     pub tableSize : length t ≡ length t₀
-    pub walk : (rooms : ℕ) (last : List Prototype) (rest : List Record) → Standing s rooms rows last t₀ start [] rest
+    pub walk : (rooms : ℕ) (last : List Prototype) (rest : List Record) → WalkAt s rooms rows last t₀ start [] rest
         → Here s rooms rows last old to at here t out (recordsText valueText last start rest)
 
   pub go-start : start ≤ length s → to ≤ 0xffff_ffff_ffff_ffff → length old < 0x8000_0000_0000_0000 → Going start to t₀ old
@@ -64,7 +64,7 @@ module _ (s : List ℕ) (start : ℕ) (t₀ : List ℕ) (rows : ℕ) (old : List
 
     module _ {r : WriteStep} {t′ new : List ℕ} (h : RecordWritten s at t rows out here r t′ new) where
       -- the turn, for records that the walk started from
-      stepped : (rooms : ℕ) (last : List Prototype) (rest : List Record) (w : Standing s rooms rows last t₀ start [] rest)
+      stepped : (rooms : ℕ) (last : List Prototype) (rest : List Record) (w : WalkAt s rooms rows last t₀ start [] rest)
           → let x = g .walk rooms last rest w in Stepped s rooms rows last at (x .env) (x .rest) out here r t′ new
       stepped rooms last rest w = let x = g .walk rooms last rest w in h .steps rooms last (x .env) (x .rest) (x .standing)
 
@@ -107,7 +107,7 @@ module _ (s : List ℕ) (start : ℕ) (t₀ : List ℕ) (rows : ℕ) (old : List
         inside : n ≤ length s
         walk : Here s rooms rows last old to n m t′ new (recordsText valueText last start rest)
 
-      goes : (n m : ℕ) → r ≡ Go n m → (rooms : ℕ) (last : List Prototype) (rest : List Record) (w : Standing s rooms rows last t₀ start [] rest) → On rooms last rest n m
+      goes : (n m : ℕ) → r ≡ Go n m → (rooms : ℕ) (last : List Prototype) (rest : List Record) (w : WalkAt s rooms rows last t₀ start [] rest) → On rooms last rest n m
       goes n m z rooms last rest w = let x = g .walk rooms last rest w in go (x .done) (x .wrote) (x .text) (stepped rooms last rest w) z
         where
           go : {env : List Prototype} {rest₁ : List Record} {r : WriteStep} (done : List ℕ) → Wrote old to done here out → recordsText valueText last start rest ≡ joined (gives done) (recordsText valueText last at rest₁)

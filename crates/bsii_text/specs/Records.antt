@@ -16,7 +16,7 @@ use Rattle.bsii_string.specs.Answers.{faultIs}
 use Rattle.bsii_string.specs.declared.answers.Refusal.{Refusal}
 use Rattle.bsii_table.specs.Relation.{Entered}
 use Rattle.bsii_parse.specs.Walks.{DefinedAt}
-use Rattle.bsii_walk.specs.Seek.{Standing}
+use Rattle.bsii_walk.specs.Seek.{WalkAt}
 use Rattle.bsii_window.specs.Window.{Wrote}
 use Rattle.bsii_text.specs.declared.records.WriteStep.{WriteStep}
 use Rattle.bsii_text.specs.declared.records.WriteStep.the-variants.{Go, End, Refused}
@@ -48,13 +48,13 @@ pub record PrototypeStep (s : List ℕ) (at : ℕ) (t : List ℕ) (rows id to : 
 
 -- The records `rest` from `at` on: the first one i is passed and its text x written; or there is none left; or their text is refused.
 pub data Stepped (s : List ℕ) (rooms rows : ℕ) (last : List Prototype) (at : ℕ) (env : List Prototype) (rest : List Record) (old : List ℕ) (to : ℕ) : WriteStep → List ℕ → List ℕ → Type 0 where
-  went : (i : Record) (l : List Record) {n r : ℕ} {t new : List ℕ} (x : List ℕ) → Standing s rooms rows last t n (define i env) l → at < n → n ≤ length s
+  went : (i : Record) (l : List Record) {n r : ℕ} {t new : List ℕ} (x : List ℕ) → WalkAt s rooms rows last t n (define i env) l → at < n → n ≤ length s
       → recordsText valueText last at rest ≡ joined (gives x) (recordsText valueText last n l) → Wrote old to x r new → Stepped s rooms rows last at env rest old to (Go n r) t new
   ended : {t new : List ℕ} → rest ≡ [] → new ≡ old → Entered (DefinedAt s) t rows env last → Stepped s rooms rows last at env rest old to End t new
   refused : {f : Refusal} {t new : List ℕ} → recordsText valueText last at rest ≡ refuses (faultIs f) → Stepped s rooms rows last at env rest old to (Refused f) t new
 
 pub record RecordWritten (s : List ℕ) (at : ℕ) (t : List ℕ) (rows : ℕ) (old : List ℕ) (to : ℕ) (r : WriteStep) (t′ new : List ℕ) : Type 0 where
-  pub steps : (rooms : ℕ) (last env : List Prototype) (rest : List Record) → Standing s rooms rows last t at env rest → Stepped s rooms rows last at env rest old to r t′ new
+  pub steps : (rooms : ℕ) (last env : List Prototype) (rest : List Record) → WalkAt s rooms rows last t at env rest → Stepped s rooms rows last at env rest old to r t′ new
   pub size : length new ≡ length old
   pub tableSize : length t′ ≡ length t
 
@@ -72,14 +72,14 @@ Serves s rows last (To r) t = Entered (DefinedAt s) t rows [] last
 Serves s rows last (Not f) t = Unit {0}
 
 pub record RecordsWritten (s : List ℕ) (start : ℕ) (t : List ℕ) (rows : ℕ) (old : List ℕ) (to : ℕ) (r : Texts) (t′ new : List ℕ) : Type 0 where
-  pub writes : (rooms : ℕ) (last : List Prototype) (rest : List Record) → Standing s rooms rows last t start [] rest
+  pub writes : (rooms : ℕ) (last : List Prototype) (rest : List Record) → WalkAt s rooms rows last t start [] rest
       → TextsAre old to (recordsText valueText last start rest) r new × Serves s rows last r t′
   pub size : length new ≡ length old
   pub tableSize : length t′ ≡ length t
 
 -- the frame and the blocks, from the window's start on
 pub record BsiiWritten (s : List ℕ) (start : ℕ) (t : List ℕ) (rows : ℕ) (old : List ℕ) (r : Texts) (t′ new : List ℕ) : Type 0 where
-  pub writes : (rooms : ℕ) (last : List Prototype) (rest : List Record) → Standing s rooms rows last t start [] rest
+  pub writes : (rooms : ℕ) (last : List Prototype) (rest : List Record) → WalkAt s rooms rows last t start [] rest
       → TextsAre old 0x8000_0000_0000_0000 (joined (joined (gives fileOpening) (recordsText valueText last start rest)) (gives closing)) r new × Serves s rows last r t′
   pub size : length new ≡ length old
   pub tableSize : length t′ ≡ length t

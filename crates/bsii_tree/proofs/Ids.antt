@@ -23,11 +23,11 @@ number-fits w s at e =
     omega (arith, leb→le w (length (drop at s)) (c .0), length-drop at s)
 
 -- what a definition at an offset has there
-abbrev Stands : List ℕ → ℕ → ℕ → Type 0
-Stands s at id = (idOf s at ≡ id) × (at + 9 ≤ length s)
+abbrev IdAt : List ℕ → ℕ → ℕ → Type 0
+IdAt s at id = (idOf s at ≡ id) × (at + 9 ≤ length s)
 
 module _ (s : List ℕ) (at : ℕ) {id : ℕ} {name : List ℕ} {next : ℕ} {rest : List ℕ} where
-  id-past-mark : {j : ℕ} {u : List ℕ} → j ≡ at + 5 → u ≡ drop (at + 5) s → (m : ℕ) → markParser m j u ≡ ok (defining id name) next rest → Stands s at id
+  id-past-mark : {j : ℕ} {u : List ℕ} → j ≡ at + 5 → u ≡ drop (at + 5) s → (m : ℕ) → markParser m j u ≡ ok (defining id name) next rest → IdAt s at id
   unfolding markParser success _>>=_
   id-past-mark i r zero e = let z : _≡_ {A = ℕ} 0 1 = cc in absurd (omega arith)
   id-past-mark {j} {u} i r (suc m) e =
@@ -38,7 +38,7 @@ module _ (s : List ℕ) (at : ℕ) {id : ℕ} {name : List ℕ} {next : ℕ} {re
       (number-is 4 s (at + 5) n ∙ v, omega (arith, number-fits 4 s (at + 5) n))
 
   id-past-zero : (k : ℕ) {i : ℕ} {t : List ℕ} → i ≡ at + 4 → t ≡ drop (at + 4) s → (b : Bool)
-      → cond b (verify (λ m. leb m 1) malformed leU8 >>= markParser) (success (carrying k)) i t ≡ ok (defining id name) next rest → Stands s at id
+      → cond b (verify (λ m. leb m 1) malformed leU8 >>= markParser) (success (carrying k)) i t ≡ ok (defining id name) next rest → IdAt s at id
   unfolding success _>>=_ verify
   id-past-zero k l r false h = let z : _≡_ {A = ℕ} 0 1 = cc in absurd (omega arith)
   id-past-zero k {i} {t} l r true h =
@@ -49,7 +49,7 @@ module _ (s : List ℕ) (at : ℕ) {id : ℕ} {name : List ℕ} {next : ℕ} {re
       let five : at + 4 + 1 ≡ at + 5 = omega arith in
       id-past-mark (moved .0 ∙ five) (moved .1 ∙ ap (λ (n : ℕ). drop n s) five) (p .0) (p .4)
 
-  pub head-id : headParser at (drop at s) ≡ ok (defining id name) next rest → Stands s at id
+  pub head-id : headParser at (drop at s) ≡ ok (defining id name) next rest → IdAt s at id
   unfolding headParser _>>=_
   head-id e =
       let q = after-ok (number 4 at (drop at s)) (λ k. cond (eqb k 0) (verify (λ m. leb m 1) malformed leU8 >>= markParser) (success (carrying k))) e in

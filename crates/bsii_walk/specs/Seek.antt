@@ -12,7 +12,7 @@ use Rattle.bsii_format.specs.File.{Record, lengthLimit}
 use Rattle.bsii_format.specs.Calls.{Placed, isNamed}
 use Rattle.bsii_parse.specs.Walks.{DefinedAt}
 use Rattle.bsii_walk.specs.Cursor.{PartsOf}
-pub use Rattle.bsii_walk.specs.Cursor.{blocksFrom, Standing}
+pub use Rattle.bsii_walk.specs.Cursor.{blocksFrom, WalkAt}
 use Rattle.bsii_walk.specs.declared.cursor.Block as cursor
 use Rattle.bsii_walk.specs.declared.seek.Block.{Block}
 use Rattle.bsii_walk.specs.declared.seek.BlockAt.{BlockAt}
@@ -67,7 +67,7 @@ pub record Readable (s : List ℕ) (start : ℕ) (t : List ℕ) (rows : ℕ) : T
   pub rooms : ℕ
   pub last : List Prototype
   pub rest : List Record
-  pub standing : Standing s rooms rows last t start [] rest
+  pub standing : WalkAt s rooms rows last t start [] rest
 
 -- the whole search
 pub data Sought (s : List ℕ) (last : List Prototype) (o : Option Numbered) : BlockAt → Type 0 where
@@ -75,4 +75,4 @@ pub data Sought (s : List ℕ) (last : List Prototype) (o : Option Numbered) : B
   missed : o ≡ none → Sought s last o NoBlock
 
 pub record Seeks (s : List ℕ) (start : ℕ) (t : List ℕ) (rows : ℕ) (any : Bool) (name : List ℕ) (k : ℕ) (r : BlockAt) : Type 0 where
-  pub seeks : (rooms : ℕ) (last : List Prototype) (rest : List Record) → Standing s rooms rows last t start [] rest → Sought s last (seekIn last any name 0 k (blocksFrom start rest)) r
+  pub seeks : (rooms : ℕ) (last : List Prototype) (rest : List Record) → WalkAt s rooms rows last t start [] rest → Sought s last (seekIn last any name 0 k (blocksFrom start rest)) r
