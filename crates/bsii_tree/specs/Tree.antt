@@ -6,7 +6,7 @@ use mathlib.Core.Bool.{cond}
 use mathlib.Core.Option.{Option, none, some}
 use lib.Dec.{eqb}
 
--- the row that a search finds in so many steps: it is at the row r, and the next bits are those of `bits`
+-- the row that a search finds in n steps: it is at the row r, and the next bits are those of `bits`
 unfoldable pub search : (ℕ → ℕ) → (ℕ → ℕ → ℕ) → ℕ → ℕ → ℕ → ℕ → Option ℕ
 search key link id zero r bits = none
 search key link id (suc steps) r bits =

@@ -80,7 +80,7 @@ seek-count {any = any} {name = name} {left = left} h {last} {x} i e number l =
 
 -- ---- its loop
 
--- the search among all blocks is the one among those in front, where the next one has this number and so many wanted ones are passed over
+-- the search among all blocks is the one among those in front, where the next one has this number and `left` wanted ones are passed over
 pub record Asked (any : Bool) (name : List ℕ) (k number left : ℕ) (last : List Prototype) (all l : List (Placed DataBlock)) : Type 0 where
   pub equal : seekIn last any name 0 k all ≡ seekIn last any name number left l
 

@@ -45,7 +45,7 @@ seekIn last any name number left (b ∷ l) =
 pub record Wants (s : List ℕ) (o : ℕ) (any : Bool) (name : List ℕ) (r : Bool) : Type 0 where
   pub is : (q : Prototype) → DefinedAt s o q → r ≡ (any || same name (q .name))
 
--- a block that is wanted or not, with so many of the wanted ones to pass
+-- a block that is wanted or not, with n of the wanted ones to pass
 abbrev pub countOf : Bool → ℕ → Count
 countOf false left = Left left
 countOf true zero = Found

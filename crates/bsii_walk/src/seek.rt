@@ -19,7 +19,7 @@ pub enum BlockAt {
     NoBlock,
 }
 
-// A block in the search: it is the one, or so many of the wanted ones are passed over still.
+// A block in the search: it is the one, or n of the wanted ones are passed over still.
 pub enum Count {
     Found,
     Left(usize),
