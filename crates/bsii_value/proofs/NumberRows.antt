@@ -1,7 +1,7 @@
 -- A row of numbers ends at a place that a product gives, or runs out at one that a division gives.
 use mathlib.Core.Path.{_≡_, ap, _∙_}
 use Prim.Native.Nat.{ℕ, _+_, _-_, _*_, _/_, _^_, _≤_, _<_}
-use native.Mathlib.Nat.{mul-zero, div-mul-le-self, mul-le-mul-right, le-trans, le-of-lt, lt-of-le-of-lt, mul-le-mul-left, mul-lt-mul-of-pos-right}
+use native.Mathlib.Nat.{mul-zero, div-mul-le-self, mul-le-mul-right, le-trans, le-of-lt, lt-of-le-of-lt, mul-le-mul-left, mul-lt-mul-of-pos-right, pos-of-ne-zero, div-lt-iff-lt-mul}
 use native.Mathlib.Omega.{arith}
 use mathlib.Core.List.{List}
 use lib.ListN.{length, drop}
@@ -20,6 +20,10 @@ fitting n w l h = le-trans (mul-le-mul-right w h) (div-mul-le-self l w)
 pub product-below : {n m : ℕ} → n < 2 ^ 32 → m < 2 ^ 32 → n * m < 2 ^ 64
 product-below {n} {m} h k = lt-of-le-of-lt (mul-le-mul-left n (le-of-lt k)) (mul-lt-mul-of-pos-right h (omega arith))
 
+-- numbers that have bytes have a width
+pub wide : (n w l : ℕ) → l < n * w → 0 < w
+wide n w l h = pos-of-ne-zero (λ (e : w ≡ 0). let z : n * w ≡ 0 = ap (λ (k : ℕ). n * k) e ∙ mul-zero n in omega arith)
+
 module _ (s : List ℕ) (at n w : ℕ) where
   pub row-whole : n * w ≤ length s - at → Next (at + n * w) ≡ endOf (repeat n (number w) at (drop at s))
   unfolding endOf
@@ -36,3 +40,7 @@ module _ (s : List ℕ) (at n w : ℕ) where
   row-short e p h =
       ap (λ (l : ℕ). endOf {A = Unit {0}} (faultAt malformed (at + l / w * w))) e
       ∙ answer (repeat n (number w) at (drop at s)) (faultAt malformed (at + (length s - at) / w * w)) (numbers-short n w s at p (rw e at h))
+
+  -- where fewer bytes are left than all have, the count of numbers that fit needs no look
+  pub row-cut : {l : ℕ} → l ≡ length s - at → l < n * w → endOf {A = Unit {0}} (faultAt malformed (at + l / w * w)) ≡ endOf (repeat n (number w) at (drop at s))
+  row-cut e h = let p = wide n w _ h in row-short e p (div-lt-iff-lt-mul p .1 h)

@@ -49,13 +49,16 @@ fn product(n: u32, m: u32) -> usize
     (n as usize) * (m as usize)
 }
 
-// One value of a few numbers: only where it runs out a division says which number does.
+// One value of a few numbers. Where it runs out, fewer bytes are left than all of them have: a division says which number does, and how many there are is not
+// asked. So little code is compiled into each caller.
 pub fn numeric_end(s: &[u8], at: usize, n: Numeric) -> Parsed
     ensures { λ r. ⌜ r ≡ endOf (elementParser (numbers (numericIs n)) at (drop at (now (s .entry)))) ⌝ }
 {
     let total = byte_count(n);
-    if left(s, at) < total {
-        return numbers_end(s, at, size(arity(n)), size(width(n)));
+    let rest = left(s, at);
+    if rest < total {
+        let each = size(width(n));
+        return Parsed::Fault(refused(MALFORMED, at + rest / each * each));
     }
     Parsed::Next(at + total)
 }
@@ -107,14 +110,15 @@ pub fn value_parser(s: &[u8], at: usize, type_id: u32) -> Parsed
 {
     let shape = shape_of(type_id);
     match shape {
-        // The arms of element_parser once more: told apart here, a kind need not be read as a whole from where its parts were stored a moment before.
+        // The arms of element_parser once more: told apart here, a kind need not be read as a whole from where its parts were stored a moment before. Each
+        // returns by itself: arms that join would put together a refusal, part by part, for values that are accepted.
         Shape::One(kind) => match kind {
-            Kind::Numbers(n) => numeric_end(s, at, n),
-            Kind::String => str_end(s, at),
-            Kind::EncodedString => word_end(s, at),
-            Kind::Id => id_parser(s, at),
+            Kind::Numbers(n) => return numeric_end(s, at, n),
+            Kind::String => return str_end(s, at),
+            Kind::EncodedString => return word_end(s, at),
+            Kind::Id => return id_parser(s, at),
         },
-        Shape::Many(kind) => array_parser(s, at, kind),
-        Shape::Unlisted => Parsed::Fault(refused(UNLISTED_TYPE, at)),
+        Shape::Many(kind) => return array_parser(s, at, kind),
+        Shape::Unlisted => return Parsed::Fault(refused(UNLISTED_TYPE, at)),
     }
 }

@@ -1,17 +1,18 @@
 -- `values::numeric_end`: An element of numbers is a row of as many as its arity.
-use Prim.Native.Nat.{ℕ, _+_}
-use mathlib.Core.Path.{sym, ap, ap₂, _∙_}
+use Prim.Native.Nat.{ℕ, _+_, _*_, _/_}
+use mathlib.Core.Path.{sym, ap, _∙_}
+use native.Mathlib.Nat.{le-refl}
 use native.Mathlib.Omega.{arith}
 use lib.ListN.{drop}
 use denote.Ref.{now}
-use Rattle.bsii_format.specs.Reader.{repeat}
-use Rattle.bsii_format.specs.Numbers.{number}
+use Rattle.bsii_format.specs.Replies.{malformed}
+use Rattle.bsii_format.specs.Reader.{faultAt}
 use Rattle.bsii_format.specs.Types.{width, arity}
 use Rattle.bsii_string.specs.Answers.{endOf}
 use Rattle.bsii_string.specs.declared.answers.Parsed.the-variants.{Next}
 use Rattle.bsii_value.specs.Kinds.{numericIs}
 use Rattle.bsii_value.proofs.Elements.{numbers-end}
-use Rattle.bsii_value.proofs.NumberRows.{row-whole}
+use Rattle.bsii_value.proofs.NumberRows.{fitting, wide, row-whole, row-cut}
 use borrow.Author.Needs.{needs}
 use Rattle.bsii_value.proofs.values.numeric_end.Statement.{statement}
 use Rattle.bsii_value.proofs.values.numeric_end.Tie as tie
@@ -22,30 +23,41 @@ byte-count-requires c κs = search needs
 left-requires : tie.Need-left-requires
 left-requires c κs = search needs
 
-arity-requires : tie.Need-arity-requires
-arity-requires c κs = search needs
+width-requires : tie.Need-width-requires
+width-requires c κs = search needs
 
 size-requires : tie.Need-size-requires
 size-requires c κs = search needs
 
-width-requires : tie.Need-width-requires
-width-requires c κs = search needs
+div-refused : tie.Need-div-refused
+div-refused c =
+    let at-if = c .before .before in
+    let k = numericIs (at-if .before .before .before .before .args .n) in
+    omega (arith, wide (arity k) (width k) (at-if .before .left .result) (omega arith))
 
-size-requires-2 : tie.Need-size-requires-2
-size-requires-2 c κs = search needs
+mul-refused : tie.Need-mul-refused
+mul-refused c = let l = c .before .before .before .left .result in omega (arith, fitting (l / c .size .result) (c .size .result) l (le-refl _))
 
-numbers-end-requires : tie.Need-numbers-end-requires
-numbers-end-requires c κs = search needs
+add-refused : tie.Need-add-refused
+add-refused c = let l = c .before .before .before .left .result in omega (arith, fitting (l / c .size .result) (c .size .result) l (le-refl _))
+
+refused-requires : tie.Need-refused-requires
+refused-requires c κs = search needs
 
 returns : tie.Need-returns
+unfolding endOf
 returns c =
-    let a = c .before .before .before .before .before .before .before .before .before .args in
-    c .numbers-end .ensures
-    ∙ ap₂ (λ (n w : ℕ). endOf (repeat n (number w) (a .at) (drop (a .at) (now (a .s))))) (c .before .before .before .size .ensures ∙ c .before .before .before .before .arity .ensures) (c .before .size2 .ensures ∙ c .before .before .width .ensures)
-    ∙ sym (numbers-end (numericIs (a .n)) (a .at) (drop (a .at) (now (a .s))))
+    let at-if = c .before .before .before in
+    let a = at-if .before .before .before .before .args in
+    let k = numericIs (a .n) in
+    let l = at-if .before .left .result in
+    rw (c .refused .ensures)
+    (ap (λ (w : ℕ). endOf {A = Unit {0}} (faultAt malformed (a .at + l / w * w))) (c .before .size .ensures ∙ c .before .before .width .ensures)
+    ∙ row-cut (now (a .s)) (a .at) (arity k) (width k) (at-if .before .left .ensures) (omega arith)
+    ∙ sym (numbers-end k (a .at) (drop (a .at) (now (a .s)))))
 
-add-t5 : tie.Need-add-t5
-add-t5 c = search needs
+add-t13 : tie.Need-add-t13
+add-t13 c = search needs
 
 returns-2 : tie.Need-returns-2
 returns-2 c =
@@ -59,11 +71,12 @@ numeric-end-spec =
     (tie.spec
     byte-count-requires
     left-requires
-    arity-requires
-    size-requires
     width-requires
-    size-requires-2
-    numbers-end-requires
+    size-requires
+    div-refused
+    mul-refused
+    add-refused
+    refused-requires
     returns
-    add-t5
+    add-t13
     returns-2)
