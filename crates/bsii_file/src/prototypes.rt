@@ -2,6 +2,7 @@
 use bsii_parse::reading::bsii_parser;
 use bsii_parse::walk::Walked;
 use bsii_prototype::answers::Counted;
+use bsii_prototype::answers::NAME;
 use bsii_prototype::skip::fields_at;
 use bsii_prototype::skip::skip_fields;
 use bsii_string::answers::ABSENT;
@@ -37,7 +38,7 @@ fn prototype_at(s: &[u8], offset: usize) -> PrototypeReply
     match head {
         Parsed::Fault(f) => PrototypeReply::Refused(f),
         Parsed::Next(first) => {
-            let name = offset + 13;
+            let name = offset + NAME;
             let list = skip_fields(s, first);
             match list {
                 Counted::Fault(f) => PrototypeReply::Refused(f),

@@ -12,6 +12,7 @@ use bsii_string::answers::UNDEFINED_PROTOTYPE;
 use bsii_string::answers::refused;
 use bsii_string::numbers::size;
 use bsii_table::FoundRow;
+use bsii_table::word;
 use bsii_tree::Defined;
 use bsii_tree::define;
 use bsii_tree::find;
@@ -46,14 +47,6 @@ pub struct Totals {
 pub enum Walked {
     Done(Totals),
     Fault(Refusal),
-}
-
-// A file's offsets fit the table's words, by the length limit.
-fn word(x: usize) -> u32
-    requires { ⌜ x ≤ lengthLimit ⌝ }
-    ensures { λ r. ⌜ r ≡ x ⌝ }
-{
-    x as u32
 }
 
 // A prototype of this id, whose definitions start at `fields`. A new id without room is refused once the prototype is read whole.

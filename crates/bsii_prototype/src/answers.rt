@@ -1,6 +1,9 @@
 // What the readers answer: specs/Answers says what each case means.
 use bsii_string::answers::Refusal;
 
+// How far behind a prototype's offset its name's bytes start: record number, mark, id and the name's length stand in front of them.
+pub const NAME: usize = 13;
+
 // An entry of a list of field definitions. The name's bytes lie from name to name_end, where an enum list follows.
 pub enum Entry {
     Field {

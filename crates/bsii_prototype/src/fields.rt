@@ -3,9 +3,8 @@ use crate::answers::Counted;
 use crate::answers::Entry;
 use bsii_string::answers::Num;
 use bsii_string::answers::Parsed;
-use bsii_string::answers::Str;
 use bsii_string::numbers::le_u32;
-use bsii_string::strings::str_parser;
+use bsii_string::strings::str_end;
 ghost use mathlib.Core.Path.{_≡_};
 ghost use Prim.Native.Nat.{_+_};
 ghost use lib.ListN.{drop};
@@ -15,16 +14,6 @@ ghost use Rattle.bsii_format.specs.Prototypes.{enumValueParser, enumValuesParse
 ghost use Rattle.bsii_string.specs.Answers.{endOf};
 ghost use Rattle.bsii_prototype.specs.Entries.{definitionWith};
 ghost use Rattle.bsii_prototype.specs.Answers.{entryOf, countOf};
-
-fn str_end(s: &[u8], at: usize) -> Parsed
-    ensures { λ r. ⌜ r ≡ endOf (strParser at (drop at (now (s .entry)))) ⌝ }
-{
-    let string = str_parser(s, at);
-    match string {
-        Str::Text { start: _, next } => Parsed::Next(next),
-        Str::Refused(f) => Parsed::Fault(f),
-    }
-}
 
 pub fn enum_value_parser(s: &[u8], at: usize) -> Parsed
     ensures { λ r. ⌜ r ≡ endOf (enumValueParser at (drop at (now (s .entry)))) ⌝ }

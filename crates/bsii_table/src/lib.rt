@@ -7,15 +7,24 @@
 //
 // `find` and `enter` require `Rows`, that the rows are in the table and in that order: callers have it from the relation to the
 // definitions so far that they carry anyway.
-ghost use Prim.Native.Nat.{_<_};
+ghost use Prim.Native.Nat.{_<_, _≤_};
 ghost use mathlib.Core.Path.{_≡_};
 ghost use lib.ListN.{length, replicate};
+ghost use Rattle.bsii_format.specs.File.{lengthLimit};
 ghost use Rattle.bsii_table.specs.Rows.{Rows, lookup};
 ghost use Rattle.bsii_table.specs.Table.{foundRow, Locate, Enters};
 
 pub enum FoundRow {
     At { in_force: u32, last: u32 },
     Nothing,
+}
+
+// A file's offsets fit the table's words, by the length limit.
+pub fn word(x: usize) -> u32
+    requires { ⌜ x ≤ lengthLimit ⌝ }
+    ensures { λ r. ⌜ r ≡ x ⌝ }
+{
+    x as u32
 }
 
 // Where the row of an id starts.

@@ -5,6 +5,7 @@ use bsii_definition::pairs::pair_at;
 use bsii_definition::pairs::same_count;
 use bsii_lines::fields::Lines;
 use bsii_lines::fields::write_field;
+use bsii_prototype::answers::NAME;
 use bsii_prototype::skip::fields_at;
 use bsii_skip::skip_element;
 use bsii_string::answers::ENUM_VALUE;
@@ -182,6 +183,6 @@ pub fn write_data_block(
     if !same_fields(s, in_force, last, fields, last_fields) {
         return Written::Refused(refused(FIELD_COUNT, offset));
     }
-    let name = last + 13;
+    let name = last + NAME;
     write_body(out, to, s, id, start, fields, name, last_fields)
 }

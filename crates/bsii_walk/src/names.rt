@@ -1,4 +1,5 @@
 // Names of prototypes.
+use bsii_prototype::answers::NAME;
 use bsii_prototype::heads::tag;
 use bsii_prototype::skip::fields_at;
 use bsii_string::answers::Parsed;
@@ -12,7 +13,7 @@ pub fn name_is(s: &[u8], offset: usize, name: &[u8]) -> bool
     match head {
         Parsed::Fault(_) => false,
         Parsed::Next(end) => {
-            let start = offset + 13;
+            let start = offset + NAME;
             if end - start != name.len() {
                 return false;
             }

@@ -14,6 +14,7 @@ use bsii_string::numbers::size;
 use bsii_table::FoundRow;
 use bsii_table::enter;
 use bsii_table::find;
+use bsii_table::word;
 ghost use mathlib.Core.Path.{_≡_};
 ghost use Prim.Native.Nat.{_≤_};
 ghost use lib.ListN.{length};
@@ -120,13 +121,6 @@ pub fn skip_block(s: &[u8], prototype: usize, at: usize) -> Parsed
             }
         }
     }
-}
-
-fn word(x: usize) -> u32
-    requires { ⌜ x ≤ lengthLimit ⌝ }
-    ensures { λ r. ⌜ r ≡ x ⌝ }
-{
-    x as u32
 }
 
 // A prototype is in force from here on.
