@@ -15,9 +15,9 @@
  * sums. Nothing else is asked: any bytes, any length and any number are allowed, and each call ends. The library allocates nothing, keeps nothing
  * between calls and keeps no pointer, so calls with different tables and outputs may run at the same time.
  *
- * What the library needs. x86-64 and the System V calling convention. Of libc memcpy, memmove and memset, and nothing else. 2048 bytes of stack
- * for each call: tests/c/stack.c runs each call on a stack filled with a pattern and measures at most 1248, those three functions included; a
- * dynamic linker that binds them at their first call (without -z now) takes some kilobytes more at that time. Its code is position independent.
+ * What the library needs. x86-64 and the System V calling convention. Of libc memcpy and memset, and nothing else. 4096 bytes of stack for
+ * each call: tests/c/stack.c runs each call on a stack filled with a pattern and measures at most 3528, those two functions included; a dynamic
+ * linker that binds them at their first call (without -z now) takes some kilobytes more at that time. Its code is position independent.
  *
  * The file is read only. It may be any bytes, also none; with more than SII_LENGTH_LIMIT it is refused.
  *

@@ -1,7 +1,8 @@
 /*
  * How deep each call goes into the stack: it runs on a stack of its own, which was filled with a pattern, and the lowest byte that changed is
- * looked for. The file is that of the first argument, which has every type. Prints the most bytes of all calls, and exits with 1 if that is
- * more than the second argument, the number that the header promises, or if a call is refused.
+ * looked for. The file is that of the first argument, which has every type; then one with the prototype ids 0 and 1, which differ in the last
+ * bit that the sort of the rows comes to, so that it goes as deep as it can. Prints the most bytes of all calls, and exits with 1 if that is
+ * more than the second argument, the number that the header promises, or if a call answers otherwise than it must.
  */
 #define _XOPEN_SOURCE 700
 #include <stdio.h>
@@ -19,6 +20,8 @@ static size_t file_len;
 static ucontext_t here, there;
 static uintptr_t top;
 static int failed;
+/* what a look-up of a block answers: 0, or 13 in the file without blocks */
+static uint32_t of_block;
 
 #define FILE_AND_TABLE file, file_len, table, sizeof table / sizeof table[0]
 
@@ -27,11 +30,16 @@ static void expect(uint32_t number)
     failed |= number != 0;
 }
 
+static void expect_block(uint32_t number)
+{
+    failed |= number != of_block;
+}
+
 static void a_reading(void) { expect(sii_read(FILE_AND_TABLE).number); }
 static void a_prototype(void) { expect(sii_get_prototype(FILE_AND_TABLE, 1).number); }
-static void a_block(void) { expect(sii_block_at(FILE_AND_TABLE, 2).number); }
-static void a_named_block(void) { expect(sii_blocks_by_prototype_name(FILE_AND_TABLE, (const uint8_t *)"truck", 5, 1).number); }
-static void a_field(void) { expect(sii_field_of(FILE_AND_TABLE, 0, (const uint8_t *)"parent", 6).number); }
+static void a_block(void) { expect_block(sii_block_at(FILE_AND_TABLE, 2).number); }
+static void a_named_block(void) { expect_block(sii_blocks_by_prototype_name(FILE_AND_TABLE, (const uint8_t *)"truck", 5, 1).number); }
+static void a_field(void) { expect_block(sii_field_of(FILE_AND_TABLE, 0, (const uint8_t *)"parent", 6).number); }
 static void a_text(void) { expect(sii_to_siin(FILE_AND_TABLE, output, sizeof output).number); }
 
 /* every element of the first block's fields that have these names */
@@ -71,10 +79,20 @@ static size_t depth_of(void (*call)(void))
     return top - (uintptr_t)(stack + at);
 }
 
+static size_t greater(size_t a, size_t b)
+{
+    return a > b ? a : b;
+}
+
 int main(int count, char **words)
 {
-    static void (*const calls[])(void) = {a_reading, a_prototype, a_block, a_named_block, a_field, elements, a_text};
-    size_t at, most = 0, promised;
+    static void (*const calls[])(void) = {a_reading, a_prototype, a_block, a_named_block, a_field, a_text};
+    static const uint8_t deep[] = "BSII\2\0\0\0"
+                                  "\0\0\0\0\1\0\0\0\0\0\0\0\0\0\0\0\0"
+                                  "\0\0\0\0\1\1\0\0\0\0\0\0\0\0\0\0\0"
+                                  "\0\0\0\0";
+    const size_t how_many = sizeof calls / sizeof calls[0];
+    size_t at, most, promised;
     FILE *in;
     if (count != 3 || (in = fopen(words[1], "rb")) == NULL) {
         puts("stack FILE BYTES");
@@ -83,11 +101,15 @@ int main(int count, char **words)
     file_len = fread(file, 1, sizeof file, in);
     fclose(in);
     promised = (size_t)strtoul(words[2], NULL, 10);
-    for (at = 0; at < sizeof calls / sizeof calls[0]; at++) {
-        size_t depth = depth_of(calls[at]);
-        if (depth > most)
-            most = depth;
-    }
+    most = depth_of(elements);
+    for (at = 0; at < how_many; at++)
+        most = greater(most, depth_of(calls[at]));
+    /* the string's own zero is the end record's mark */
+    memcpy(file, deep, sizeof deep);
+    file_len = sizeof deep;
+    of_block = SII_ABSENT;
+    for (at = 0; at < how_many; at++)
+        most = greater(most, depth_of(calls[at]));
     printf("%lu\n", (unsigned long)most);
     return failed || most > promised || most < 100;
 }
