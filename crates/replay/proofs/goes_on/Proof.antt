@@ -1,3 +1,4 @@
+-- Where `fill` answered true, the buffer has n bytes at least, so the slice of its first n is inside it, and n long.
 use borrow.Author.Tests.{not-false}
 use mathlib.Core.Path.{sym}
 use borrow.Table.Elements.{length-take-le}

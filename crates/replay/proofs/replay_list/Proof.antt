@@ -1,3 +1,4 @@
+-- Invariant: no more records are equal than were compared, as a turn adds 1 at most, so the sum fits; buffers keep their lengths. Measure: records left.
 use Prim.Native.Nat.{_-_, _≤_}
 use mathlib.Core.Path.{_≡_, subst}
 use native.Mathlib.Omega.{arith}

@@ -1,3 +1,4 @@
+-- A turn answers 1, 0 or that a record is missing, so it is `AtMostOne`. The record's slice is inside the buffer, since `fill` answered true for n bytes.
 use borrow.Author.Tests.{not-false}
 use mathlib.Core.Path.{sym}
 use borrow.Table.Elements.{length-take-le}

@@ -1,3 +1,4 @@
+-- `print_into` answers a size within the output (`Starts` says so), so the prefix that is printed exists; the arrays have the lengths that it requires.
 use mathlib.Core.Path.{sym}
 use borrow.Table.Elements.{length-take-le}
 use borrow.Author.Needs.{needs}

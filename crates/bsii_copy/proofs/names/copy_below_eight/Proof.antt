@@ -1,3 +1,5 @@
+-- From four bytes on, the first four are stored and the last four over them: the name has at most eight, so no byte is left out (`last-stored`).
+-- What is stored twice is the same byte both times.
 use native.Mathlib.Omega.{arith}
 use denote.Ref.{now}
 use Rattle.bsii_copy.proofs.Copies.{last-stored}

@@ -1,3 +1,4 @@
+-- Below two bytes `copy_last` stores them all; else it stores what is left behind the first two, and the two pieces are the whole name (`rest-stored`).
 use mathlib.Core.Path.{_∙_}
 use native.Mathlib.Omega.{arith}
 use denote.Ref.{now}

@@ -1,3 +1,4 @@
+-- Byte i is stored behind the first i ones, which makes `take (i + 1)` of `take i` (law `eight`). No store changes a length, so every index stays inside.
 use native.Mathlib.Omega.{arith}
 use denote.Ref.{now}
 use lib.ListN.{length-set}

@@ -1,3 +1,4 @@
+-- Each byte is stored right behind those before it, so four single stores are one of `take 4` (law `four`); `length-set` keeps the indices inside.
 use native.Mathlib.Omega.{arith}
 use denote.Ref.{now}
 use lib.ListN.{length-set}

@@ -1,3 +1,4 @@
+-- Eight bytes stored behind the first i make the first i + 8 (`piece-stored`); the tests of the length, and its bound of 32, leave at most eight.
 use native.Mathlib.Omega.{arith}
 use denote.Ref.{now}
 use Rattle.bsii_copy.proofs.Copies.{piece-stored}

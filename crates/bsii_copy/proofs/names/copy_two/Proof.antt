@@ -1,3 +1,4 @@
+-- The second byte is stored right behind the first, so the two stores are one of `take 2` (law `two`); the first leaves the length as it is.
 use native.Mathlib.Omega.{arith}
 use denote.Ref.{now}
 use lib.ListN.{length-set}

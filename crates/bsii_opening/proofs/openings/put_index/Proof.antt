@@ -1,3 +1,5 @@
+-- `count` is the text's length (`index-length`, from the number of digits), so the law of the place that `overlap_of` answered applies: past, or inside.
+-- Across an edge the other function's contract is the answer. `count-most` bounds the digits, so that the sum fits.
 use Prim.Native.Nat.{_+_}
 use native.Mathlib.Omega.{arith}
 use denote.Ref.{now}

@@ -1,3 +1,4 @@
+-- Five writes, each from where the one before it ended, are one write of the pieces in a row (`then`); put together, they are the text (`index-text`).
 use denote.Ref.{now}
 use Rattle.bsii_window.proofs.Laws.{then, being}
 use Rattle.bsii_opening.proofs.LineLaws.{index-text}

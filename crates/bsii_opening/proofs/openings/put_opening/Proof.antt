@@ -1,3 +1,5 @@
+-- `count` is the text's length (`opening-length`), so what `overlap_of` answered decides: past the end nothing is stored (`past`), inside all of it is.
+-- Across an edge the other function's contract is the answer.
 use Prim.Native.Nat.{_+_}
 use native.Mathlib.Omega.{arith}
 use denote.Ref.{now}

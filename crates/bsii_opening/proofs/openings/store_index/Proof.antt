@@ -1,3 +1,5 @@
+-- Every piece starts where the one before it ends, so the stores are one of the whole text (`index-stored`): the digits, filled in from their end, start
+-- right behind the bracket, as `digits` is how many there are.
 use mathlib.Core.List.{_++_}
 use native.Mathlib.Omega.{arith}
 use denote.Ref.{now}

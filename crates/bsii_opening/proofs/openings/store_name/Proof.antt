@@ -1,3 +1,4 @@
+-- Two single stores are one of two spaces, and the name is stored where they end, so it is one store of both in a row (`name-stored`).
 use mathlib.Core.List.{_++_}
 use native.Mathlib.Omega.{arith}
 use denote.Ref.{now}

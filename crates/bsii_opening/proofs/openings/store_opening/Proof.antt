@@ -1,3 +1,4 @@
+-- Two spaces and the name take two bytes more than the name, which is where the colon goes: what is stored there joins on (`opening-stored`).
 use Prim.Native.Nat.{_+_}
 use native.Mathlib.Omega.{arith}
 use denote.Ref.{now}

@@ -1,3 +1,4 @@
+-- With two bytes left, the little-endian number there is the first byte and 256 times the second (`two-bytes`); with fewer there is none, which counts as 0.
 use mathlib.Core.Path.{sym, ap, _∙_}
 use native.Mathlib.Omega.{arith}
 use denote.Ref.{now}

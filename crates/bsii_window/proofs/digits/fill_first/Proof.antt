@@ -1,3 +1,4 @@
+-- Below 10 the number is its one digit; from 10 on, below 100, it has two, the quotient and the rest by 10: these are all of `decimal n`.
 use mathlib.Core.Path.{refl, _∙_}
 use native.Mathlib.Omega.{arith}
 use Rattle.bsii_window.proofs.DigitLaws.{decimal-one, decimal-pair, count-one, count-two}

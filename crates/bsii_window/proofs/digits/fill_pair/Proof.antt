@@ -1,3 +1,4 @@
+-- Storing a list is storing its elements at one index after the other, so two single stores are a store of both digits; the first keeps the length.
 use Prim.Native.Nat.{suc, _+_}
 use mathlib.Core.Path.{_≡_, refl}
 use native.Mathlib.Omega.{arith}

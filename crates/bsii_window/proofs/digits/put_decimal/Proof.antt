@@ -1,3 +1,4 @@
+-- A number of 64 bits has at most 20 digits, so they fit; filled in up to `count` they start at 0, and the first `count` bytes are the number's text.
 use mathlib.Core.Path.{sym, ap, _∙_}
 use native.Mathlib.Omega.{arith}
 use lib.ListN.{take}

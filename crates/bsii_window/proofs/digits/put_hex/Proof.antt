@@ -1,3 +1,4 @@
+-- `hexPadded` has as many digits as it is asked for, 16 at most, so they fit; filled in up to `count` they start at 0, and the first `count` bytes are all.
 use mathlib.Core.Path.{sym, ap, _∙_}
 use native.Mathlib.Omega.{arith}
 use lib.ListN.{take}

@@ -1,3 +1,4 @@
+-- A number has one digit, and one more for each power of ten that it reaches; below 10^8 only the seven that are added up can be (`eight-digits`).
 use native.Mathlib.Omega.{arith}
 use Rattle.bsii_window.proofs.Counts.{eight-digits}
 use borrow.Author.Needs.{needs}

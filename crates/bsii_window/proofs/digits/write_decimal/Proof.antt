@@ -1,3 +1,5 @@
+-- `count` is the number of digits, so the law of the place applies. Inside, the digits that are filled in up to `start + count` start at `start`, since there
+-- are `count` of them; past the end nothing is stored.
 use Prim.Native.Nat.{ℕ, _+_, _-_}
 use mathlib.Core.Path.{_≡_, ap, _∙_}
 use native.Mathlib.Omega.{arith}

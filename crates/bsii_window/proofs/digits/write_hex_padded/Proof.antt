@@ -1,3 +1,5 @@
+-- `hexPadded` has `count` digits (`padded-length`), so the place of `count` bytes is the text's: past the end nothing is stored, and inside, the digits
+-- filled in up to `start + count` start at `start`.
 use Prim.Native.Nat.{ℕ, _+_, _-_}
 use mathlib.Core.Path.{_≡_, sym, ap, _∙_}
 use native.Mathlib.Omega.{arith}

@@ -1,3 +1,4 @@
+-- A byte in front of the window (`written-none`) or past its end (`written-past`) leaves it as it was; else it is the one at its index (`written-in`).
 use mathlib.Core.Path.{sym}
 use mathlib.Core.List.{[], _∷_}
 use native.Mathlib.Omega.{arith}

@@ -1,3 +1,5 @@
+-- Four places, each with its law of `written`: a text that ends before the window, one that starts before it (its first bytes are dropped), one past the end,
+-- and one that starts in it. The end is `further`'s answer in all of them.
 use mathlib.Core.Path.{sym, ap, _∙_}
 use native.Mathlib.Omega.{arith}
 use denote.Ref.{now}

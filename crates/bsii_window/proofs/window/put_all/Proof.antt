@@ -1,3 +1,4 @@
+-- The law of the place that `overlap_of` answered: past the end nothing is stored and the position is capped, and inside, a store of all is what is written.
 use native.Mathlib.Omega.{arith}
 use mathlib.Core.Path.{refl}
 use denote.Ref.{now}

@@ -1,3 +1,4 @@
+-- `boolText` tells 0 from all other numbers as the test does: the branch taken says which of its two texts it is.
 use mathlib.Core.Path.{sym}
 use Rattle.bsii_window.proofs.Laws.{being}
 use Rattle.bsii_write.proofs.NumberLaws.{false-text, true-text}

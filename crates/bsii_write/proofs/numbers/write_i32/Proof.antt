@@ -1,3 +1,4 @@
+-- Below 2^31 the two's complement is the number itself (`positive`); from there on it stands for 2^32 less, so 2^32 - n is its size behind a minus.
 use mathlib.Core.Path.{sym, refl}
 use Rattle.bsii_window.proofs.Laws.{being}
 use Rattle.bsii_write.proofs.NumberLaws.{positive, negative}

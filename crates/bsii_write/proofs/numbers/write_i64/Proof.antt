@@ -1,3 +1,4 @@
+-- Below 2^63 the bits are the number itself; from there on they stand for 2^64 less, whose size is 2^64 - n, worked out so that no step leaves 64 bits.
 use mathlib.Core.Path.{sym, refl}
 use Rattle.bsii_window.proofs.Laws.{being}
 use Rattle.bsii_write.proofs.NumberLaws.{positive, negative}

@@ -1,3 +1,4 @@
+-- `orNil` tests for the largest number first: where n is it, its text is `nil`, else its decimal digits, and the branch taken is that test.
 use mathlib.Core.Path.{sym}
 use Rattle.bsii_window.proofs.Laws.{being}
 use Rattle.bsii_write.proofs.NumberLaws.{nil-text, decimal-text}

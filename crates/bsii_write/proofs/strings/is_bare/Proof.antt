@@ -1,3 +1,4 @@
+-- The bounds passed so far place the byte before, inside or past each of the three ranges and tell it from `_`: `isBare` is the disjunction of these four.
 use mathlib.Core.Path.{sym}
 use borrow.Author.Tests.{eq-eqb, ne-eqb}
 use Rattle.bsii_write.proofs.RunLaws.{inside, before, past, bare}

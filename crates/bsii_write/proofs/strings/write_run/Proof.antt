@@ -1,3 +1,4 @@
+-- A run's text is its raw bytes, then the escape of the byte at `end` if there is one (`run-escape`), else nothing (`run-last`): two writes join to one.
 use mathlib.Core.Path.{sym, _∙_}
 use mathlib.Core.List.{append-nil}
 use denote.Ref.{now}

@@ -1,3 +1,4 @@
+-- `stringText` asks the same two things: empty is two quotes, all bare is the bytes themselves, and else three writes join to the quoted one.
 use mathlib.Core.Path.{sym, _∙_}
 use denote.Ref.{now}
 use Rattle.bsii_window.proofs.Laws.{then, being}

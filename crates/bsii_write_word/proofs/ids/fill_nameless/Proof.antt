@@ -1,3 +1,4 @@
+-- `_nameless` takes nine bytes and the groups the rest of `count`, so groups filled in up to the end start right behind it: the two stores are one.
 use Prim.Native.Nat.{ℕ, _+_, _-_}
 use mathlib.Core.Path.{_≡_, ap, _∙_}
 use mathlib.Core.List.{List}

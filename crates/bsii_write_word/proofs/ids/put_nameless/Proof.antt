@@ -1,3 +1,4 @@
+-- No such id of 64 bits is longer than 29 bytes (`nameless-most`), so it fits; stored from 0 on, it is the first `count` bytes, and those are written.
 use mathlib.Core.Path.{refl, sym, ap, _∙_}
 use native.Mathlib.Omega.{arith}
 use borrow.Author.Needs.{needs}

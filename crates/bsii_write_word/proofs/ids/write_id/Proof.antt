@@ -1,3 +1,5 @@
+-- The first byte decides as in `idParser`: 0xff is nameless, and any other counts the words, where none is `null`. One law for each of the three says what
+-- the text of an accepted id is by its bytes.
 use mathlib.Core.Path.{sym, ap, _∙_}
 use Prim.Native.Nat.{ℕ}
 use denote.Ref.{now}

@@ -1,3 +1,4 @@
+-- `nameless_count` is the text's length, so the law of the place that `overlap_of` answered for it applies: past nothing is stored, inside all of it is.
 use native.Mathlib.Omega.{arith}
 use Rattle.bsii_window.proofs.Laws.{past, starts, inside-sum}
 use borrow.Author.Needs.{needs}

@@ -1,3 +1,4 @@
+-- By how many digits to base 38 the rest has: 0 spells nothing, below 38 it is one character, and below 38^2 two, with nothing left to spell behind them.
 use mathlib.Core.Path.{_≡_, refl, sym, ap, _∙_}
 use Prim.Native.Nat.{_+_, _/_, _%_}
 use native.Mathlib.Omega.{arith}

@@ -1,3 +1,4 @@
+-- A word of 64 bits has at most thirteen characters, so they fit; stored from 0 on, they are the bytes up to the end that was answered, which are written.
 use Prim.Native.Nat.{_≤_}
 use mathlib.Core.Path.{_≡_, refl, sym, ap, _∙_}
 use native.Mathlib.Omega.{arith}

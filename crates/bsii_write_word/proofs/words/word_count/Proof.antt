@@ -1,3 +1,4 @@
+-- A spelling is one character longer for each power of 38 that the number reaches, 38^0 among them; thirteen are all that 64 bits can reach (`thirteen`).
 use native.Mathlib.Omega.{arith}
 use Rattle.bsii_write_word.proofs.WordLaws.{thirteen}
 use borrow.Author.Needs.{needs}

@@ -1,3 +1,4 @@
+-- `encodedText` is two quotes for 0 (`encoded-none`) and the spelling for every other word (`encoded-word`), which is what the branch writes.
 use mathlib.Core.Path.{sym}
 use Rattle.bsii_window.proofs.Laws.{being}
 use Rattle.bsii_write_word.specs.Words.{encodedText}

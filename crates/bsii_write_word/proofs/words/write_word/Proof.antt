@@ -1,3 +1,5 @@
+-- The place is that of thirteen bytes, the most that a spelling has: with room for those the spelling has room (`inside-by`), and a start past the end is
+-- past it for any length (`past-by`).
 use native.Mathlib.Omega.{arith}
 use Rattle.bsii_window.proofs.Laws.{past-by, starts, inside-by}
 use Rattle.bsii_write_word.proofs.WordLaws.{at-most-thirteen}

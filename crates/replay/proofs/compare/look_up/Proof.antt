@@ -1,3 +1,4 @@
+-- A part ends at least four bytes behind where its length stands (`Inside`), and the second part starts at the first one's end: so `next` is behind `at`.
 use native.Mathlib.Omega.{arith}
 use denote.Ref.{now}
 use Rattle.replay.proofs.Parts.{inside}

@@ -1,3 +1,4 @@
+-- The loop ends, since a look-up goes on behind where it started (`Later`), so less of the record is left; the invariant is that the table keeps its length.
 use Prim.Native.Nat.{_-_}
 use mathlib.Core.Path.{_≡_, subst}
 use native.Mathlib.Omega.{arith}

@@ -1,3 +1,4 @@
+-- `sameNumber` asks the same of the call's answer: a number is compared, a refusal is never the same. The reply found is that answer, by the call's contract.
 use mathlib.Core.Path.{sym, ap, _∙_}
 use Rattle.bsii_file.specs.Answers.{numberIs}
 use lib.Dec.{eqb}

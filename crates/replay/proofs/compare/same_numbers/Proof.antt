@@ -1,3 +1,4 @@
+-- Invariant: n is at most `at`, as a turn adds 1 to the one and 4 to the other, so with `at` n stays in range; the table keeps its length. Measure: bytes left.
 use Prim.Native.Nat.{_≤_, _-_}
 use mathlib.Core.Path.{_≡_}
 use lib.ListN.{length}

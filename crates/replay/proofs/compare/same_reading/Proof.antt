@@ -1,3 +1,4 @@
+-- What `parse` answered is what `readingCall` gives, by its contract, and `sameReading` has the same two cases: a refusal's number, or the counts.
 use mathlib.Core.Path.{sym, ap, _∙_}
 use Rattle.bsii_parse.specs.Answers.{readingIs}
 use Rattle.replay.specs.Agree.{sameReading}

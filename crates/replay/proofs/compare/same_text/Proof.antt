@@ -1,3 +1,5 @@
+-- What `to_siin` answered is `textCall`'s answer, and `sameText` has the same cases: a refusal's number; a text against a refusal (`unlike`); or the bytes
+-- against the text where the Rust refuses nothing (`alike`).
 use mathlib.Core.Path.{sym, ap, _∙_}
 use denote.Ref.{now}
 use Rattle.bsii_output.specs.Answers.{textIs}

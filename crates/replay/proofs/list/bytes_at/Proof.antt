@@ -1,3 +1,4 @@
+-- A part that is not cut lies inside the record: `Inside` puts its start before its end, and its end within the length, so the slice's bounds hold.
 use native.Mathlib.Omega.{arith}
 use denote.Ref.{now}
 use Rattle.replay.proofs.Parts.{inside}

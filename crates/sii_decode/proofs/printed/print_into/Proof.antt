@@ -1,3 +1,5 @@
+-- An input over the bound makes `program` a refusal (`longer`); else it is the text call's answer (`call-answers`): a text stands at the output's start
+-- already, and a refusal is printed there.
 use mathlib.Core.Path.{sym, ap, subst, _∙_}
 use denote.Ref.{now}
 use Rattle.bsii_format.specs.Replies.{refuses}

@@ -1,3 +1,4 @@
+-- The five pieces are written one behind the other, so they are one write of all in a row (`then`), which is how `printed` spells a refusal.
 use Rattle.bsii_format.specs.Calls.{printed}
 use Rattle.bsii_window.proofs.Laws.{then}
 use borrow.Author.Needs.{needs}

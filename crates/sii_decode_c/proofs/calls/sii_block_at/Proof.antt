@@ -1,3 +1,4 @@
+-- The arm's reply is `blockCall`'s answer, by the contract of `block_at`, and `blockOut` of it has the same fields as the arm's struct, block or refusal.
 use mathlib.Core.Path.{sym, ap, _∙_}
 use Rattle.bsii_file.specs.Answers.{blockIs}
 use Rattle.sii_decode_c.specs.Exports.{blockOut}

@@ -1,3 +1,4 @@
+-- The reply is `namedBlockCall`'s, by the contract of the call inside, whose table is left alone; `numberOut` of the arm's reply is the struct, value or fault.
 use mathlib.Core.Path.{sym, ap, _∙_}
 use Rattle.bsii_file.specs.Answers.{numberIs}
 use Rattle.sii_decode_c.specs.Exports.{numberOut}

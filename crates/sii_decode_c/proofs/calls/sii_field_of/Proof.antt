@@ -1,3 +1,4 @@
+-- `field` answers as `fieldCall` does. The arm says which reply it was, and `fieldOut` of it keeps just the type and the part's place, as the struct does.
 use mathlib.Core.Path.{sym, ap, _∙_}
 use denote.Ref.{now}
 use Rattle.bsii_file_field.specs.Answers.{fieldIs}

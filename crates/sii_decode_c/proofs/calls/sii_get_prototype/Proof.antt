@@ -1,3 +1,4 @@
+-- `get_prototype` answers as `prototypeCall` does, and `prototypeOut` goes by the same two cases: name and field count behind a 0, or a fault and zeros.
 use mathlib.Core.Path.{sym, ap, _∙_}
 use Rattle.bsii_file.specs.Answers.{prototypeIs}
 use Rattle.sii_decode_c.specs.Exports.{prototypeOut}

@@ -1,3 +1,4 @@
+-- `parse` answers as `readingCall` does and clears the table; knowing which arm was taken, `readingOut` of that answer is the struct field by field.
 use mathlib.Core.Path.{sym, ap, _∙_}
 use Rattle.bsii_parse.specs.Answers.{readingIs}
 use Rattle.sii_decode_c.specs.Exports.{readingOut}

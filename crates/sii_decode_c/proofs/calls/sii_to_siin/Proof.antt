@@ -1,3 +1,4 @@
+-- One equation carries all: the arm's reply with the output that `to_siin` left is `textCall`'s answer. `textOut` of it is the struct.
 use mathlib.Core.Path.{sym, ap, _∙_}
 use Rattle.bsii_format.specs.Calls.{TextAnswer}
 use Rattle.bsii_output.specs.Answers.{textIs}

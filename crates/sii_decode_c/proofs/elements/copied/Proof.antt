@@ -1,3 +1,5 @@
+-- One arm for each kind: the arm says which element it is, and `elementOut` of that is the struct made. Words are equal one by one (`words-same`), and a
+-- signed number is the same once read back from its bits (`keeps`).
 use mathlib.Core.Path.{refl, sym, ap, _∙_}
 use Rattle.bsii_element.specs.Cases.{elementIs}
 use mir.Syntax.{w32, w64}

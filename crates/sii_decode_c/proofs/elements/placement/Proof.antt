@@ -1,3 +1,4 @@
+-- Each of the eight fields is the `word` of its float, by the contract of `bits`, and structs whose words are equal one by one are equal (`words-same`).
 use Rattle.sii_decode_c.proofs.Words.{words-same}
 use borrow.Author.Needs.{needs}
 use Rattle.sii_decode_c.proofs.elements.placement.Statement.{statement}
