@@ -1,3 +1,5 @@
+-- A pair that enumValueParser accepts has a number and a string, whose end the unchecked string has too: so NoPair is met at no accepted pair,
+-- and the text stands behind the string's four bytes of length, up to that end.
 use mathlib.Core.Path.{sym, ap, _∙_}
 use native.Mathlib.Omega.{arith}
 use denote.Ref.{now}

@@ -1,3 +1,5 @@
+-- A type other than 0x37 has the empty list, where no number is found; a list without a count is never accepted; else last_pair looks through
+-- `count` pairs behind the count, and these are the list.
 use mathlib.Core.Path.{sym, ap, _∙_}
 use native.Mathlib.Omega.{arith}
 use denote.Ref.{now}

@@ -1,3 +1,5 @@
+-- shape_of is shapeOf, so each arm is the valueParser of its shape. In an array the value was accepted first, which is all that in_array asks;
+-- a value that is refused, or a type that is not listed, is refused by ofValue with the same fault.
 use mathlib.Core.Path.{_≡_, sym, ap, _∙_}
 use mathlib.Core.Option.{Option, some}
 use denote.Ref.{now}

@@ -1,3 +1,4 @@
+-- elementParser of an id is idParser with its value wrapped, which moves no end and no fault; an id ends no earlier than it starts, so the size fits.
 use mathlib.Core.Path.{sym, _∙_}
 use lib.ListN.{drop}
 use denote.Ref.{now}

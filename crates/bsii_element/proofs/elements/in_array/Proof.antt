@@ -1,3 +1,5 @@
+-- The array was accepted, so its row has as many elements as the count says, and the walk that checks nothing ends where they do: an index below
+-- the count finds its element there and never a fault, and one from the count on finds none.
 use mathlib.Core.Path.{ap, _∙_}
 use native.Mathlib.Omega.{arith}
 use denote.Ref.{now}

@@ -1,3 +1,5 @@
+-- A single value is a list of one element at 0: index 0 decodes it, any other index is absent once the value is accepted, and its fault is the
+-- value's own.
 use mathlib.Core.Path.{sym, ap, _∙_}
 use Prim.Native.Nat.{ℕ}
 use mathlib.Core.Option.{some}

@@ -1,3 +1,5 @@
+-- An accepted string ends at at + 4 + its length, so its bytes start behind the u32, and what is left up to the end is their number: both
+-- subtractions fit for the same reason.
 use mathlib.Core.Path.{sym, _∙_}
 use native.Mathlib.Omega.{arith}
 use lib.ListN.{drop}

@@ -1,3 +1,5 @@
+-- Numbers that were accepted lie inside the file, so the rest of the file starts with them, and reading them there gives the numbers that the
+-- parser gave; a fault is the parser's own.
 use mathlib.Core.Path.{sym, _∙_}
 use native.Mathlib.Omega.{arith}
 use lib.ListN.{drop}

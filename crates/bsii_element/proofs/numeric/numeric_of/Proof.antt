@@ -1,3 +1,5 @@
+-- With the kind known, arity and width say which numbers numbersAt reads from 0 on: they are those that the arm's reader takes, and numericDatum
+-- makes of them what the arm's conversion does. A signed number fits its type, so storing it keeps it.
 use mathlib.Core.Path.{sym, ap, _∙_}
 use Prim.Native.Nat.{ℕ}
 use mathlib.Core.Bool.{Bool}

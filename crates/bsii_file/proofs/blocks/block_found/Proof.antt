@@ -1,3 +1,4 @@
+-- The block was accepted, so skip_id ends where its id does and meets no fault, and the u32 that its record starts with is its prototype id.
 use denote.Ref.{now}
 use Rattle.bsii_file.proofs.BlockCalls.{answered-fault, id-later, answered}
 use borrow.Author.Needs.{needs}

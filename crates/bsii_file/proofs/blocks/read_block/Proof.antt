@@ -1,3 +1,5 @@
+-- A file that was read leaves a table from which its records can be walked again; seek for any name is the k-th of the file's blocks, or none,
+-- which the call calls absent. A file that is refused is refused by the call with the same fault.
 use Rattle.bsii_file.proofs.Lookups.{was-read}
 use Rattle.bsii_file.proofs.Rereading.{readable}
 use Rattle.bsii_file.proofs.BlockCalls.{block-refused, block-absent, block-answers}

@@ -1,3 +1,5 @@
+-- As in read_block, but seek passes over blocks of other names: what it finds is the n-th of the blocks whose last prototype has the name, and
+-- the number it carries is that block's among all blocks.
 use denote.Ref.{now}
 use Rattle.bsii_file.proofs.Lookups.{was-read}
 use Rattle.bsii_file.proofs.Rereading.{readable}

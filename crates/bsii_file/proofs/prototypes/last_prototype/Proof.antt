@@ -1,3 +1,4 @@
+-- The table keeps the definitions: no row for an id means no definition of it, and a row's `last` is the offset of the last one, where it stands.
 use Rattle.bsii_file.proofs.Definitions.{last-absent, last-answers}
 use borrow.Author.Needs.{needs}
 use Rattle.bsii_file.proofs.prototypes.last_prototype.Statement.{statement}

@@ -1,3 +1,5 @@
+-- Where a prototype was accepted, its head and its fields are passed without a fault: the name stands 13 bytes behind the offset and ends where
+-- the fields start, and the fields passed are as many as it has. A fault thus says that none stands here.
 use denote.Ref.{now}
 use native.Mathlib.Omega.{arith}
 use Rattle.bsii_walk.proofs.Naming.{name-inside}

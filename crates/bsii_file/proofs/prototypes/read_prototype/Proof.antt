@@ -1,3 +1,4 @@
+-- A file that was read leaves its own definitions in the table, so the last one there is the last one of the file; one that is refused is refused alike.
 use Rattle.bsii_file.proofs.Lookups.{was-read}
 use Rattle.bsii_file.proofs.Definitions.{call-refused, call-answers}
 use borrow.Author.Needs.{needs}

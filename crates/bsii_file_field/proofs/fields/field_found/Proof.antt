@@ -1,3 +1,5 @@
+-- The block was accepted, so both definitions and its id end where the unchecked readers say: the index found among the last definition's names
+-- is that of the value which value_at passes to under the definition in force.
 use Rattle.bsii_file_field.proofs.FieldCalls.{field-absent, field-value}
 use borrow.Author.Needs.{needs}
 use Rattle.bsii_file_field.proofs.fields.field_found.Statement.{statement}

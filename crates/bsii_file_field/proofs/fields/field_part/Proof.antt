@@ -1,3 +1,5 @@
+-- read_field answers as the call does, with a part inside the file: so the slice is taken of bytes that are there, and where it refuses the part is
+-- empty. Clearing leaves as many zeros as the table has words, since no call changes its length.
 use mathlib.Core.Path.{_≡_, refl, ap, _∙_}
 use lib.ListN.{length, replicate}
 use denote.Ref.{now}

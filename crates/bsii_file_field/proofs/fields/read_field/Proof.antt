@@ -1,3 +1,5 @@
+-- As in read_block: seek finds the k-th block of the file that was read, and `placed` answers for that block; its part lies inside the file for
+-- every input, and a refusal has no part.
 use Rattle.bsii_file.proofs.Lookups.{was-read}
 use Rattle.bsii_file.proofs.Rereading.{readable}
 use Rattle.bsii_file_field.proofs.FieldCalls.{field-refused, field-missing, field-answers}

@@ -1,3 +1,4 @@
+-- Number for number: each of the eight is the u32 that placementBitsAt reads, four bytes further on.
 use borrow.Author.Needs.{needs}
 use Rattle.bsii_float.proofs.floats.placement_bits_at.Statement.{statement}
 use Rattle.bsii_float.proofs.floats.placement_bits_at.Tie as tie

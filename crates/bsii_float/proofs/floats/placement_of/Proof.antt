@@ -1,3 +1,4 @@
+-- Number for number: float_of is the float of each of the eight words, as placementOf has it.
 use borrow.Author.Needs.{needs}
 use Rattle.bsii_float.proofs.floats.placement_of.Statement.{statement}
 use Rattle.bsii_float.proofs.floats.placement_of.Tie as tie

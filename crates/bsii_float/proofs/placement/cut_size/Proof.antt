@@ -1,3 +1,5 @@
+-- Below field 127 a float is below 1; from there on its size is significand * 2^(field - 150): below 150 the power divides, below 158 the product
+-- stays under 2^31, and beyond it is held to 2^31, as an infinity is. A NaN is 0.
 use mathlib.Core.Path.{sym}
 use native.Mathlib.Omega.{arith}
 use lib.Pow.{pow-pos}

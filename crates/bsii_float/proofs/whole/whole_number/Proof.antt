@@ -1,3 +1,5 @@
+-- From field 127 to 150 the size is significand / 2^(150 - field), whole if the power divides it. Zero is whole; below 127 other floats are parts
+-- of 1, above 150 they are 2^24 at least or not finite: these, and quotients above 10_000_000, are written by their bits.
 use mathlib.Core.Path.{sym}
 use native.Mathlib.Omega.{arith}
 use lib.Pow.{pow-pos}

@@ -1,3 +1,4 @@
+-- An enum's text is the string that enumString finds for its number in the definition's list: enum_string finds the same, inside the file, or none.
 use native.Mathlib.Omega.{arith}
 use denote.Ref.{now}
 use Rattle.bsii_lines.proofs.ScalarLaws.{found, scalar-absent, scalar-enum}

@@ -1,3 +1,4 @@
+-- Only an enum's text depends on the definition's list: any other kind has the text that it has with the empty list, which write_numeric writes.
 use mathlib.Core.Path.{sym, subst}
 use denote.Ref.{now}
 use Rattle.bsii_lines.proofs.ScalarLaws.{other, scalar-numeric}

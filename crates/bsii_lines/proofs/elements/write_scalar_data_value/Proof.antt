@@ -1,3 +1,5 @@
+-- elementText goes by the kind, and so do the arms: an encoded string's text is that of the low 63 bits, which the remainder keeps, and an id's is
+-- that of its own bytes.
 use mathlib.Core.Path.{sym, ap, subst}
 use denote.Ref.{now}
 use Rattle.bsii_lines.proofs.ScalarLaws.{scalar-word, scalar-id}

@@ -1,3 +1,5 @@
+-- An accepted array has its count and then `count` elements: its text is the line of the count and their lines behind it. Without a count nothing
+-- was accepted.
 use mathlib.Core.Path.{sym, ap, _∙_}
 use denote.Ref.{now}
 use Rattle.bsii_string.specs.Answers.{numOf}

@@ -1,3 +1,5 @@
+-- The shape of the type says which value valueParser accepts: a single one is the opening with the rest of its line, whatever its kind; an array is
+-- write_array's; a type without a shape has no value.
 use mathlib.Core.Path.{sym, ap, _∙_}
 use denote.Ref.{now}
 use Rattle.bsii_value.specs.Kinds.{kindIs, shapeIs}

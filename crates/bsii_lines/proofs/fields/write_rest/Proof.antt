@@ -1,3 +1,5 @@
+-- An accepted element ends where element_end does, so the bytes up to there are the element's own, and its text is theirs: with a newline behind it
+-- if there is one, else none. A fault is met at no accepted element.
 use mathlib.Core.Path.{sym, _∙_}
 use native.Mathlib.Omega.{arith}
 use denote.Ref.{now}

@@ -1,3 +1,4 @@
+-- whole_number keeps the text: what numberText makes of its answer is floatText of the bits, so either arm writes that.
 use mathlib.Core.Path.{sym, ap, _∙_}
 use Rattle.bsii_format.specs.Floats.{floatText}
 use Rattle.bsii_float.specs.Texts.{numberText}

@@ -1,3 +1,5 @@
+-- placementWith is the position as three numbers, a space, and the rotation as four: each piece is written behind the one before, and the parts taken
+-- of the placement are positionOf and rotationOf.
 use mathlib.Core.Path.{ap₂}
 use mathlib.Core.List.{List, _++_}
 use Prim.Native.Nat.{ℕ}

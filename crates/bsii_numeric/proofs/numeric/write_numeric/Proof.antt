@@ -1,3 +1,5 @@
+-- With the kind known, numericText is the text of the numbers that the arm reads, and accepted bytes have no other numbers. An enum has no text with
+-- the empty list, so nothing is asked of it.
 use mathlib.Core.Path.{refl, sym, ap}
 use Prim.Native.Nat.{ℕ}
 use mathlib.Core.Option.{some}

@@ -1,3 +1,5 @@
+-- Positions count from 2^63, so a text x was measured to end at 2^63 + its length: an earlier end is impossible, an output shorter than x has no
+-- room, and into any other one the walk writes all of x from the start on.
 use native.Mathlib.Omega.{arith}
 use denote.Ref.{now}
 use Rattle.bsii_output.proofs.TextLaws.{measured-early, measured-long, measured-fits}

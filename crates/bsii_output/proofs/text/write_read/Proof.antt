@@ -1,3 +1,5 @@
+-- The measuring walk is lent an empty window, so the output stays as it was, and the table still serves a walk: its refusal is the text's, and its
+-- end is exact, since the text is too short for a position to reach the cap.
 use denote.Ref.{now}
 use Rattle.bsii_output.proofs.TextLaws.{text-refused, measured-again, text-measured}
 use borrow.Author.Needs.{needs}

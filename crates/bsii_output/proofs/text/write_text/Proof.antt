@@ -1,3 +1,5 @@
+-- The file that was read is what the walk starts from, so its text is that of the records from 8 on; bytes below 256 and a file within the limit
+-- bound the text's length. A file that is refused has no text, and its own fault.
 use native.Mathlib.Omega.{arith}
 use denote.Ref.{now}
 use Rattle.bsii_output.proofs.TextLaws.{call-refused, call-answers}

@@ -1,3 +1,5 @@
+-- The tree holds a row for each id, so the rows count the distinct ids, and the blocks passed are the file's; clearing leaves zeros in a table of the
+-- same length.
 use mathlib.Core.Path.{sym, ap, _∙_}
 use lib.ListN.{replicate}
 use Rattle.bsii_parse.specs.Answers.{readingIs}

@@ -1,3 +1,5 @@
+-- The definition of a file asks in the same order: the length limit, the header, the records from 8 on. A header that was accepted has 8 bytes, so
+-- the walk starts inside the file, and what it finds behind the header is the file.
 use mathlib.Core.Path.{sym, ap, _∙_}
 use denote.Ref.{now}
 use native.Mathlib.Omega.{arith}

@@ -1,3 +1,5 @@
+-- With its head read, the record is the prototype whose fields fields_parser passes: `define` puts its offset in the id's row, so the table holds it in
+-- front of the definitions so far; or the id is new and has no room, and then the records are refused too.
 use mathlib.Core.Path.{sym, _∙_}
 use Rattle.bsii_parse.proofs.Passing.{defining-fault, defining-full, defining-passed}
 use borrow.Author.Needs.{needs}

@@ -1,3 +1,5 @@
+-- The block's text is its opening, the lines of its fields and the closing brace, each written behind the one before; where the fields are refused,
+-- the joined text is refused alike.
 use denote.Ref.{now}
 use Rattle.bsii_format.specs.BlockText.{closing}
 use Rattle.bsii_text.proofs.BlockLaws.{body-refused, body-written, fields-by}

@@ -1,3 +1,5 @@
+-- Accepted definitions and an accepted id end where the unchecked readers say, so the first three refusals are never met; the values are as many as
+-- the fields in force, so same_fields says which text the block has, and with equal counts it is the body's.
 use mathlib.Core.Path.{sym, _∙_}
 use native.Mathlib.Omega.{arith}
 use denote.Ref.{now}

@@ -1,3 +1,4 @@
+-- The four pieces are written one behind the other, so their concatenation is, and that is blockOpening of the name and of the id that has these bytes.
 use Rattle.bsii_text.proofs.BlockLaws.{opened}
 use borrow.Author.Needs.{needs}
 use Rattle.bsii_text.proofs.blocks.write_opening.Statement.{statement}

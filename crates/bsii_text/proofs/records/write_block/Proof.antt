@@ -1,3 +1,5 @@
+-- Both definitions of the id are entered in the table, so a row is found, and its two offsets are where they stand: the block's text is written under
+-- these, and the answer is the same as a step.
 use mathlib.Core.Path.{ap}
 use denote.Ref.{now}
 use Rattle.bsii_text.proofs.RecordLaws.{block-unknown, block-step, stepOf}

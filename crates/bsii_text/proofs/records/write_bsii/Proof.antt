@@ -1,3 +1,5 @@
+-- The file's text is its opening, the text of its records and the closing brace, each written behind the one before, from 2^63 on, where the window
+-- starts; a refusal of the records is one of the whole text.
 use denote.Ref.{now}
 use Rattle.bsii_format.specs.BlockText.{fileOpening, closing}
 use Rattle.bsii_text.proofs.WalkLaws.{file-refused, file-written, records-by}

@@ -1,3 +1,5 @@
+-- The record that was accepted here has the kind that kind_at says: an end leaves no records; a prototype adds no text, only its definition to those
+-- in force; a block adds its text. The other kinds contradict it in each arm.
 use native.Mathlib.Omega.{arith}
 use denote.Ref.{now}
 use Rattle.bsii_text.proofs.RecordLaws.{record-end, record-prototype, record-block}

@@ -1,3 +1,5 @@
+-- A name stands 13 bytes behind the offset, up to where the fields start: names of different length differ, and of equal length `tag` compares them
+-- byte for byte. Where a prototype was accepted, its head is passed without a fault.
 use mathlib.Core.Path.{refl}
 use mathlib.Core.Bool.{false}
 use denote.Ref.{now}

@@ -1,3 +1,5 @@
+-- Both definitions of the id are entered, so a row is found and has their offsets; under the one in force skip_block ends where the accepted block does,
+-- and so meets no fault.
 use mathlib.Core.Path.{_≡_, refl, sym, ap, _∙_}
 use denote.Ref.{now}
 use Rattle.bsii_walk.proofs.Meeting.{again-unknown, again-block-fault, again-block}

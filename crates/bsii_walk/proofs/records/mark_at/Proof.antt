@@ -1,3 +1,5 @@
+-- A head that markedParser accepts has a mark, and with a mark other than 0 an id: mark 0 is the end, any other one a definition of that id, and bytes
+-- that run out earlier belong to no accepted head.
 use mathlib.Core.Path.{_≡_, refl, sym, ap, _∙_}
 use denote.Ref.{now}
 use Rattle.bsii_walk.proofs.HeadKinds.{mark-cut, mark-zero, mark-id-cut, mark-id}

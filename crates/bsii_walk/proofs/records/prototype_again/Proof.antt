@@ -1,3 +1,5 @@
+-- The prototype was accepted here, so its head and its fields are passed without a fault and end where it does; `enter` writes its offset as the one in
+-- force, so the table has it in front of the definitions so far.
 use mathlib.Core.Path.{_≡_, refl, sym, ap, _∙_}
 use denote.Ref.{now}
 use Rattle.bsii_walk.proofs.Meeting.{again-head-fault, again-fields-fault, again-entered}

@@ -1,3 +1,5 @@
+-- An accepted record has the kind that kind_at says, so each arm meets it as the prototype or the block that it is, and the end record meets nothing
+-- and leaves the table.
 use mathlib.Core.Path.{_≡_, refl, sym, ap, _∙_}
 use denote.Ref.{now}
 use Rattle.bsii_walk.proofs.Meeting.{again-end, again-prototype, again-carries}

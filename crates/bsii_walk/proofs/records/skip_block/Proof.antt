@@ -1,3 +1,5 @@
+-- Under a definition that stands at the offset, an accepted block is an id and its values: the unchecked readers end where these do, so the values start
+-- behind the id and skip_values ends with them. A fault thus says that there is no such block.
 use mathlib.Core.Path.{_≡_, refl, sym, ap, _∙_}
 use denote.Ref.{now}
 use Rattle.bsii_walk.proofs.Skipped.{block-head-fault, block-id-fault, block-values}
