@@ -2,13 +2,13 @@
 use Prim.Native.Nat.{ℕ, suc, _+_, _<_}
 use native.Mathlib.Omega.{arith}
 use mathlib.Core.Path.{_≡_, refl, ap}
-use mathlib.Core.Bool.{Bool, true, false, cond}
+use mathlib.Core.Bool.{Bool, true, false, cond, _&&_}
 use mathlib.Core.Option.{Option, none, some, Option·map}
 use mathlib.Core.List.{List, [], _∷_, _++_}
 use lib.ListN.{length, take, replicate, getElem?, length-replicate}
 use lib.Dec.{T, leb, eqb, leb→le}
 use Rattle.bsii_format.specs.Ascii.{ascii}
-use Rattle.bsii_format.specs.Replies.{Fault, Reply, gives, refuses, refusal, invalidHeader, unsupportedVersion, malformed, notUtf8, zeroDigit, undefinedPrototype, unlistedType, fieldCount, enumValue, tableFull, outputShort, inputLong, absent}
+use Rattle.bsii_format.specs.Replies.{Fault, refused, short, Reply, gives, refuses, refusal, invalidHeader, unsupportedVersion, notUtf8, zeroDigit, undefinedPrototype, unlistedType, fieldCount, enumValue, tableFull, outputShort, inputLong, absent, badMark}
 use Rattle.bsii_format.specs.Reader.{Result, ok, fault, faultAt, Consumed}
 use Rattle.bsii_format.specs.Prototypes.{ValuePrototype, Prototype}
 use Rattle.bsii_format.specs.Values.{Value, valueParser}
@@ -17,17 +17,17 @@ use Rattle.bsii_format.specs.File.{Record, prototype, block, recordBytes
 use Rattle.bsii_format.specs.Text.{valueText}
 use Rattle.bsii_format.specs.BlockText.{joined, orRefuse, valuesOffset, fieldsText, blockText, recordsText, fileText}
 use Rattle.bsii_format.specs.Calls.{ofFile, orAbsent, blocksOf, readingOf, readingCall, prototypeOf, prototypeCall, blockAnswer, blockCall, blocksByPrototypeName, namedBlockCall, fieldOf, fieldCall, datum, elementsOf, ofValue, elementCall, textOf, TextAnswer, textAnswer, textCall}
-use Rattle.bsii_format.specs.Refusals.{fileNumbers, readingNumbers, lookupNumbers, elementNumbers, valueNumbers, textNumbers, among, Each, none as nothing, _also_, Within, Gives, GivesExactly}
+use Rattle.bsii_format.specs.Refusals.{fileNumbers, readingNumbers, lookupNumbers, elementNumbers, valueNumbers, textNumbers, among, counted, Each, none as nothing, _also_, Within, Gives, GivesExactly}
 use Rattle.bsii_format.specs.Worked.{le, u32, u64, workedFile}
 use Rattle.bsii_format.specs.WorkedCalls.{workedWith, shortenedFile, unlistedEnumFile}
 use Rattle.bsii_format.proofs.Readers.{is-false}
 use Rattle.bsii_format.proofs.Worked.{computes}
-use Rattle.bsii_format.proofs.Refusals.{allAmong, among-all, Told, value-only, parse-told}
+use Rattle.bsii_format.proofs.Refusals.{allAmong, told-all, Told, value-only, parse-told}
 
 -- ---- no others
 
 module _ (l : List ℕ) where
-  or-within : {A : Type 0} (n at : ℕ) → T (among l n) → (o : Option A) → Within l (orRefuse n at o)
+  or-within : {A : Type 0} (n at : ℕ) → T (among l n && counted (refused n 0)) → (o : Option A) → Within l (orRefuse n at o)
   unfolding orRefuse
   or-within n at h none = h
   or-within n at h (some a) = tt
@@ -39,7 +39,7 @@ module _ (l : List ℕ) where
     where
       go : (q : Result BsiiFile) → Told fileNumbers q → Within l (ofFile answer q)
       go (ok f at r) t = unfold ofFile in k f at
-      go (fault x) t = unfold ofFile in among-all l fileNumbers h (x .number) t
+      go (fault x) t = unfold ofFile in told-all l fileNumbers h x t
 
 element-within : (t : ℕ) (s : List ℕ) (i : ℕ) → Within elementNumbers (elementCall t s i)
 unfolding elementCall
@@ -47,7 +47,7 @@ element-within t s i = go (valueParser t 0 s) (value-only t .only 0 s)
   where
     go : (q : Result Value) → Told valueNumbers q → Within elementNumbers (ofValue i q)
     go (ok v at r) h = unfold ofValue in or-within elementNumbers _ _ tt (Option·map datum (getElem? (elementsOf v) i))
-    go (fault x) h = unfold ofValue in among-all elementNumbers valueNumbers tt (x .number) h
+    go (fault x) h = unfold ofValue in told-all elementNumbers valueNumbers tt x h
 
 cond-within : {A B : Type 0} (g : A → Reply B) (b : Bool) (x y : A) → Within textNumbers (g x) → Within textNumbers (g y) → Within textNumbers (g (cond b x y))
 cond-within g true x y h k = h
@@ -98,9 +98,6 @@ text-within words s out = go (ofFile (λ f at. fileText valueText f) (parse word
 
 -- ---- each of them
 
-abbrev fails : ℕ → ℕ → Fault
-fails n at = record { number = n; offset = at }
-
 abbrev given : {Q A : Type 0} {call : Q → Reply A} (q : Q) (f : Fault) → call q ≡ refuses f → Gives call (f .number)
 given q f e = record { question = q; fault = f; refused = e; numbered = refl }
 
@@ -127,15 +124,16 @@ long n = (replicate (suc n) 0, rw length-replicate (omega arith))
 file-faults : Each Faulty fileNumbers
 unfolding computes
 file-faults =
-    faults 3 (long lengthLimit .0) (fails inputLong 0) (parse-long 3 (long lengthLimit .0) (long lengthLimit .1))
-    also faults 3 (workedWith 0 0x58) (fails invalidHeader 0) refl
-    also faults 3 (workedWith 4 1) (fails unsupportedVersion 8) refl
-    also faults 3 (take 70 workedFile) (fails malformed 69) refl
-    also faults 3 (workedWith 33 0xff) (fails notUtf8 33) refl
-    also faults 3 (workedWith 53 38) (fails zeroDigit 53) refl
-    also faults 3 (workedWith 48 8) (fails undefinedPrototype 48) refl
-    also faults 3 (workedWith 25 0x08) (fails unlistedType 61) refl
-    also faults 2 workedFile (fails tableFull 8) refl
+    faults 3 (long lengthLimit .0) (refused inputLong 0) (parse-long 3 (long lengthLimit .0) (long lengthLimit .1))
+    also faults 3 (workedWith 0 0x58) (refused invalidHeader 0) refl
+    also faults 3 (workedWith 4 1) (refused unsupportedVersion 8) refl
+    also faults 3 (take 70 workedFile) (short 69 3) refl
+    also faults 3 (workedWith 33 0xff) (refused notUtf8 33) refl
+    also faults 3 (workedWith 53 38) (refused zeroDigit 53) refl
+    also faults 3 (workedWith 48 8) (refused undefinedPrototype 48) refl
+    also faults 3 (workedWith 25 0x08) (refused unlistedType 61) refl
+    also faults 2 workedFile (refused tableFull 8) refl
+    also faults 3 (workedWith 12 2) (refused badMark 12) refl
     also nothing
 
 each-map : {P Q : ℕ → Type 0} → ((n : ℕ) → P n → Q n) → {l : List ℕ} → Each P l → Each Q l
@@ -167,7 +165,7 @@ lookup-refusals : {X A : Type 0} (find : X → BsiiFile → Option A) (x : X) �
 unfolding ofFile
 lookup-refusals find x e = record {
   only = λ q. call-within lookupNumbers _ tt (λ f at. or-within lookupNumbers _ _ tt (find (q .2) f)) (q .0) (q .1);
-  each = handed (λ words s. (words, s, x)) (λ words s f e. ap (ofFile _) e) (given (3, workedFile, x) (fails absent 0) e also nothing);
+  each = handed (λ words s. (words, s, x)) (λ words s f e. ap (ofFile _) e) (given (3, workedFile, x) (refused absent 0) e also nothing);
   nonzero = refl;
 }
 
@@ -193,11 +191,11 @@ unfolding computes
 element-refusals = record {
   only = λ q. element-within (q .0) (q .1) (q .2);
   each =
-      given (0x27, [], 0) (fails malformed 0) refl
-      also given (0x01, u32 1 ++ le 1 0xff, 0) (fails notUtf8 4) refl
-      also given (0x03, u64 38, 0) (fails zeroDigit 0) refl
-      also given (0x08, [], 0) (fails unlistedType 0) refl
-      also given (0x27, u32 0, 1) (fails absent 0) refl
+      given (0x27, [], 0) (short 0 4) refl
+      also given (0x01, u32 1 ++ le 1 0xff, 0) (refused notUtf8 4) refl
+      also given (0x03, u64 38, 0) (refused zeroDigit 0) refl
+      also given (0x08, [], 0) (refused unlistedType 0) refl
+      also given (0x27, u32 0, 1) (refused absent 0) refl
       also nothing;
   nonzero = refl;
 }
@@ -210,9 +208,9 @@ text-refusals = record {
   each =
       handed (λ words s. (words, s, [])) (λ words s f e. ap (λ q. textAnswer [] (ofFile (λ f at. fileText valueText f) q) .reply) e)
       (
-      given (3, shortenedFile, []) (fails fieldCount 48) refl
-      also given (3, unlistedEnumFile, []) (fails enumValue 65) refl
-      also given (3, workedFile, []) (fails outputShort 0) refl
+      given (3, shortenedFile, []) (refused fieldCount 48) refl
+      also given (3, unlistedEnumFile, []) (refused enumValue 65) refl
+      also given (3, workedFile, []) (refused outputShort 0) refl
       also nothing
       );
   nonzero = refl;

@@ -5,6 +5,7 @@ use Prim.Native.Nat.{ℕ, zero, suc, _-_}
 use mathlib.Core.Bool.{Bool, true, false, cond}
 use mathlib.Core.List.{List, [], _∷_}
 use lib.ListN.{take}
+use Rattle.bsii_format.specs.Replies.{refused}
 use Rattle.bsii_format.specs.Reader.{ok, faultAt, Reader, _>>=_, success, fail, _<$>_, verify, Consumed, with, consumed, repeat}
 use Rattle.bsii_format.proofs.Readers.{after-ok, cond-ok, map-ok, fault≢ok, ok-val, at-value}
 use Rattle.bsii_format.proofs.Positions.{ended, bind-ok, map-value, consumed-ok}
@@ -55,7 +56,7 @@ module _ {A B : Type 0} {K : A → B → Type 0} {R : Reader A} {S : Reader B} (
   verify-follows p k = record {
     reads = λ at s e.
         let q = after-ok (R at s) (λ a i t. cond (p a) (ok a i t) (faultAt k at)) e in
-        h .reads at s (q .3 ∙ cond-ok (p (q .0)) (ok (q .0) (q .1) (q .2)) (record { number = k; offset = at }) (q .4) .1);
+        h .reads at s (q .3 ∙ cond-ok (p (q .0)) (ok (q .0) (q .1) (q .2)) (refused k at) (q .4) .1);
   }
 
   pub bind-follows : {C D : Type 0} {L : C → D → Type 0} {f : A → Reader C} {g : B → Reader D} → ((a : A) (b : B) → K a b → Follows L (f a) (g b))

@@ -4,7 +4,7 @@ use mathlib.Core.Option.{Option, none, some}
 use mathlib.Core.List.{List, [], _∷_}
 use lib.Dec.{leb, eqb}
 use Rattle.bsii_format.specs.Reader.{Reader, bytes, Consumed}
-use Rattle.bsii_format.specs.Replies.{notUtf8, zeroDigit, unsupportedVersion, unlistedType, malformed, invalidHeader}
+use Rattle.bsii_format.specs.Replies.{notUtf8, zeroDigit, unsupportedVersion, unlistedType, badMark, invalidHeader}
 use Rattle.bsii_format.specs.Ascii.{ascii}
 use Rattle.bsii_format.specs.Numbers.{littleEndian, number}
 use Rattle.bsii_format.specs.Utf8.{utf8}
@@ -78,7 +78,7 @@ pub head-exact : Exact Head headParser
 unfolding headParser
 head-exact =
     bind-exact _ (number-exact 4)
-    (λ n. cond-exact (eqb n 0) (bind-exact markParser (verify-exact (λ m. leb m 1) malformed (number-exact 1)) mark-exact) (success-exact (carrying n)))
+    (λ n. cond-exact (eqb n 0) (bind-exact markParser (verify-exact (λ m. leb m 1) badMark (number-exact 1)) mark-exact) (success-exact (carrying n)))
 
 pub header-exact : Exact ℕ headerParser
 unfolding headerParser

@@ -9,8 +9,8 @@ use mathlib.Core.List.{List, [], _∷_}
 use lib.ListN.{length, take, drop, length-append, length-drop}
 use lib.Seq.{drop-drop, drop-append-seam}
 use lib.Dec.{T, leb, leb→le, le→leb}
-use Rattle.bsii_format.specs.Replies.{Fault, malformed}
-use Rattle.bsii_format.specs.Reader.{Result, ok, fault, Reader, faultAt, after, _>>=_, success, _<$>_, bytes, verify, Consumed, with, consumed, repeat}
+use Rattle.bsii_format.specs.Replies.{Fault}
+use Rattle.bsii_format.specs.Reader.{Result, ok, fault, Reader, faultAt, shortAt, after, _>>=_, success, _<$>_, bytes, verify, Consumed, with, consumed, repeat}
 use Rattle.bsii_format.specs.Numbers.{littleEndian, number}
 use Rattle.bsii_format.proofs.Readers.{Exact, consumed-took, consumed-exact, is-true, is-false, fault≢ok, fault-is, takes}
 
@@ -58,17 +58,17 @@ bytes-at n s at h =
     let l : T (leb n (length (drop at s))) = le→leb n (length (drop at s)) (rw length-drop h) in
     rw (is-true (leb n (length (drop at s))) l, drop-drop n at s)
 
-pub bytes-short : (n : ℕ) (s : List ℕ) (at : ℕ) → length s - at < n → bytes n at (drop at s) ≡ faultAt malformed at
+pub bytes-short : (n : ℕ) (s : List ℕ) (at : ℕ) → length s - at < n → bytes n at (drop at s) ≡ shortAt at (n - (length s - at))
 unfolding bytes
 bytes-short n s at h =
     let l : T (leb n (length (drop at s))) → ⊥ = λ k. let z : n ≤ length s - at = rw length-drop at (leb→le n (length (drop at s)) k) in omega arith in
-    rw (is-false (leb n (length (drop at s))) l)
+    rw (is-false (leb n (length (drop at s))) l, length-drop at s)
 
 pub number-at : (w : ℕ) (s : List ℕ) (at : ℕ) → w ≤ length s - at → number w at (drop at s) ≡ ok (littleEndian (take w (drop at s))) (at + w) (drop (at + w) s)
 unfolding number _<$>_ _>>=_ after success
 number-at w s at h = rw (bytes-at w s at h)
 
-pub number-short : (w : ℕ) (s : List ℕ) (at : ℕ) → length s - at < w → number w at (drop at s) ≡ faultAt malformed at
+pub number-short : (w : ℕ) (s : List ℕ) (at : ℕ) → length s - at < w → number w at (drop at s) ≡ shortAt at (w - (length s - at))
 unfolding number _<$>_ _>>=_ after
 number-short w s at h = rw (bytes-short w s at h)
 
@@ -233,7 +233,7 @@ numbers-at (suc n) w s at h =
 
 -- the first number that runs out
 pub numbers-short : (n w : ℕ) (s : List ℕ) (at : ℕ) → 0 < w → (length s - at) / w < n
-    → ended (repeat n (number w) at (drop at s)) ≡ faultAt malformed (at + (length s - at) / w * w)
+    → ended (repeat n (number w) at (drop at s)) ≡ shortAt (at + (length s - at) / w * w) (w - (length s - at - (length s - at) / w * w))
 unfolding ended _>>=_ after
 numbers-short n w s at p h =
     let k = (length s - at) / w in
@@ -241,10 +241,12 @@ numbers-short n w s at p h =
     let low : k * w ≤ length s - at = div-mul-le-self (length s - at) w in
     let high : length s - at < k * w + w = lt-div-mul-add p in
     let parts : n ≡ k + (n - k) = omega arith in
+    let there : w - (length s - i) ≡ w - (length s - at - k * w) = omega arith in
     ap (λ (m : ℕ). ended (repeat m (number w) at (drop at s))) parts
     ∙ repeat-add (number w) k (n - k) at (drop at s)
     ∙ ended-after {B = Unit {0}} (repeat k (number w) at (drop at s)) (ok tt i (drop i s)) (λ l. repeat (n - k) (number w)) (λ l. repeat (n - k) (number w)) (numbers-at k w s at low) (λ a b j r. refl)
     ∙ repeat-stop (number w) (n - k) i (drop i s) (omega arith) (ap ended (number-short w s i (omega arith)))
+    ∙ ap (λ (m : ℕ). shortAt i m) there
 
 -- ---- a reader that refuses the empty file moves on, and stays inside
 

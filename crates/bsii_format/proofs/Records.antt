@@ -10,7 +10,7 @@ use mathlib.Core.List.{List, [], _∷_, _++_, append-assoc, append-nil}
 use lib.ListN.{length, length-append}
 use lib.Dec.{T, leb→le, le→leb}
 use Rattle.bsii_format.specs.Replies.{Fault, tableFull}
-use Rattle.bsii_format.specs.Reader.{Result, ok, fault, faultAt, Reader, after, _>>=_, success, fail, _<$>_, bytes, Consumed, with, consumed}
+use Rattle.bsii_format.specs.Reader.{Result, ok, fault, faultAt, Reader, after, _>>=_, success, exhausted, _<$>_, bytes, Consumed, with, consumed}
 use Rattle.bsii_format.specs.Numbers.{number}
 use Rattle.bsii_format.specs.Strings.{Id, isSome, idParser}
 use Rattle.bsii_format.specs.Values.{Value, valueParser}
@@ -89,7 +89,7 @@ fields-step n ih {at} {s} {at₁} s₁ {o = some d} {c} h p q {at′ = at′} {r
     subst (λ l. GoodList l at s at′ r) (m .1) (fields-cons d c h p q (ih at₁ s₁ (m .0) at′ r (m .2)))
 
 pub fields-good : (n at : ℕ) (s : List ℕ) (l : Fields) (at′ : ℕ) (r : List ℕ) → fieldsFrom n at s ≡ ok l at′ r → GoodList l at s at′ r
-unfolding fieldsFrom _>>=_ fail
+unfolding fieldsFrom _>>=_ exhausted
 fields-good zero at s l at′ r e = fault≢ok e
 fields-good (suc n) at s l at′ r e =
     let q = after-ok (consumed valuePrototypeParser at s) (λ e. fieldsThen (fieldsFrom n) (e .value) (e .raw)) e in
@@ -344,7 +344,7 @@ whole-step {rooms} {env} K ih {at} {s} {at₁} {s₁} {z = more i} x {at′ = at
 
 pub records-good : (rooms n : ℕ) (env : List Prototype) (at : ℕ) (s : List ℕ) (q : Records) (at′ : ℕ) (r : List ℕ)
     → recordsFrom rooms n env at s ≡ ok q at′ r → GoodWhole rooms env q at s at′ r
-unfolding recordsFrom
+unfolding recordsFrom exhausted
 records-good rooms zero env at s q at′ r e = fault≢ok e
 records-good rooms (suc n) env at s q at′ r e =
     let w = after-ok (recordParser env at s) (recordsThen rooms env at (λ e. recordsFrom rooms n e)) e in

@@ -1,14 +1,15 @@
 -- Which refusals a reader gives, from numbers up to the whole file.
-use Prim.Native.Nat.{ℕ, zero, suc, _/_}
+use Prim.Native.Nat.{ℕ, zero, suc, _+_, _-_, _/_, _<_}
+use native.Mathlib.Omega.{arith}
 use mathlib.Core.Path.{sym, subst}
-use mathlib.Core.Bool.{Bool, true, false, cond, _&&_, _||_}
+use mathlib.Core.Bool.{Bool, true, false, cond, not, _&&_, _||_}
 use mathlib.Core.Option.{Option, none, some}
 use mathlib.Core.List.{List, [], _∷_}
-use lib.ListN.{length, take}
-use lib.Dec.{T, leb, eqb, eqb→eq}
+use lib.ListN.{length, take, drop}
+use lib.Dec.{T, leb, eqb, ltb, eqb→eq, lt→ltb, nleb→lt}
 use Rattle.bsii_format.specs.Ascii.{ascii}
-use Rattle.bsii_format.specs.Replies.{malformed}
-use Rattle.bsii_format.specs.Reader.{Result, ok, fault, faultAt, Reader, after, _>>=_, success, fail, _<$>_, bytes, verify, Consumed, with, consumed, repeat, same, tag}
+use Rattle.bsii_format.specs.Replies.{Fault, refused, malformed}
+use Rattle.bsii_format.specs.Reader.{Result, ok, fault, faultAt, shortAt, Reader, after, _>>=_, success, fail, _<$>_, bytes, exhausted, verify, Consumed, with, consumed, repeat, same, tag}
 use Rattle.bsii_format.specs.Numbers.{number, littleEndian}
 use Rattle.bsii_format.specs.Strings.{strParser, low63, encodedStrParser, Id, nameless, named, idParser}
 use Rattle.bsii_format.specs.Types.{width, arity, Kind, numbers, string, encodedString, id, Shape, one, many, shapeOf}
@@ -16,7 +17,8 @@ use Rattle.bsii_format.specs.Values.{Element, Value, single, array, nums
 use Rattle.bsii_format.specs.Prototypes.{EnumValue, ValuePrototype, Prototype, enumValueParser, enumValuesParser, valuePrototypeParser, Fields, consField, fieldsThen, fieldsFrom, fieldsParser}
 use Rattle.bsii_format.specs.Blocks.{DataValue, getPrototype, dataValue, dataValueParser, dataValuesParser}
 use Rattle.bsii_format.specs.File.{Head, ending, defining, carrying, markParser, headParser, Step, end, more, prototypeStep, blockStep, dataBlockParser, stepParser, recordParser, define, hasRoom, Records, consRecord, recordsThen, recordsFrom, recordsParser, headerParser, BsiiFile, bsiiFile, bsiiParser, lengthLimit, parse}
-use Rattle.bsii_format.specs.Refusals.{valueNumbers, fileNumbers, among}
+use Rattle.bsii_format.specs.Refusals.{valueNumbers, fileNumbers, among, counted}
+use Rattle.bsii_format.proofs.Readers.{and-left, and-right, and-both}
 
 -- ---- lists of numbers
 
@@ -33,16 +35,24 @@ among-all l (m ∷ k) h n t = go (among l m) (eqb n m) (λ e. subst (λ z. T (am
     go true false here h there t = there h t
     go false b here h there t = absurd h
 
+pub told-all : (l k : List ℕ) → T (allAmong l k) → (f : Fault) → T (among k (f .number) && counted f) → T (among l (f .number) && counted f)
+told-all l k h f t =
+    let a = among k (f .number) in
+    and-both (among l (f .number)) (counted f) (among-all l k h (f .number) (and-left a (counted f) t)) (and-right a (counted f) t)
+
 -- ---- readers
 
--- a result, or a fault with one of the numbers
+-- a result, or a fault with one of the numbers, and with a count where it has 3
 abbrev pub Told : {A : Type 0} → List ℕ → Result A → Type 0
 Told l (ok a at s) = Unit {0}
-Told l (fault f) = T (among l (f .number))
+Told l (fault f) = T (among l (f .number) && counted f)
 
 pub cond-told : {A : Type 0} (l : List ℕ) (b : Bool) (q r : Result A) → Told l q → Told l r → Told l (cond b q r)
 cond-told l true q r h k = h
 cond-told l false q r h k = k
+
+short-told : (A : Type 0) (l : List ℕ) (at k : ℕ) → T (among l malformed) → 0 < k → Told {A = A} l (shortAt at k)
+short-told A l at k h p = and-both (among l malformed) (ltb 0 k) h (lt→ltb 0 k p)
 
 -- whatever it is given, the reader refuses with one of the numbers only
 pub record Only (l : List ℕ) (A : Type 0) (R : Reader A) : Type 0 where
@@ -53,7 +63,7 @@ module _ {l : List ℕ} where
   unfolding success
   success-only a = record { only = λ at s. tt }
 
-  fail-only : {A : Type 0} (n : ℕ) → T (among l n) → Only l A (fail n)
+  fail-only : {A : Type 0} (n : ℕ) → T (among l n && counted (refused n 0)) → Only l A (fail n)
   unfolding fail
   fail-only n h = record { only = λ at s. h }
 
@@ -70,7 +80,7 @@ module _ {l : List ℕ} where
   unfolding _<$>_
   map-only g h = bind-only (λ a. success (g a)) h (λ a. success-only (g a))
 
-  verify-only : {A : Type 0} (p : A → Bool) (n : ℕ) {R : Reader A} → T (among l n) → Only l A R → Only l A (verify p n R)
+  verify-only : {A : Type 0} (p : A → Bool) (n : ℕ) {R : Reader A} → T (among l n && counted (refused n 0)) → Only l A R → Only l A (verify p n R)
   unfolding verify
   verify-only p n {R} m h = record {
     only = λ at s. after-only (R at s) _ (h .only at s) (λ a. record { only = λ i t. cond-told l (p a) (ok a i t) (faultAt n at) tt m });
@@ -91,7 +101,15 @@ module _ {l : List ℕ} where
 
   bytes-only : (n : ℕ) → T (among l malformed) → Only l (List ℕ) (bytes n)
   unfolding bytes
-  bytes-only n h = record { only = λ at s. cond-told l (leb n (length s)) _ _ tt h }
+  bytes-only n h = record { only = λ at s. go at s (leb n (length s)) (nleb→lt n (length s)) }
+    where
+      go : (at : ℕ) (s : List ℕ) (b : Bool) → (T (not b) → length s < n) → Told l (cond b (ok (take n s) (at + n) (drop n s)) (shortAt at (n - length s)))
+      go at s true k = tt
+      go at s false k = short-told (List ℕ) l at (n - length s) h (omega (arith, k tt))
+
+  exhausted-only : {A : Type 0} (n : ℕ) → T (among l malformed) → 0 < n → Only l A (exhausted n)
+  unfolding exhausted
+  exhausted-only {A} n h p = record { only = λ at s. short-told A l at n h p }
 
   number-only : (w : ℕ) → T (among l malformed) → Only l ℕ (number w)
   unfolding number
@@ -136,7 +154,7 @@ in-file {A} {R} h = record { only = λ at s. go (R at s) (h .only at s) }
   where
     go : (q : Result A) → Told valueNumbers q → Told fileNumbers q
     go (ok a at s) k = tt
-    go (fault f) k = among-all fileNumbers valueNumbers tt (f .number) k
+    go (fault f) k = told-all fileNumbers valueNumbers tt f k
 
 string-only : Only fileNumbers (List ℕ) strParser
 string-only = in-file str-only
@@ -161,7 +179,7 @@ then-only R h (some d) c = map-only (consField (with d c)) h
 
 fieldsFrom-only : (n : ℕ) → Only fileNumbers Fields (fieldsFrom n)
 unfolding fieldsFrom
-fieldsFrom-only zero = fail-only _ tt
+fieldsFrom-only zero = exhausted-only 4 tt (omega arith)
 fieldsFrom-only (suc n) = bind-only _ (consumed-only entry-only) (λ e. then-only (fieldsFrom n) (fieldsFrom-only n) (e .value) (e .raw))
 
 fields-only : Only fileNumbers Fields fieldsParser
@@ -213,7 +231,7 @@ recordsThen-only rooms env start rest h (more r) = cond-only (hasRoom rooms env 
 
 records-only : (rooms n : ℕ) (env : List Prototype) → Only fileNumbers Records (recordsFrom rooms n env)
 unfolding recordsFrom
-records-only rooms zero env = record { only = λ at s. tt }
+records-only rooms zero env = exhausted-only 4 tt (omega arith)
 records-only rooms (suc n) env = record {
   only = λ at s. after-only (recordParser env at s) _ (record-only env .only at s) (recordsThen-only rooms env at (λ e. recordsFrom rooms n e) (records-only rooms n));
 }

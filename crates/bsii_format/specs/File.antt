@@ -1,4 +1,4 @@
--- Records and the whole file: document 01, "src/bsii_parse.rs"; FORMAT.md, "The file".
+-- Records and the whole file: document 01, "src/bsii_parse.rs"; document 02, E2; FORMAT.md, "The file".
 use Prim.Native.Nat.{ℕ, zero, suc, _/_}
 use mathlib.Core.Bool.{Bool, true, cond}
 use mathlib.Core.Option.{Option, none, some}
@@ -6,8 +6,8 @@ use mathlib.Core.List.{List, [], _∷_, _++_}
 use lib.ListN.{length}
 use lib.Dec.{leb, eqb}
 use Rattle.bsii_format.specs.Ascii.{ascii}
-use Rattle.bsii_format.specs.Replies.{invalidHeader, unsupportedVersion, malformed, undefinedPrototype, tableFull, inputLong}
-use Rattle.bsii_format.specs.Reader.{Result, faultAt, Reader, after, success, fail, verify, tag, Consumed, consumed, _>>=_, _<$>_}
+use Rattle.bsii_format.specs.Replies.{invalidHeader, unsupportedVersion, undefinedPrototype, tableFull, inputLong, badMark}
+use Rattle.bsii_format.specs.Reader.{Result, faultAt, Reader, after, success, fail, exhausted, verify, tag, Consumed, consumed, _>>=_, _<$>_}
 use Rattle.bsii_format.specs.Numbers.{leU8, leU32}
 use Rattle.bsii_format.specs.Strings.{isSome, strParser, Id, idParser}
 use Rattle.bsii_format.specs.Prototypes.{ValuePrototype, Prototype, Fields, fieldsParser}
@@ -33,11 +33,12 @@ markParser (suc m) = do
   s ← strParser
   success (defining n s)
 
--- "Record number u32 zero and next byte 0: end record (5 bytes). .. Next byte 1: a prototype. Another byte: malformed", at that byte
+-- "Record number u32 zero and next byte 0: end record (5 bytes). .. Next byte 1: a prototype." 15: "when the byte after a zero record number is
+-- neither 0 nor 1, at that byte, in 3's old place"
 unfoldable pub headParser : Reader Head
 headParser = do
   n ← leU32
-  cond (eqb n 0) (verify (λ m. leb m 1) malformed leU8 >>= markParser) (success (carrying n))
+  cond (eqb n 0) (verify (λ m. leb m 1) badMark leU8 >>= markParser) (success (carrying n))
 
 -- what stands at a record's place: the end record's bytes, or a record
 pub data Step : Type 0 where
@@ -96,7 +97,7 @@ recordsThen rooms env start rest (more r) =
 
 -- The fuel is the number of bytes left, and a record has at least one: with none left the u32 that is due runs out.
 unfoldable pub recordsFrom : ℕ → ℕ → List Prototype → Reader Records
-recordsFrom rooms zero env at s = faultAt malformed at
+recordsFrom rooms zero env at s = exhausted 4 at s
 recordsFrom rooms (suc n) env at s = after (recordParser env at s) (recordsThen rooms env at (λ e. recordsFrom rooms n e))
 
 unfoldable pub recordsParser : ℕ → Reader Records

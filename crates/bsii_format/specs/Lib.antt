@@ -1,5 +1,5 @@
--- What a reader must believe, in the order of the bytes. Words in quotation marks are document 01's, with `..` where some are left out, or the
--- headings of FORMAT.md.
+-- What a reader must believe, in the order of the bytes. Words in quotation marks are those of documents 01 and 02, with `..` where some are left
+-- out, or the headings of FORMAT.md.
 pub mod Ascii
 pub mod Replies
 pub mod Reader
@@ -17,5 +17,6 @@ pub mod Text
 pub mod BlockText
 pub mod Calls
 pub mod Refusals
+pub mod Cuts
 pub mod Worked
 pub mod WorkedCalls

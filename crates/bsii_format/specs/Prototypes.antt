@@ -6,8 +6,7 @@ use mathlib.Core.Option.{Option, none, some}
 use mathlib.Core.List.{List, [], _∷_}
 use lib.ListN.{length}
 use lib.Dec.{eqb}
-use Rattle.bsii_format.specs.Replies.{malformed}
-use Rattle.bsii_format.specs.Reader.{Reader, success, fail, repeat, Consumed, with, consumed, _>>=_, _<$>_}
+use Rattle.bsii_format.specs.Reader.{Reader, success, exhausted, repeat, Consumed, with, consumed, _>>=_, _<$>_}
 use Rattle.bsii_format.specs.Numbers.{leU32}
 use Rattle.bsii_format.specs.Strings.{strParser}
 
@@ -63,7 +62,7 @@ fieldsThen more (some d) l = consField (with d l) <$> more
 
 -- The fuel is the number of bytes left, and an entry has at least one: with none left the u32 that is due runs out.
 unfoldable pub fieldsFrom : ℕ → Reader Fields
-fieldsFrom zero = fail malformed
+fieldsFrom zero = exhausted 4
 fieldsFrom (suc n) = consumed valuePrototypeParser >>= (λ e. fieldsThen (fieldsFrom n) (e .value) (e .raw))
 
 unfoldable pub fieldsParser : Reader Fields

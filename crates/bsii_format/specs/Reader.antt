@@ -6,7 +6,7 @@ use mathlib.Core.Bool.{Bool, true, false, cond, _&&_}
 use mathlib.Core.List.{List, [], _∷_}
 use lib.ListN.{length, take, drop}
 use lib.Dec.{leb, eqb}
-use Rattle.bsii_format.specs.Replies.{Fault, malformed}
+use Rattle.bsii_format.specs.Replies.{Fault, refused, short}
 
 -- the value, the offset after it and the bytes after it; or a fault
 pub data Result (A : Type 0) : Type 0 where
@@ -17,7 +17,10 @@ abbrev pub Reader : Type 0 → Type 0
 Reader A = ℕ → List ℕ → Result A
 
 abbrev pub faultAt : {A : Type 0} → ℕ → ℕ → Result A
-faultAt n at = fault (record { number = n; offset = at })
+faultAt n at = fault (refused n at)
+
+abbrev pub shortAt : {A : Type 0} → ℕ → ℕ → Result A
+shortAt at k = fault (short at k)
 
 -- after a result: go on behind it, or keep its fault. So the first fault met, from front to back, is the answer
 unfoldable pub after : {A B : Type 0} → Result A → (A → Reader B) → Result B
@@ -41,9 +44,14 @@ infixl 30 _<$>_
 unfoldable pub _<$>_ : {A B : Type 0} → (A → B) → Reader A → Reader B
 f <$> R = R >>= (λ a. success (f a))
 
--- n bytes. 3: "a number, a byte, or a string's bytes after its length run out", at "that item's start"
+-- n bytes: an item. 3: "a number, a byte, or a string's bytes after its length run out", at "that item's start"; lacking are those of the n that
+-- are not there
 unfoldable pub bytes : ℕ → Reader (List ℕ)
-bytes n at s = cond (leb n (length s)) (ok (take n s) (at + n) (drop n s)) (faultAt malformed at)
+bytes n at s = cond (leb n (length s)) (ok (take n s) (at + n) (drop n s)) (shortAt at (n - length s))
+
+-- an item of n bytes, of which none is left: for the fuels that never run out
+unfoldable pub exhausted : {A : Type 0} → ℕ → Reader A
+exhausted n at s = shortAt at n
 
 -- what R reads, if it passes the test; else the refusal n where R began
 unfoldable pub verify : {A : Type 0} → (A → Bool) → ℕ → Reader A → Reader A

@@ -1,11 +1,11 @@
--- Which refusals each call gives: document 01, "Replies in number order"; FORMAT.md, "Calls". "Order: 12; then the file from front to back, first
+-- Which refusals each call gives: document 01, "Replies in number order"; document 02, E2; FORMAT.md, "Calls". "Order: 12; then the file from front to back, first
 -- fault met (10 once that prototype is read whole); then 13, or for text 8 and 9 in text order, then 11. The element call gives 3, 4, 5, 7, 13 only."
 use Prim.Native.Nat.{ℕ}
 use mathlib.Core.Path.{_≡_}
-use mathlib.Core.Bool.{Bool, false, _||_}
+use mathlib.Core.Bool.{Bool, false, cond, _&&_, _||_}
 use mathlib.Core.List.{List, [], _∷_, _++_}
-use lib.Dec.{T, eqb}
-use Rattle.bsii_format.specs.Replies.{invalidHeader, unsupportedVersion, malformed, notUtf8, zeroDigit, undefinedPrototype, unlistedType, fieldCount, enumValue, tableFull, outputShort, inputLong, absent, Fault, Reply, gives, refuses}
+use lib.Dec.{T, eqb, ltb}
+use Rattle.bsii_format.specs.Replies.{invalidHeader, unsupportedVersion, malformed, notUtf8, zeroDigit, undefinedPrototype, unlistedType, fieldCount, enumValue, tableFull, outputShort, inputLong, absent, badMark, Fault, Reply, gives, refuses}
 
 -- ---- the numbers
 
@@ -13,10 +13,10 @@ use Rattle.bsii_format.specs.Replies.{invalidHeader, unsupportedVersion,
 abbrev pub valueNumbers : List ℕ
 valueNumbers = malformed ∷ notUtf8 ∷ zeroDigit ∷ unlistedType ∷ []
 
--- of a file, and so of every call that takes one: 1 to 7, 10, 12
+-- of a file, and so of every call that takes one: 1 to 7, 10, 12, 15
 abbrev pub fileNumbers : List ℕ
 fileNumbers =
-    inputLong ∷ invalidHeader ∷ unsupportedVersion ∷ malformed ∷ notUtf8 ∷ zeroDigit ∷ undefinedPrototype ∷ unlistedType ∷ tableFull ∷ []
+    inputLong ∷ invalidHeader ∷ unsupportedVersion ∷ malformed ∷ notUtf8 ∷ zeroDigit ∷ undefinedPrototype ∷ unlistedType ∷ tableFull ∷ badMark ∷ []
 
 abbrev pub readingNumbers : List ℕ
 readingNumbers = fileNumbers
@@ -29,7 +29,7 @@ lookupNumbers = fileNumbers ++ (absent ∷ [])
 abbrev pub elementNumbers : List ℕ
 elementNumbers = valueNumbers ++ (absent ∷ [])
 
--- 1 to 12
+-- 1 to 12, 15
 abbrev pub textNumbers : List ℕ
 textNumbers = fileNumbers ++ (fieldCount ∷ enumValue ∷ outputShort ∷ [])
 
@@ -45,10 +45,14 @@ pub data Each (P : ℕ → Type 0) : List ℕ → Type 0 where
   none : Each P []
   _also_ : {n : ℕ} {l : List ℕ} → P n → Each P l → Each P (n ∷ l)
 
--- a reply that refuses with no other number
+-- 02, E2: reply 3 "also carries how many of that item's bytes were lacking", one at least; no other reply does
+abbrev pub counted : Fault → Bool
+counted f = cond (eqb (f .number) malformed) (ltb 0 (f .lacking)) (eqb (f .lacking) 0)
+
+-- a reply that refuses with no other number, and with a count where it has 3
 abbrev pub Within : {A : Type 0} → List ℕ → Reply A → Type 0
 Within numbers (gives a) = Unit {0}
-Within numbers (refuses f) = T (among numbers (f .number))
+Within numbers (refuses f) = T (among numbers (f .number) && counted f)
 
 -- a question to which the call refuses with the number n
 pub record Gives {Q A : Type 0} (call : Q → Reply A) (n : ℕ) : Type 0 where

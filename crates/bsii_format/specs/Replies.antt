@@ -1,4 +1,4 @@
--- Refusals: document 01, "Replies in number order"; FORMAT.md, "Replies".
+-- Refusals: document 01, "Replies in number order"; document 02, E2; FORMAT.md, "Replies".
 use Prim.Native.Nat.{ℕ}
 
 -- The numbers, each with 01's trade word. Where a refusal is given, and its offset, is said where it is used.
@@ -8,6 +8,7 @@ invalidHeader = 1
 abbrev pub unsupportedVersion : ℕ  -- version
 unsupportedVersion = 2
 
+-- 02, E2: "Reply 3 shall mean only that bytes ran out"
 abbrev pub malformed : ℕ  -- malformed
 malformed = 3
 
@@ -41,10 +42,22 @@ inputLong = 12
 abbrev pub absent : ℕ  -- absent
 absent = 13
 
--- a refusal: its number and its offset, counted from the first byte of the lent input
+abbrev pub badMark : ℕ  -- mark
+badMark = 15
+
+-- a refusal: its number; its offset, counted from the first byte of the lent input; and, with 3, "how many of that item's bytes were lacking"
 pub record Fault : Type 0 where
   pub number : ℕ
   pub offset : ℕ
+  pub lacking : ℕ
+
+-- every refusal but 3
+abbrev pub refused : ℕ → ℕ → Fault
+refused n at = record { number = n; offset = at; lacking = 0 }
+
+-- 3: of the item that starts at the offset `at`, k bytes are lacking
+abbrev pub short : ℕ → ℕ → Fault
+short at k = record { number = malformed; offset = at; lacking = k }
 
 -- what a call answers: the full result, or a refusal
 pub data Reply (A : Type 0) : Type 0 where
@@ -52,4 +65,4 @@ pub data Reply (A : Type 0) : Type 0 where
   refuses : Fault → Reply A
 
 abbrev pub refusal : {A : Type 0} → ℕ → ℕ → Reply A
-refusal n at = refuses (record { number = n; offset = at })
+refusal n at = refuses (refused n at)

@@ -7,7 +7,7 @@ use lib.ListN.{length, take, drop, set, replicate}
 use lib.IntN.{pos, negsuc}
 use lib.Ieee.{Float, nan, fin}
 use Rattle.bsii_format.specs.Ascii.{ascii}
-use Rattle.bsii_format.specs.Replies.{Reply, gives, refusal, malformed, notUtf8, zeroDigit, undefinedPrototype, unlistedType, fieldCount, enumValue, tableFull, outputShort, absent}
+use Rattle.bsii_format.specs.Replies.{Reply, gives, refuses, short, refusal, invalidHeader, notUtf8, zeroDigit, undefinedPrototype, unlistedType, fieldCount, enumValue, tableFull, outputShort, absent, badMark}
 use Rattle.bsii_format.specs.Calls.{Place, Reading, readingCall, PrototypeAnswer, prototypeCall, BlockAnswer, blockCall, namedBlockCall, FieldAnswer, fieldCall, partOf, Datum, dString, dEncodedString, dFloat, dFloatVec2, dFloatVec3, dFloatVec4, dFloatVec8, dInt32, dInt32Vec3, dUInt32, dUInt16, dInt64, dUInt64, dBool, dEnum, dId, elementCall, TextAnswer, textCall}
 use Rattle.bsii_format.specs.Worked.{le, u32, u64, workedFile, workedText, Fact, _says_}
 
@@ -69,6 +69,11 @@ shortenedFile = take 77 workedFile ++ prototypeRecord 7 (ascii "trip") [] ++ dro
 unfoldable pub unlistedEnumFile : List ℕ
 unlistedEnumFile = take 35 (workedWith 25 0x37) ++ u32 0 ++ drop 35 workedFile
 
+-- 62 bytes: prototype 3, `t` with a u16 `n`; its blocks `null` at 35 with 5, and `x` at 42 with 7
+unfoldable pub smallFile : List ℕ
+smallFile =
+    fileWith (prototypeRecord 3 (ascii "t") (definition 0x2b (ascii "n")) ++ u32 3 ++ le 1 0 ++ le 2 5 ++ u32 3 ++ le 1 1 ++ u64 0x22 ++ le 2 7)
+
 -- prototype 1 with the definitions `first`; a block of it with the u32 5; prototype 1 again, with the definitions `last`
 abbrev pub againFile : List ℕ → List ℕ → List ℕ
 againFile first last = fileWith (prototypeRecord 1 (ascii "p") first ++ u32 1 ++ le 1 0 ++ u32 5 ++ prototypeRecord 1 (ascii "p") last)
@@ -88,6 +93,10 @@ twiceFile more value =
     ++ prototypeRecord 1 (ascii "p") (definition 0x27 (ascii "b") ++ more) ++ u32 1 ++ le 1 0 ++ u32 2 ++ value
     )
 
+-- 3 at the offset `at`, lacking k bytes
+abbrev pub lacks : {A : Type 0} → ℕ → ℕ → Reply A
+lacks at k = refuses (short at k)
+
 -- ---- look-ups; the first argument of a call is the number of table words
 
 abbrev pub place : ℕ → ℕ → Place
@@ -103,11 +112,27 @@ readings =
     readingCall 9 twinFile says reads 3 2 127 ∷
     readingCall 8 twinFile says refusal tableFull 83 ∷
     readingCall 0 (fileWith []) says reads 0 0 13 ∷
-    readingCall 3 (workedWith 12 2) says refusal malformed 12 ∷
+    readingCall 3 (workedWith 12 2) says refusal badMark 12 ∷
     readingCall 2 (workedWith 43 0xff) says refusal notUtf8 43 ∷
     readingCall 2 (workedWith 48 8) says refusal tableFull 8 ∷
     readingCall 3 (twiceFile [] []) says reads 1 2 85 ∷
     readingCall 3 (twiceFile (definition 0x27 (ascii "c")) (u32 3)) says refusal undefinedPrototype 44 ∷ []
+
+-- Files that were cut, in the order of the cuts: a part of `BSII`, `BSII` alone, in the version, in a record number, in front of a mark, in a string, in
+-- the file above in front of a definition's type, in its last value and in front of the end record's mark. Then a mark that is none, which is not a cut
+unfoldable pub cutReadings : List (Fact (Reply Reading))
+cutReadings =
+    readingCall 3 (take 3 smallFile) says refusal invalidHeader 0 ∷
+    readingCall 3 (take 4 smallFile) says lacks 4 4 ∷
+    readingCall 3 (take 5 smallFile) says lacks 4 3 ∷
+    readingCall 3 (take 10 smallFile) says lacks 8 2 ∷
+    readingCall 3 (take 12 smallFile) says lacks 12 1 ∷
+    readingCall 3 (ascii "BSII" ++ u32 2 ++ u32 0 ++ le 1 1 ++ u32 3 ++ u32 5 ++ ascii "ab") says lacks 21 3 ∷
+    readingCall 3 (take 22 smallFile) says lacks 22 4 ∷
+    readingCall 3 (take 41 smallFile) says lacks 40 1 ∷
+    readingCall 3 (take 61 smallFile) says lacks 61 1 ∷
+    readingCall 3 smallFile says reads 1 2 62 ∷
+    readingCall 3 (ascii "BSII" ++ u32 2 ++ u32 0 ++ le 1 3) says refusal badMark 12 ∷ []
 
 abbrev pub defines : Place → ℕ → Reply PrototypeAnswer
 defines name fields = gives (record { name = name; fields = fields })
@@ -161,7 +186,8 @@ fields =
     fieldCall 9 twinFile 0 (ascii "x") says carries 0x01 75 (string (ascii "hi")) ∷
     fieldCall 9 twinFile 1 (ascii "x") says refusal absent 0 ∷
     fieldCall 3 enumFile 0 (ascii "e") says carries 0x37 67 (u32 5) ∷
-    fieldCall 3 (workedWith 25 0x08) 0 (ascii "w") says refusal unlistedType 61 ∷ []
+    fieldCall 3 (workedWith 25 0x08) 0 (ascii "w") says refusal unlistedType 61 ∷
+    fieldCall 3 (take 70 workedFile) 0 (ascii "km") says lacks 69 3 ∷ []
 
 unfoldable pub parts : List (Fact (List ℕ))
 parts =
@@ -211,12 +237,25 @@ elements =
     elementCall 0x3a (u32 2 ++ le 1 1 ++ u64 0x57 ++ le 1 0) 1 says gives (dId (place 13 1)) ∷
     elementCall 0x3d (le 1 0xff ++ u64 38) 0 says gives (dId (place 0 9)) ∷
     elementCall 0x08 [] 0 says refusal unlistedType 0 ∷
-    elementCall 0x01 (u32 3 ++ le 1 0xc0 ++ le 1 0x80) 0 says refusal malformed 4 ∷
+    elementCall 0x01 (u32 3 ++ le 1 0xc0 ++ le 1 0x80) 0 says lacks 4 1 ∷
     elementCall 0x01 (u32 2 ++ le 1 0xc0 ++ le 1 0x80) 0 says refusal notUtf8 4 ∷
     elementCall 0x04 (u32 2 ++ u64 1 ++ u64 38) 0 says refusal zeroDigit 12 ∷
-    elementCall 0x06 (u32 2 ++ u32 0) 0 says refusal malformed 8 ∷
+    elementCall 0x06 (u32 2 ++ u32 0) 0 says lacks 8 4 ∷
     elementCall 0x06 (u32 0) 0 says refusal absent 0 ∷
     elementCall 0x27 (u32 300) 1 says refusal absent 0 ∷ []
+
+-- cut in an i64; in a triple's second number, at that number and without the third; in a placement; in the last element of an array; in a string of
+-- 2^32 - 1 bytes; in front of an id's byte, in its number and in its second word
+unfoldable pub cutElements : List (Fact (Reply Datum))
+cutElements =
+    elementCall 0x31 (u32 0 ++ le 1 0) 0 says lacks 0 3 ∷
+    elementCall 0x09 (u32 0 ++ le 2 0) 0 says lacks 4 2 ∷
+    elementCall 0x19 (fourBits ++ le 3 0) 0 says lacks 16 1 ∷
+    elementCall 0x2c (u32 3 ++ u32 0 ++ le 1 0) 0 says lacks 8 1 ∷
+    elementCall 0x01 (u32 0xffff_ffff) 0 says lacks 4 0xffff_ffff ∷
+    elementCall 0x39 [] 0 says lacks 0 1 ∷
+    elementCall 0x39 (le 1 0xff ++ u32 0) 0 says lacks 1 4 ∷
+    elementCall 0x39 (le 1 2 ++ u64 1 ++ u32 0) 0 says lacks 9 4 ∷ []
 
 -- ---- texts: in an output of ones, which shows what is written
 
@@ -230,6 +269,7 @@ unfoldable pub texts : List (Fact TextAnswer)
 texts =
     textCall 3 workedFile (replicate 75 1) says written workedText (1 ∷ 1 ∷ []) ∷
     textCall 3 workedFile (replicate 72 1) says unwritten outputShort 0 73 (replicate 72 1) ∷
+    textCall 3 (take 70 workedFile) (replicate 75 1) says record { reply = lacks 69 3; needed = 0; output = replicate 75 1 } ∷
     textCall 0 (fileWith []) (replicate 13 1) says written (ascii "SiiNunit\n{\n}\n") [] ∷
     textCall 3 redefinedFile (replicate 33 1) says written (ascii "SiiNunit\n{\nq : null {\n  g: 9\n}\n}\n") [] ∷
     textCall 3 enumFile (replicate 36 1) says written (ascii "SiiNunit\n{\np : null {\n  e: high\n}\n}\n") [] ∷
