@@ -1,7 +1,7 @@
 -- The statements of specs/Cuts.antt, from what appended bytes change of a file's reading (proofs/GrowingFiles.antt). A cut is a file to which the bytes that
 -- were cut off are appended: what it reads whole, or refuses by another number than 3, the whole save would too.
 use mathlib.Core.Path.{_≡_, refl, sym, ap, _∙_, subst}
-use Prim.Native.Nat.{ℕ, suc, _/_, _≤_, _<_}
+use Prim.Native.Nat.{ℕ, suc, _+_, _*_, _/_, _≤_, _<_}
 use native.Mathlib.Nat.{le-div-iff-mul-le, zero-add}
 use native.Mathlib.Decide.{ℕ-discrete, decLt}
 use native.Mathlib.Omega.{arith}
@@ -94,6 +94,9 @@ others-are-final words s x e other four t h =
 
 -- ---- cuts
 
+as-short : (x : Fault) → x .number ≡ malformed → x ≡ short (x .offset) (x .lacking)
+as-short x e = ap (λ (n : ℕ). record { number = n; offset = x .offset; lacking = x .lacking }) e
+
 -- a cut inside what is read of a file, its end record included, runs out
 cut-short : (rooms : ℕ) (s : List ℕ) {f : BsiiFile} {at : ℕ} {r : List ℕ} → bsiiParser rooms 0 s ≡ ok f at r → (k : ℕ) → 4 ≤ k → k < at → k ≤ length s
     → (i : ℕ) × (m : ℕ) × (bsiiParser rooms 0 (take k s) ≡ fault (short i m))
@@ -105,7 +108,7 @@ cut-short rooms s {f} {at} {r} e k low high inside =
 
     numbered : (x : Fault) → Cut BsiiFile (drop k s) x (bsiiParser rooms 0 (take k s ++ drop k s))
         → Dec (x .number ≡ malformed) → x ≡ short (x .offset) (x .lacking)
-    numbered x z (yes n) = ap (λ (n : ℕ). record { number = n; offset = x .offset; lacking = x .lacking }) n
+    numbered x z (yes n) = as-short x n
     numbered x z (no n) = fault≢ok (sym (z .final n) ∙ whole)
 
     go : (q : Result BsiiFile) → bsiiParser rooms 0 (take k s) ≡ q → Grown (drop k s) q (bsiiParser rooms 0 (take k s ++ drop k s))
@@ -137,3 +140,39 @@ cuts-are-short words s a e room h k low high =
     let whole = roomy (words / 3) (room / 3) s (p .1) (le-div-iff-mul-le (omega arith) .1 (omega arith)) in
     let c = cut-short (room / 3) s whole k low (omega arith) inside in
     (c .0, c .1, refused-file room (take k s) (omega (arith, length-take-le k s inside, p .0)) {x = short (c .0) (c .1)} (c .2))
+
+-- ---- what follows from the statements
+
+-- two counts at one place differ by the bytes between them
+pub counts-down : (words : ℕ) (s t : List ℕ) (at m k : ℕ) → readingCall words s ≡ refuses (short at m) → readingCall words (s ++ t) ≡ refuses (short at k)
+    → m ≡ length t + k
+counts-down words s t at m k e i = go (decLt (length t) m)
+  where
+    go : Dec (length t < m) → m ≡ length t + k
+    go (yes h) =
+        let z = lacking-is-exact words s at m e .fewer t h (within words (s ++ t) i) in
+        omega (arith, ap (λ (x : Fault). x .lacking) (refuses-inj (sym z ∙ i)))
+    go (no h) = absurd (lacking-is-exact words s at m e .enough t (omega arith) k i)
+
+-- a file that some bytes complete to an accepted one is accepted itself or refused by 3, and no more bytes lack than those
+pub completed : (words : ℕ) (s t : List ℕ) (f : Fault) (a : Reading) → readingCall words s ≡ refuses f → 4 ≤ length s → readingCall words (s ++ t) ≡ gives a
+    → (f .number ≡ malformed) × (f .lacking ≤ length t)
+completed words s t f a e four i = go (ℕ-discrete (f .number) malformed)
+  where
+    limit : length (s ++ t) ≤ lengthLimit
+    limit = parse-ok words (s ++ t) (read words (s ++ t) i .3) .0
+
+    go : Dec (f .number ≡ malformed) → (f .number ≡ malformed) × (f .lacking ≤ length t)
+    go (yes n) = (n, up (decLt (length t) (f .lacking)))
+      where
+        up : Dec (length t < f .lacking) → f .lacking ≤ length t
+        up (yes h) = refuses≢gives (sym (lacking-is-exact words s (f .offset) (f .lacking) (e ∙ ap refuses (as-short f n)) .fewer t h limit) ∙ i)
+        up (no h) = omega arith
+    go (no n) = refuses≢gives (sym (others-are-final words s f e n four t limit) ∙ i)
+
+-- a cut of an accepted save is refused by no other number
+pub cut-number : (words : ℕ) (s : List ℕ) (a : Reading) (room k : ℕ) (f : Fault) → readingCall words s ≡ gives a → 3 * a .prototypes ≤ room → 4 ≤ k → k < a .next
+    → readingCall room (take k s) ≡ refuses f → f .number ≡ malformed
+cut-number words s a room k f e h low high i =
+    let c = cuts-are-short words s a e room h k low high in
+    ap (λ (x : Fault). x .number) (refuses-inj (sym i ∙ c .2))
