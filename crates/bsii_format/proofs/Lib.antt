@@ -11,3 +11,6 @@ pub mod WorkedCalls
 pub mod Refusals
 pub mod CallRefusals
 pub mod Replies
+pub mod Grows
+pub mod GrowingFiles
+pub mod Cuts

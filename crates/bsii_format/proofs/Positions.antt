@@ -8,7 +8,7 @@ use mathlib.Core.Bool.{Bool, true, false}
 use mathlib.Core.List.{List, [], _∷_}
 use lib.ListN.{length, take, drop, length-append, length-drop}
 use lib.Seq.{drop-drop, drop-append-seam}
-use lib.Dec.{T, leb, leb→le, le→leb}
+use lib.Dec.{leb, leb→le, le→leb}
 use Rattle.bsii_format.specs.Replies.{Fault}
 use Rattle.bsii_format.specs.Reader.{Result, ok, fault, Reader, faultAt, shortAt, after, _>>=_, success, _<$>_, bytes, verify, Consumed, with, consumed, repeat}
 use Rattle.bsii_format.specs.Numbers.{littleEndian, number}
@@ -52,17 +52,19 @@ step {A} {R} x s at {a} {next} {rest} e =
 
 -- ---- bytes and numbers at a position
 
-pub bytes-at : (n : ℕ) (s : List ℕ) (at : ℕ) → n ≤ length s - at → bytes n at (drop at s) ≡ ok (take n (drop at s)) (at + n) (drop (at + n) s)
+pub bytes-whole : (n at : ℕ) (s : List ℕ) → n ≤ length s → bytes n at s ≡ ok (take n s) (at + n) (drop n s)
 unfolding bytes
-bytes-at n s at h =
-    let l : T (leb n (length (drop at s))) = le→leb n (length (drop at s)) (rw length-drop h) in
-    rw (is-true (leb n (length (drop at s))) l, drop-drop n at s)
+bytes-whole n at s h = rw (is-true (leb n (length s)) (le→leb n (length s) h))
+
+pub bytes-lack : (n at : ℕ) (s : List ℕ) → length s < n → bytes n at s ≡ shortAt at (n - length s)
+unfolding bytes
+bytes-lack n at s h = rw (is-false (leb n (length s)) (λ k. omega (arith, leb→le n (length s) k)))
+
+pub bytes-at : (n : ℕ) (s : List ℕ) (at : ℕ) → n ≤ length s - at → bytes n at (drop at s) ≡ ok (take n (drop at s)) (at + n) (drop (at + n) s)
+bytes-at n s at h = rw (bytes-whole n at (drop at s) (rw length-drop h), drop-drop n at s)
 
 pub bytes-short : (n : ℕ) (s : List ℕ) (at : ℕ) → length s - at < n → bytes n at (drop at s) ≡ shortAt at (n - (length s - at))
-unfolding bytes
-bytes-short n s at h =
-    let l : T (leb n (length (drop at s))) → ⊥ = λ k. let z : n ≤ length s - at = rw length-drop at (leb→le n (length (drop at s)) k) in omega arith in
-    rw (is-false (leb n (length (drop at s))) l, length-drop at s)
+bytes-short n s at h = rw (bytes-lack n at (drop at s) (rw length-drop h), length-drop at s)
 
 pub number-at : (w : ℕ) (s : List ℕ) (at : ℕ) → w ≤ length s - at → number w at (drop at s) ≡ ok (littleEndian (take w (drop at s))) (at + w) (drop (at + w) s)
 unfolding number _<$>_ _>>=_ after success

@@ -272,7 +272,7 @@ pub head-takes : {h : Head} {c : List ℕ} → Fits Head headParser h c → 1 �
 unfolding headParser _>>=_ after number _<$>_ bytes
 head-takes h = takes headParser h refl
 
-record-takes : (env : List Prototype) (i : Record) → GoodRecord env i → 1 ≤ length (recordBytes i)
+pub record-takes : (env : List Prototype) (i : Record) → GoodRecord env i → 1 ≤ length (recordBytes i)
 unfolding recordBytes
 record-takes env (prototype p) g = rw length-append (omega (arith, head-takes (g .head)))
 record-takes env (block b) g = rw length-append (omega (arith, head-takes (g .head)))

@@ -179,7 +179,7 @@ then-only R h (some d) c = map-only (consField (with d c)) h
 
 fieldsFrom-only : (n : ℕ) → Only fileNumbers Fields (fieldsFrom n)
 unfolding fieldsFrom
-fieldsFrom-only zero = exhausted-only 4 tt (omega arith)
+fieldsFrom-only zero = exhausted-only _ tt (omega arith)
 fieldsFrom-only (suc n) = bind-only _ (consumed-only entry-only) (λ e. then-only (fieldsFrom n) (fieldsFrom-only n) (e .value) (e .raw))
 
 fields-only : Only fileNumbers Fields fieldsParser
@@ -231,7 +231,7 @@ recordsThen-only rooms env start rest h (more r) = cond-only (hasRoom rooms env 
 
 records-only : (rooms n : ℕ) (env : List Prototype) → Only fileNumbers Records (recordsFrom rooms n env)
 unfolding recordsFrom
-records-only rooms zero env = exhausted-only 4 tt (omega arith)
+records-only rooms zero env = exhausted-only _ tt (omega arith)
 records-only rooms (suc n) env = record {
   only = λ at s. after-only (recordParser env at s) _ (record-only env .only at s) (recordsThen-only rooms env at (λ e. recordsFrom rooms n e) (records-only rooms n));
 }

@@ -6,7 +6,7 @@ use mathlib.Core.Option.{Option, none, some}
 use mathlib.Core.List.{List, [], _∷_}
 use lib.ListN.{length}
 use lib.Dec.{leb, eqb}
-use Rattle.bsii_format.specs.Replies.{malformed}
+use Rattle.bsii_format.specs.Replies.{badMark}
 use Rattle.bsii_format.specs.Reader.{Reader, _<$>_, with}
 use Rattle.bsii_format.specs.Prototypes.{EnumValue, ValuePrototype, Prototype, enumValueParser, enumValuesParser, valuePrototypeParser, Fields, consField, fieldsThen, fieldsFrom, fieldsParser}
 use Rattle.bsii_format.specs.Blocks.{DataBlock, findBy, getPrototype, dataValuesParser}
@@ -15,7 +15,7 @@ use Rattle.bsii_format.specs.Text.{valueText}
 use Rattle.bsii_format.specs.BlockText.{blockText}
 use Rattle.bsii_format.proofs.Readers.{fault≢ok}
 use Rattle.bsii_length.specs.Bounds.{lineBound}
-use Rattle.bsii_length.proofs.Taken.{Takes, after-taken, bind-takes, success-takes, fail-takes, map-takes, weaken, cond-takes, verify-takes, consumed-takes, repeat-takes, Row, nil, cons, Every, each, number-takes, str-takes}
+use Rattle.bsii_length.proofs.Taken.{Takes, after-taken, bind-takes, success-takes, exhausted-takes, map-takes, weaken, cond-takes, verify-takes, consumed-takes, repeat-takes, Row, nil, cons, Every, each, number-takes, str-takes}
 use Rattle.bsii_length.proofs.Elements.{ShortEnums, id-takes}
 use Rattle.bsii_length.proofs.Lines.{ShortField, values-takes, answered, ShortFields, ShortPrototype, block-size}
 
@@ -50,7 +50,7 @@ then-takes R h (some d) c k = map-takes (consField (with d c)) h (λ l n z p. co
 
 fieldsFrom-takes : (n : ℕ) → Takes Fields (fieldsFrom n) (λ l k. ShortFields (l .fields))
 unfolding fieldsFrom
-fieldsFrom-takes zero = fail-takes malformed
+fieldsFrom-takes zero = exhausted-takes 4
 fieldsFrom-takes (suc n) =
     bind-takes (λ e. fieldsThen (fieldsFrom n) (e .value) (e .raw)) (consumed-takes entry-takes) (λ e k l p. then-takes (fieldsFrom n) (fieldsFrom-takes n) (e .value) (e .raw) p)
 
@@ -74,7 +74,7 @@ head-takes : Takes Head headParser (λ h n. ShortHead h × (1 ≤ n))
 unfolding headParser
 head-takes =
     bind-takes _ (number-takes 4 (omega arith)) (λ c n l p. cond-takes (eqb c 0)
-    (bind-takes markParser (verify-takes (λ m. leb m 1) malformed (number-takes 1 (omega arith))) (λ m k z q. weaken (mark-takes m) (λ h j y r. (r, omega (arith, p .1)))))
+    (bind-takes markParser (verify-takes (λ m. leb m 1) badMark (number-takes 1 (omega arith))) (λ m k z q. weaken (mark-takes m) (λ h j y r. (r, omega (arith, p .1)))))
     (success-takes (carrying c) (tt, omega (arith, p .1))))
 
 -- a block that was read, in n bytes, has a text of at most n times 2^36 bytes, whatever definition it is written under
@@ -132,7 +132,7 @@ recordsThen-takes rooms env start rest h (more r) n p =
 
 pub recordsFrom-takes : (rooms n : ℕ) (env : List Prototype) → Takes Records (recordsFrom rooms n env) FineRecords
 unfolding recordsFrom
-recordsFrom-takes rooms zero env = record { taken = λ at s v at′ r i e. fault≢ok e }
+recordsFrom-takes rooms zero env = exhausted-takes 4
 recordsFrom-takes rooms (suc n) env = record {
   taken = λ at s.
       after-taken (recordsThen rooms env at (λ e. recordsFrom rooms n e)) (record-takes env) at s

@@ -9,7 +9,7 @@ use lib.ListN.{length, take, drop, getD, length-drop}
 use lib.Seq.{getD-drop, length-take-le}
 use lib.Dec.{leb, leb→le}
 use Rattle.bsii_format.specs.Replies.{notUtf8}
-use Rattle.bsii_format.specs.Reader.{ok, faultAt, Reader, after, _>>=_, success, fail, _<$>_, bytes, verify, Consumed, consumed, repeat}
+use Rattle.bsii_format.specs.Reader.{ok, faultAt, Reader, after, _>>=_, success, fail, _<$>_, bytes, exhausted, verify, Consumed, consumed, repeat}
 use Rattle.bsii_format.specs.Numbers.{littleEndian, number}
 use Rattle.bsii_format.specs.Utf8.{utf8}
 use Rattle.bsii_format.specs.Strings.{strParser}
@@ -59,6 +59,10 @@ success-takes {A} {P} a p = record {
 pub fail-takes : {A : Type 0} {P : A → ℕ → Type 0} (n : ℕ) → Takes A (fail n) P
 unfolding fail
 fail-takes n = record { taken = λ at s v at′ r i e. fault≢ok e }
+
+pub exhausted-takes : {A : Type 0} {P : A → ℕ → Type 0} (n : ℕ) → Takes A (exhausted n) P
+unfolding exhausted
+exhausted-takes n = record { taken = λ at s v at′ r i e. fault≢ok e }
 
 pub map-takes : {A B : Type 0} {P : A → ℕ → Type 0} {Q : B → ℕ → Type 0} {R : Reader A} (f : A → B) → Takes A R P → ((a : A) (n : ℕ) → n ≤ lengthLimit → P a n → Q (f a) n)
     → Takes B (f <$> R) Q
