@@ -1,13 +1,13 @@
--- The statements of specs/Cuts.antt, from what appended bytes change of a file's reading (proofs/GrowingFiles.antt). A cut is a file to which the bytes that
+-- The statements of specs/Cuts.antt, from what appended bytes change of a file's reading (proofs/ExtendedFiles.antt). A cut is a file to which the bytes that
 -- were cut off are appended: what it reads whole, or refuses by another number than 3, the whole save would too.
 use mathlib.Core.Path.{_≡_, refl, sym, ap, _∙_, subst}
 use Prim.Native.Nat.{ℕ, suc, _+_, _*_, _/_, _≤_, _<_}
 use native.Mathlib.Nat.{le-div-iff-mul-le, zero-add}
 use native.Mathlib.Decide.{ℕ-discrete, decLt}
 use native.Mathlib.Omega.{arith}
-use mathlib.Core.List.{List, _++_}
-use lib.ListN.{length, take, drop, length-append, length-take, take-append-drop}
-use lib.Seq.{length-take-le}
+use mathlib.Core.List.{List, [], _++_, append-nil}
+use lib.ListN.{length, take, drop, length-append, length-take, take-append-drop, length-drop}
+use lib.Seq.{length-take-le, take-append-le}
 use Rattle.bsii_format.specs.Ascii.{ascii}
 use Rattle.bsii_format.specs.Replies.{malformed, invalidHeader, Fault, short, gives, refuses}
 use Rattle.bsii_format.specs.Reader.{Result, ok, fault, faultAt, _>>=_, after, consumed, same, tag}
@@ -18,8 +18,8 @@ use Rattle.bsii_format.proofs.Readers.{fault≢ok, ok-at, fault-is, is-
 use Rattle.bsii_format.proofs.ReplyLaws.{refuses≢gives, gives-inj, refuses-inj}
 use Rattle.bsii_format.proofs.File.{file-fits, file-good, parse-short, parse-ok}
 use Rattle.bsii_format.proofs.CallRefusals.{parse-long}
-use Rattle.bsii_format.proofs.Grows.{From, Cut, Grown}
-use Rattle.bsii_format.proofs.GrowingFiles.{file-grown}
+use Rattle.bsii_format.proofs.Extends.{From, Cut, Extended}
+use Rattle.bsii_format.proofs.ExtendedFiles.{file-extended}
 
 -- ---- what a reading call says of the file
 
@@ -73,7 +73,7 @@ lacks-header rooms s e = go (decLt (length s) 4)
     go (no h) = omega arith
 
 cut-file : (rooms : ℕ) (s t : List ℕ) {x : Fault} → 4 ≤ length s → bsiiParser rooms 0 s ≡ fault x → Cut BsiiFile t x (bsiiParser rooms 0 (s ++ t))
-cut-file rooms s t h e = subst (λ q. Grown t q (bsiiParser rooms 0 (s ++ t))) e (file-grown rooms s t h)
+cut-file rooms s t h e = subst (λ q. Extended t q (bsiiParser rooms 0 (s ++ t))) e (file-extended rooms s t h)
 
 pub lacking-is-exact : LackingIsExact
 lacking-is-exact words s at m e =
@@ -82,9 +82,7 @@ lacking-is-exact words s at m e =
     λ t. cut-file (words / 3) s t (lacks-header (words / 3) s b) b in
     record {
       fewer = λ t l h. refused-file words (s ++ t) h (cut t .fewer refl l);
-      enough = λ t l k i.
-          let z : suc at ≤ at = subst (From (suc at)) (file-faulty words (s ++ t) (within words (s ++ t) i) i) (cut t .enough refl l) refl in
-          omega arith;
+      enough = λ t l p k i. subst (From (suc at)) (file-faulty words (s ++ t) (within words (s ++ t) i) i) (cut t .enough refl l) refl;
     }
 
 pub others-are-final : OthersAreFinal
@@ -97,36 +95,42 @@ others-are-final words s x e other four t h =
 as-short : (x : Fault) → x .number ≡ malformed → x ≡ short (x .offset) (x .lacking)
 as-short x e = ap (λ (n : ℕ). record { number = n; offset = x .offset; lacking = x .lacking }) e
 
--- a cut inside what is read of a file, its end record included, runs out
+-- a cut inside what is read of a file, its end record included, runs out, in an item that stands in the file
 cut-short : (rooms : ℕ) (s : List ℕ) {f : BsiiFile} {at : ℕ} {r : List ℕ} → bsiiParser rooms 0 s ≡ ok f at r → (k : ℕ) → 4 ≤ k → k < at → k ≤ length s
-    → (i : ℕ) × (m : ℕ) × (bsiiParser rooms 0 (take k s) ≡ fault (short i m))
+    → (i : ℕ) × (m : ℕ) × (bsiiParser rooms 0 (take k s) ≡ fault (short i m)) × (k + m ≤ length s)
 cut-short rooms s {f} {at} {r} e k low high inside =
-    go (bsiiParser rooms 0 (take k s)) refl (file-grown rooms (take k s) (drop k s) (rw (length-take-le k s inside) low))
+    go (bsiiParser rooms 0 (take k s)) refl (file-extended rooms (take k s) (drop k s) (rw (length-take-le k s inside) low))
   where
     whole : bsiiParser rooms 0 (take k s ++ drop k s) ≡ ok f at r
     whole = ap (bsiiParser rooms 0) (take-append-drop k s) ∙ e
 
-    numbered : (x : Fault) → Cut BsiiFile (drop k s) x (bsiiParser rooms 0 (take k s ++ drop k s))
-        → Dec (x .number ≡ malformed) → x ≡ short (x .offset) (x .lacking)
-    numbered x z (yes n) = as-short x n
+    numbered : (x : Fault) → Cut BsiiFile (drop k s) x (bsiiParser rooms 0 (take k s ++ drop k s)) → Dec (x .number ≡ malformed) → x .number ≡ malformed
+    numbered x z (yes n) = n
     numbered x z (no n) = fault≢ok (sym (z .final n) ∙ whole)
 
-    go : (q : Result BsiiFile) → bsiiParser rooms 0 (take k s) ≡ q → Grown (drop k s) q (bsiiParser rooms 0 (take k s ++ drop k s))
-        → (i : ℕ) × (m : ℕ) × (bsiiParser rooms 0 (take k s) ≡ fault (short i m))
+    held : (x : Fault) → Cut BsiiFile (drop k s) x (bsiiParser rooms 0 (take k s ++ drop k s)) → x .number ≡ malformed
+        → Dec (length (drop k s) < x .lacking) → k + x .lacking ≤ length s
+    held x z n (yes l) = fault≢ok (sym (z .fewer n l) ∙ whole)
+    held x z n (no l) = omega (arith, length-drop k s)
+
+    go : (q : Result BsiiFile) → bsiiParser rooms 0 (take k s) ≡ q → Extended (drop k s) q (bsiiParser rooms 0 (take k s ++ drop k s))
+        → (i : ℕ) × (m : ℕ) × (bsiiParser rooms 0 (take k s) ≡ fault (short i m)) × (k + m ≤ length s)
     go (ok g n l) h z =
         let x = file-good rooms (take k s) g n l h in
         absurd (omega (arith, x .place, ok-at (sym z ∙ whole), ap length (x .front), length-append (fileBytes g) l, length-take-le k s inside))
-    go (fault x) h z = (x .offset, x .lacking, h ∙ ap fault (numbered x z (ℕ-discrete (x .number) malformed)))
+    go (fault x) h z =
+        let n = numbered x z (ℕ-discrete (x .number) malformed) in
+        (x .offset, x .lacking, h ∙ ap fault (as-short x n), held x z n (decLt (length (drop k s)) (x .lacking)))
 
--- a file that is read with one table is read so with every table that has room
+-- what is read of a file, without the bytes behind it, is read with every table that has room
 roomy : (rooms other : ℕ) (s : List ℕ) {f : BsiiFile} {at : ℕ} {r : List ℕ} → bsiiParser rooms 0 s ≡ ok f at r
     → distinctIds (prototypesOf (f .records)) ≤ other
-    → bsiiParser other 0 s ≡ ok f at r
+    → bsiiParser other 0 (fileBytes f) ≡ ok f at []
 unfolding prototypesOf
 roomy rooms other s {f} {at} {r} e h =
     let g = file-good rooms s f at r e in
     let fits = file-fits other f (record { header = g .good .header; records = g .good .records; roomed = h; last = g .good .last }) in
-    ap (bsiiParser other 0) (g .front) ∙ fits .reads 0 r ∙ ap (λ n. ok f n r) (zero-add (length (fileBytes f)) ∙ sym (g .place))
+    ap (bsiiParser other 0) (sym (append-nil (fileBytes f))) ∙ fits .reads 0 [] ∙ ap (λ n. ok f n []) (zero-add (length (fileBytes f)) ∙ sym (g .place))
 
 pub cuts-are-short : CutsAreShort
 unfolding readingOf
@@ -136,10 +140,14 @@ cuts-are-short words s a e room h k low high =
     let g = file-good (words / 3) s (q .0) (q .1) (q .2) (p .1) in
     let ids : distinctIds (prototypesOf (q .0 .records)) ≡ a .prototypes = ap (λ (a : Reading). a .prototypes) (q .4) in
     let next : q .1 ≡ a .next = ap (λ (a : Reading). a .next) (q .4) in
-    let inside : k ≤ length s = omega (arith, g .place, ap length (g .front), length-append (fileBytes (q .0)) (q .2)) in
+    let b = fileBytes (q .0) in
+    let inside : k ≤ length b = omega (arith, g .place) in
     let whole = roomy (words / 3) (room / 3) s (p .1) (le-div-iff-mul-le (omega arith) .1 (omega arith)) in
-    let c = cut-short (room / 3) s whole k low (omega arith) inside in
-    (c .0, c .1, refused-file room (take k s) (omega (arith, length-take-le k s inside, p .0)) {x = short (c .0) (c .1)} (c .2))
+    let c = cut-short (room / 3) b whole k low (omega arith) inside in
+    let cut : take k s ≡ take k b = ap (take k) (g .front) ∙ take-append-le k b (q .2) inside in
+    let limit : length (take k b) ≤ lengthLimit = omega (arith, length-take-le k b inside, p .0, ap length (g .front), length-append b (q .2)) in
+    let told = refused-file room (take k b) limit {x = short (c .0) (c .1)} (c .2) in
+    (c .0, c .1, subst (λ z. readingCall room z ≡ refuses (short (c .0) (c .1))) (sym cut) told, omega (arith, c .3, g .place))
 
 -- ---- what follows from the statements
 
@@ -152,7 +160,7 @@ counts-down words s t at m k e i = go (decLt (length t) m)
     go (yes h) =
         let z = lacking-is-exact words s at m e .fewer t h (within words (s ++ t) i) in
         omega (arith, ap (λ (x : Fault). x .lacking) (refuses-inj (sym z ∙ i)))
-    go (no h) = absurd (lacking-is-exact words s at m e .enough t (omega arith) k i)
+    go (no h) = absurd (omega (arith, lacking-is-exact words s at m e .enough t (omega arith) at k i))
 
 -- a file that some bytes complete to an accepted one is accepted itself or refused by 3, and no more bytes lack than those
 pub completed : (words : ℕ) (s t : List ℕ) (f : Fault) (a : Reading) → readingCall words s ≡ refuses f → 4 ≤ length s → readingCall words (s ++ t) ≡ gives a

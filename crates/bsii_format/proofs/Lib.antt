@@ -11,6 +11,8 @@ pub mod WorkedCalls
 pub mod Refusals
 pub mod CallRefusals
 pub mod Replies
-pub mod Grows
-pub mod GrowingFiles
+pub mod Extends
+pub mod ExtendedFiles
 pub mod Cuts
+pub mod CutElements
+pub mod CutEdges

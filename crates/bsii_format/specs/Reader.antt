@@ -49,7 +49,7 @@ f <$> R = R >>= (λ a. success (f a))
 unfoldable pub bytes : ℕ → Reader (List ℕ)
 bytes n at s = cond (leb n (length s)) (ok (take n s) (at + n) (drop n s)) (shortAt at (n - length s))
 
--- an item of n bytes, of which none is left: for the fuels that never run out
+-- an item of n bytes of which none is there: what is due where a list's fuel ends, since it ends with the bytes
 unfoldable pub exhausted : {A : Type 0} → ℕ → Reader A
 exhausted n at s = shortAt at n
 

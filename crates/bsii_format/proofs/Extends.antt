@@ -26,13 +26,13 @@ pub record Cut (A : Type 0) (t : List ℕ) (f : Fault) (q : Result A) : Type 0 w
   pub fewer : f .number ≡ malformed → length t < f .lacking → q ≡ shortAt (f .offset) (f .lacking - length t)
   pub enough : f .number ≡ malformed → f .lacking ≤ length t → From (suc (f .offset)) q
 
-abbrev pub Grown : {A : Type 0} → List ℕ → Result A → Result A → Type 0
-Grown t (ok v n r) q = q ≡ ok v n (r ++ t)
-Grown {A} t (fault f) q = Cut A t f q
+abbrev pub Extended : {A : Type 0} → List ℕ → Result A → Result A → Type 0
+Extended t (ok v n r) q = q ≡ ok v n (r ++ t)
+Extended {A} t (fault f) q = Cut A t f q
 
-pub record Grows (A : Type 0) (R : Reader A) : Type 0 where
+pub record Extends (A : Type 0) (R : Reader A) : Type 0 where
   pub from : (at : ℕ) (s : List ℕ) → From at (R at s)
-  pub grown : (at : ℕ) (s t : List ℕ) → Grown t (R at s) (R at (s ++ t))
+  pub extended : (at : ℕ) (s t : List ℕ) → Extended t (R at s) (R at (s ++ t))
 
 -- ---- sequences
 
@@ -58,123 +58,123 @@ cut-after {f = f} q g h k = record {
 }
 
 -- behind a value that was read stand two readers, f over the bytes as they are and g over those with t appended
-pub after-grown : {A B : Type 0} (t : List ℕ) (q p : Result A) (f g : A → Reader B) → Grown t q p
-    → ((a : A) (n : ℕ) (r : List ℕ) → q ≡ ok a n r → Grown t (f a n r) (g a n (r ++ t))) → Onward g → Grown t (after q f) (after p g)
+pub after-extended : {A B : Type 0} (t : List ℕ) (q p : Result A) (f g : A → Reader B) → Extended t q p
+    → ((a : A) (n : ℕ) (r : List ℕ) → q ≡ ok a n r → Extended t (f a n r) (g a n (r ++ t))) → Onward g → Extended t (after q f) (after p g)
 unfolding after
-after-grown t (ok a n r) p f g h k l = rw h (k a n r refl)
-after-grown t (fault x) p f g h k l = cut-after p g h l
+after-extended t (ok a n r) p f g h k l = rw h (k a n r refl)
+after-extended t (fault x) p f g h k l = cut-after p g h l
 
 -- ---- combinators
 
-pub success-grows : {A : Type 0} (a : A) → Grows A (success a)
+pub success-extends : {A : Type 0} (a : A) → Extends A (success a)
 unfolding success
-success-grows a = record { from = λ at s. omega arith; grown = λ at s t. refl }
+success-extends a = record { from = λ at s. omega arith; extended = λ at s t. refl }
 
 -- a number other than 3
 abbrev pub Other : ℕ → Type 0
 Other n = T (not (eqb n malformed))
 
 -- a refusal by it, whose place is that of an earlier byte
-pub refusal-grows : (A : Type 0) (n start : ℕ) → Other n → Grows A (λ at s. faultAt n start)
-refusal-grows A n start h = record {
+pub refusal-extends : (A : Type 0) (n start : ℕ) → Other n → Extends A (λ at s. faultAt n start)
+refusal-extends A n start h = record {
   from = λ at s e. other e;
-  grown = λ at s t. record { final = λ k. refl; fewer = λ e. other e; enough = λ e. other e };
+  extended = λ at s t. record { final = λ k. refl; fewer = λ e. other e; enough = λ e. other e };
 }
   where
     other : {P : Type 0} → n ≡ malformed → P
     other e = absurd (T-not (eqb n malformed) h (subst (λ k. T (eqb k malformed)) (sym e) (eqb-refl malformed)))
 
-pub fail-grows : (A : Type 0) (n : ℕ) → Other n → Grows A (fail n)
+pub fail-extends : (A : Type 0) (n : ℕ) → Other n → Extends A (fail n)
 unfolding fail
-fail-grows A n h = record { from = λ at. refusal-grows A n at h .from at; grown = λ at. refusal-grows A n at h .grown at }
+fail-extends A n h = record { from = λ at. refusal-extends A n at h .from at; extended = λ at. refusal-extends A n at h .extended at }
 
 -- what comes behind R may know where R began
-pub after-grows : {A B : Type 0} {R : Reader A} (f : ℕ → A → Reader B) → Grows A R → ((start : ℕ) (a : A) → Grows B (f start a))
-    → Grows B (λ at s. after (R at s) (f at))
-after-grows {R = R} f h k = record {
+pub after-extends : {A B : Type 0} {R : Reader A} (f : ℕ → A → Reader B) → Extends A R → ((start : ℕ) (a : A) → Extends B (f start a))
+    → Extends B (λ at s. after (R at s) (f at))
+after-extends {R = R} f h k = record {
   from = λ at s. from-after at (R at s) (f at) (h .from at s) (λ a. k at a .from);
-  grown = λ at s t. after-grown t (R at s) (R at (s ++ t)) (f at) (f at) (h .grown at s t) (λ a n r e. k at a .grown n r t) (λ a. k at a .from);
+  extended = λ at s t. after-extended t (R at s) (R at (s ++ t)) (f at) (f at) (h .extended at s t) (λ a n r e. k at a .extended n r t) (λ a. k at a .from);
 }
 
-pub bind-grows : {A B : Type 0} {R : Reader A} (f : A → Reader B) → Grows A R → ((a : A) → Grows B (f a)) → Grows B (R >>= f)
+pub bind-extends : {A B : Type 0} {R : Reader A} (f : A → Reader B) → Extends A R → ((a : A) → Extends B (f a)) → Extends B (R >>= f)
 unfolding _>>=_
-bind-grows f h k = after-grows (λ start. f) h (λ start. k)
+bind-extends f h k = after-extends (λ start. f) h (λ start. k)
 
 pub map-from : {A B : Type 0} (f : A → B) (R : Reader A) (at : ℕ) (s : List ℕ) → From at (R at s) → From at ((f <$> R) at s)
 unfolding _<$>_ _>>=_
-map-from f R at s h = from-after at (R at s) (λ a. success (f a)) h (λ a. success-grows (f a) .from)
+map-from f R at s h = from-after at (R at s) (λ a. success (f a)) h (λ a. success-extends (f a) .from)
 
-pub map-grown : {A B : Type 0} (f : A → B) (R S : Reader A) (at : ℕ) (s t : List ℕ) → Grown t (R at s) (S at (s ++ t))
-    → Grown t ((f <$> R) at s) ((f <$> S) at (s ++ t))
+pub map-extended : {A B : Type 0} (f : A → B) (R S : Reader A) (at : ℕ) (s t : List ℕ) → Extended t (R at s) (S at (s ++ t))
+    → Extended t ((f <$> R) at s) ((f <$> S) at (s ++ t))
 unfolding _<$>_ _>>=_
-map-grown f R S at s t h =
-    after-grown t (R at s) (S at (s ++ t)) (λ a. success (f a)) (λ a. success (f a)) h (λ a n r e. success-grows (f a) .grown n r t)
-    (λ a. success-grows (f a) .from)
+map-extended f R S at s t h =
+    after-extended t (R at s) (S at (s ++ t)) (λ a. success (f a)) (λ a. success (f a)) h (λ a n r e. success-extends (f a) .extended n r t)
+    (λ a. success-extends (f a) .from)
 
-pub map-grows : {A B : Type 0} (f : A → B) {R : Reader A} → Grows A R → Grows B (f <$> R)
-map-grows f {R} h = record { from = λ at s. map-from f R at s (h .from at s); grown = λ at s t. map-grown f R R at s t (h .grown at s t) }
+pub map-extends : {A B : Type 0} (f : A → B) {R : Reader A} → Extends A R → Extends B (f <$> R)
+map-extends f {R} h = record { from = λ at s. map-from f R at s (h .from at s); extended = λ at s t. map-extended f R R at s t (h .extended at s t) }
 
-pub repeat-grows : {A : Type 0} (n : ℕ) {R : Reader A} → Grows A R → Grows (List A) (repeat n R)
+pub repeat-extends : {A : Type 0} (n : ℕ) {R : Reader A} → Extends A R → Extends (List A) (repeat n R)
 unfolding repeat
-repeat-grows zero h = success-grows []
-repeat-grows (suc n) h = bind-grows _ h (λ a. bind-grows _ (repeat-grows n h) (λ l. success-grows (a ∷ l)))
+repeat-extends zero h = success-extends []
+repeat-extends (suc n) h = bind-extends _ h (λ a. bind-extends _ (repeat-extends n h) (λ l. success-extends (a ∷ l)))
 
-pub cond-grows : {A : Type 0} (b : Bool) {R S : Reader A} → Grows A R → Grows A S → Grows A (cond b R S)
-cond-grows true h k = h
-cond-grows false h k = k
+pub cond-extends : {A : Type 0} (b : Bool) {R S : Reader A} → Extends A R → Extends A S → Extends A (cond b R S)
+cond-extends true h k = h
+cond-extends false h k = k
 
-pub tested : {A : Type 0} (b : Bool) (a : A) (n start : ℕ) → Other n → Grows A (λ at s. cond b (ok a at s) (faultAt n start))
+pub tested : {A : Type 0} (b : Bool) (a : A) (n start : ℕ) → Other n → Extends A (λ at s. cond b (ok a at s) (faultAt n start))
 unfolding success
-tested true a n start h = success-grows a
-tested {A} false a n start h = refusal-grows A n start h
+tested true a n start h = success-extends a
+tested {A} false a n start h = refusal-extends A n start h
 
-pub verify-grows : {A : Type 0} (p : A → Bool) (n : ℕ) {R : Reader A} → Other n → Grows A R → Grows A (verify p n R)
+pub verify-extends : {A : Type 0} (p : A → Bool) (n : ℕ) {R : Reader A} → Other n → Extends A R → Extends A (verify p n R)
 unfolding verify
-verify-grows p n o h = after-grows _ h (λ start a. tested (p a) a n start o)
+verify-extends p n o h = after-extends _ h (λ start a. tested (p a) a n start o)
 
 -- ---- the combinators that see the bytes
 
-exact-grown : {A : Type 0} {R : Reader A} → Exact A R → (at : ℕ) (s t : List ℕ) {v : A} {n : ℕ} {r : List ℕ} → R at s ≡ ok v n r
+exact-extended : {A : Type 0} {R : Reader A} → Exact A R → (at : ℕ) (s t : List ℕ) {v : A} {n : ℕ} {r : List ℕ} → R at s ≡ ok v n r
     → R at (s ++ t) ≡ ok v n (r ++ t)
-exact-grown {R = R} x at s t {v} {n} {r} e =
+exact-extended {R = R} x at s t {v} {n} {r} e =
     let k = x .took at s v n r e in
     ap (λ (l : List ℕ). R at (l ++ t)) (k .1 .front) ∙ ap (R at) (append-assoc (k .0) r t)
     ∙ k .1 .fits .reads at (r ++ t) ∙ ap (λ i. ok v i (r ++ t)) (sym (k .1 .place))
 
 -- the bytes that it keeps are those that were read, not what was appended
-pub consumed-grown : {A : Type 0} {R : Reader A} → Exact A R → (at : ℕ) (s t : List ℕ) → Grown t (R at s) (R at (s ++ t))
-    → Grown t (consumed R at s) (consumed R at (s ++ t))
-consumed-grown {A} {R} x at s t h = go (R at s) refl h
+pub consumed-extended : {A : Type 0} {R : Reader A} → Exact A R → (at : ℕ) (s t : List ℕ) → Extended t (R at s) (R at (s ++ t))
+    → Extended t (consumed R at s) (consumed R at (s ++ t))
+consumed-extended {A} {R} x at s t h = go (R at s) refl h
   where
-    go : (q : Result A) → R at s ≡ q → Grown t q (R at (s ++ t)) → Grown t (consumed R at s) (consumed R at (s ++ t))
-    go (ok v n r) e k = rw (consumed-ok R e) (exact-grown (consumed-exact x) at s t (consumed-ok R e))
+    go : (q : Result A) → R at s ≡ q → Extended t q (R at (s ++ t)) → Extended t (consumed R at s) (consumed R at (s ++ t))
+    go (ok v n r) e k = rw (consumed-ok R e) (exact-extended (consumed-exact x) at s t (consumed-ok R e))
     go (fault f) e k = unfold consumed after in rw e (cut-after (R at (s ++ t)) _ k (λ a i r. omega arith))
 
-pub consumed-grows : {A : Type 0} {R : Reader A} → Exact A R → Grows A R → Grows (Consumed A) (consumed R)
+pub consumed-extends : {A : Type 0} {R : Reader A} → Exact A R → Extends A R → Extends (Consumed A) (consumed R)
 unfolding consumed
-consumed-grows {R = R} x h = record {
+consumed-extends {R = R} x h = record {
   from = λ at s. from-after at (R at s) _ (h .from at s) (λ a i r. omega arith);
-  grown = λ at s t. consumed-grown x at s t (h .grown at s t);
+  extended = λ at s t. consumed-extended x at s t (h .extended at s t);
 }
 
 -- an item that ran out
-bytes-cut : (n at : ℕ) (s t : List ℕ) → length s < n → Grown t (bytes n at s) (bytes n at (s ++ t))
+bytes-cut : (n at : ℕ) (s t : List ℕ) → length s < n → Extended t (bytes n at s) (bytes n at (s ++ t))
 bytes-cut n at s t h = rw (bytes-lack n at s h) (record {
   final = λ k. absurd (k refl);
   fewer = λ e l. bytes-lack n at (s ++ t) (rw length-append (omega arith)) ∙ ap (λ k. shortAt at k) (rw length-append (omega arith));
   enough = λ e l. rw (bytes-whole n at (s ++ t) (rw length-append (omega arith))) (omega arith);
 })
 
-pub bytes-grows : (n : ℕ) → Grows (List ℕ) (bytes n)
-bytes-grows n = record { from = λ at s. from at s (decLt (length s) n); grown = λ at s t. grown at s t (decLt (length s) n) }
+pub bytes-extends : (n : ℕ) → Extends (List ℕ) (bytes n)
+bytes-extends n = record { from = λ at s. from at s (decLt (length s) n); extended = λ at s t. extended at s t (decLt (length s) n) }
   where
     from : (at : ℕ) (s : List ℕ) → Dec (length s < n) → From at (bytes n at s)
     from at s (yes h) = rw (bytes-lack n at s h) (λ e. omega arith)
     from at s (no h) = rw (bytes-whole n at s (omega arith)) (omega arith)
 
-    grown : (at : ℕ) (s t : List ℕ) → Dec (length s < n) → Grown t (bytes n at s) (bytes n at (s ++ t))
-    grown at s t (yes h) = bytes-cut n at s t h
-    grown at s t (no h) = let e = bytes-whole n at s (omega arith) in rw e (exact-grown (bytes-exact n) at s t e)
+    extended : (at : ℕ) (s t : List ℕ) → Dec (length s < n) → Extended t (bytes n at s) (bytes n at (s ++ t))
+    extended at s t (yes h) = bytes-cut n at s t h
+    extended at s t (no h) = let e = bytes-whole n at s (omega arith) in rw e (exact-extended (bytes-exact n) at s t e)
 
 -- ---- readers that go on while there is fuel
 
@@ -184,16 +184,16 @@ pub record Loop (X A B : Type 0) (L : ℕ → X → Reader B) (R : X → Reader 
   pub stop : (x : X) (at : ℕ) (s : List ℕ) → L 0 x at s ≡ shortAt at 4
   pub due : (x : X) (at : ℕ) → R x at [] ≡ shortAt at 4
   pub step : (n : ℕ) (x : X) (at : ℕ) (s : List ℕ) → L (suc n) x at s ≡ after (R x at s) (K x at (L n))
-  pub grows : (x : X) → Grows A (R x)
+  pub extends : (x : X) → Extends A (R x)
   pub less : (x : X) (at : ℕ) (s : List ℕ) (a : A) (n : ℕ) (r : List ℕ) → R x at s ≡ ok a n r → length r < length s
   pub onward : (x : X) (at : ℕ) (M : X → Reader B) → Onward M → Onward (K x at M)
-  pub grown : (x : X) (at : ℕ) (M N : X → Reader B) (a : A) (n : ℕ) (r t : List ℕ) → ((y : X) → Grown t (M y n r) (N y n (r ++ t)))
-      → Grown t (K x at M a n r) (K x at N a n (r ++ t))
+  pub extended : (x : X) (at : ℕ) (M N : X → Reader B) (a : A) (n : ℕ) (r t : List ℕ) → ((y : X) → Extended t (M y n r) (N y n (r ++ t)))
+      → Extended t (K x at M a n r) (K x at N a n (r ++ t))
 
 module _ {X A B : Type 0} {L : ℕ → X → Reader B} {R : X → Reader A} {K : X → ℕ → (X → Reader B) → A → Reader B} (l : Loop X A B L R K) where
   pub loop-from : (n : ℕ) → Onward (L n)
   loop-from zero x at s = rw (l .stop x at s) (λ e. omega arith)
-  loop-from (suc n) x at s = rw (l .step n x at s) (from-after at (R x at s) (K x at (L n)) (l .grows x .from at s) (l .onward x at (L n) (loop-from n)))
+  loop-from (suc n) x at s = rw (l .step n x at s) (from-after at (R x at s) (K x at (L n)) (l .extends x .from at s) (l .onward x at (L n) (loop-from n)))
 
   -- a round, also where no fuel is left
   round : (n : ℕ) (x : X) (at : ℕ) (s : List ℕ) → length s ≤ n → L n x at s ≡ after (R x at s) (K x at (L (n - 1)))
@@ -204,17 +204,17 @@ module _ {X A B : Type 0} {L : ℕ → X → Reader B} {R : X → Reader A} {K :
 
   -- a round over the bytes as they are and one over those with t appended, if the next ones are so related
   turn : (n m : ℕ) (x : X) (at : ℕ) (s t : List ℕ) → length s ≤ n → length (s ++ t) ≤ m
-      → ((y : X) (i : ℕ) (r : List ℕ) → length r < length s → Grown t (L (n - 1) y i r) (L (m - 1) y i (r ++ t))) → Grown t (L n x at s) (L m x at (s ++ t))
+      → ((y : X) (i : ℕ) (r : List ℕ) → length r < length s → Extended t (L (n - 1) y i r) (L (m - 1) y i (r ++ t))) → Extended t (L n x at s) (L m x at (s ++ t))
   turn n m x at s t h k next =
       let on = loop-from (m - 1) in
       rw (round n x at s h, round m x at (s ++ t) k)
-      (after-grown t (R x at s) (R x at (s ++ t)) (K x at (L (n - 1))) (K x at (L (m - 1))) (l .grows x .grown at s t)
-      (λ a i r e. l .grown x at (L (n - 1)) (L (m - 1)) a i r t (λ y. next y i r (l .less x at s a i r e))) (l .onward x at (L (m - 1)) on))
+      (after-extended t (R x at s) (R x at (s ++ t)) (K x at (L (n - 1))) (K x at (L (m - 1))) (l .extends x .extended at s t)
+      (λ a i r e. l .extended x at (L (n - 1)) (L (m - 1)) a i r t (λ y. next y i r (l .less x at s a i r e))) (l .onward x at (L (m - 1)) on))
 
-  pub loop-grown : (n m : ℕ) (x : X) (at : ℕ) (s t : List ℕ) → length s ≤ n → length (s ++ t) ≤ m → Grown t (L n x at s) (L m x at (s ++ t))
-  loop-grown zero m x at s t h k = turn 0 m x at s t h k (λ y i r z. absurd (omega arith))
-  loop-grown (suc n) m x at s t h k =
+  pub loop-extended : (n m : ℕ) (x : X) (at : ℕ) (s t : List ℕ) → length s ≤ n → length (s ++ t) ≤ m → Extended t (L n x at s) (L m x at (s ++ t))
+  loop-extended zero m x at s t h k = turn 0 m x at s t h k (λ y i r z. absurd (omega arith))
+  loop-extended (suc n) m x at s t h k =
       let one : n ≡ suc n - 1 = omega arith in
       turn (suc n) m x at s t h k
-      (λ y i r z. subst (λ (j : ℕ). Grown t (L j y i r) (L (m - 1) y i (r ++ t))) one
-      (loop-grown n (m - 1) y i r t (omega arith) (omega (arith, length-append s t, length-append r t))))
+      (λ y i r z. subst (λ (j : ℕ). Extended t (L j y i r) (L (m - 1) y i (r ++ t))) one
+      (loop-extended n (m - 1) y i r t (omega arith) (omega (arith, length-append s t, length-append r t))))
