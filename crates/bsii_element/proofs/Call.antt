@@ -7,8 +7,8 @@ use mathlib.Core.List.{List, []}
 use lib.ListN.{length, take, drop, getElem?, length-drop}
 use lib.Seq.{take-all, length-take-le}
 use lib.Dec.{leb, leb→le}
-use Rattle.bsii_format.specs.Replies.{gives, refuses, refusal, malformed, absent, notUtf8}
-use Rattle.bsii_format.specs.Reader.{Result, ok, fault, faultAt, bytes, after, success, verify, Consumed, consumed, repeat, _>>=_, _<$>_}
+use Rattle.bsii_format.specs.Replies.{gives, refuses, refusal, absent, notUtf8}
+use Rattle.bsii_format.specs.Reader.{Result, ok, fault, shortAt, bytes, after, success, verify, Consumed, consumed, repeat, _>>=_, _<$>_}
 use Rattle.bsii_format.specs.Numbers.{number}
 use Rattle.bsii_format.specs.Utf8.{utf8}
 use Rattle.bsii_format.specs.Strings.{strParser, idParser}
@@ -57,7 +57,7 @@ numbers-decoded k s at {n} e =
     ∙ sym (ap (decoded at) (q .2))
 
 -- no element that is numbers is empty
-numbers-refuse : (k : Numeric) → elementParser (numbers k) 0 [] ≡ faultAt malformed 0
+numbers-refuse : (k : Numeric) → elementParser (numbers k) 0 [] ≡ shortAt 0 (width k)
 unfolding elementParser repeat arity width number bytes after success _>>=_ _<$>_
 numbers-refuse float = refl
 numbers-refuse floatVec2 = refl

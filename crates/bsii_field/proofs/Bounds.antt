@@ -4,7 +4,7 @@ use Prim.Native.Nat.{ℕ, _≤_, _<_}
 use mathlib.Core.Option.{Option, none, some}
 use mathlib.Core.List.{List, []}
 use lib.ListN.{length, drop}
-use Rattle.bsii_format.specs.Replies.{Fault, malformed, unlistedType}
+use Rattle.bsii_format.specs.Replies.{unlistedType, Fault, refused, short}
 use Rattle.bsii_format.specs.Reader.{fault, after, _>>=_, _<$>_, fail, bytes, repeat}
 use Rattle.bsii_format.specs.Numbers.{number}
 use Rattle.bsii_format.specs.Types.{float, floatVec2, floatVec3, floatVec4, floatVec8, int32, int32Vec3, uint32, uint16, int64, uint64, bool, enum, width, arity, Kind, numbers, string, encodedString, id, Shape, one, many, shapeOf}
@@ -15,11 +15,15 @@ use Rattle.bsii_prototype.proofs.Entries.{next-is}
 use Rattle.bsii_skip.specs.Unchecked.{skip, uncheckedId, uncheckedElement, uncheckedArray, uncheckedShape, uncheckedValue}
 use Rattle.bsii_skip.proofs.Exact.{unchecked-element-exact, unchecked-value-exact}
 
-short : Fault
-short = record { number = malformed; offset = 0 }
+-- how many bytes its first item has
+first : Kind → ℕ
+first (numbers k) = width k
+first string = 4
+first encodedString = 8
+first id = 1
 
-element-none : (k : Kind) → uncheckedElement k 0 [] ≡ fault short
-unfolding uncheckedElement uncheckedId uncheckedStr skip repeat number width arity bytes _<$>_ _>>=_ after short
+element-none : (k : Kind) → uncheckedElement k 0 [] ≡ fault (short 0 (first k))
+unfolding uncheckedElement uncheckedId uncheckedStr skip repeat number width arity bytes _<$>_ _>>=_ after first
 element-none (numbers float) = refl
 element-none (numbers floatVec2) = refl
 element-none (numbers floatVec3) = refl
@@ -41,10 +45,10 @@ pub element-moves : (k : Kind) (s : List ℕ) (at : ℕ) {n : ℕ} → Next n �
 element-moves k s at e = moved-on (unchecked-element-exact k) (element-none k) s at (next-is (uncheckedElement k at (drop at s)) e .2)
 
 shape-none : (o : Option Shape) → (f : Fault) × (uncheckedShape o 0 [] ≡ fault f)
-unfolding uncheckedShape uncheckedArray number bytes _<$>_ _>>=_ after fail short
-shape-none none = (record { number = unlistedType; offset = 0 }, refl)
-shape-none (some (one k)) = (short, element-none k)
-shape-none (some (many k)) = (short, refl)
+unfolding uncheckedShape uncheckedArray number bytes _<$>_ _>>=_ after fail
+shape-none none = (refused unlistedType 0, refl)
+shape-none (some (one k)) = (short 0 (first k), element-none k)
+shape-none (some (many k)) = (short 0 4, refl)
 
 pub value-moves : (t : ℕ) (s : List ℕ) (at : ℕ) {n : ℕ} → Next n ≡ endOf (uncheckedValue t at (drop at s)) → (at < n) × (n ≤ length s)
 unfolding uncheckedValue

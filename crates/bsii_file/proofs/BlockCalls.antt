@@ -7,7 +7,7 @@ use mathlib.Core.Option.{Option, none, some, Option·map}
 use mathlib.Core.List.{List, [], _∷_}
 use lib.ListN.{length, drop, getElem?}
 use lib.Dec.{leb, eqb}
-use Rattle.bsii_format.specs.Replies.{gives, malformed, absent}
+use Rattle.bsii_format.specs.Replies.{gives, absent, badMark}
 use Rattle.bsii_format.specs.Reader.{Result, ok, verify, success, _>>=_}
 use Rattle.bsii_format.specs.Numbers.{leU8, leU32}
 use Rattle.bsii_format.specs.Strings.{strParser}
@@ -113,8 +113,8 @@ head-number s at {k} {n} {r} e = let q = after-ok (leU32 at (drop at s)) _ e in 
         let o = after-ok (strParser (p .1) (p .2)) _ (p .4) in
         other (λ z. let y : _≡_ {A = ℕ} 0 1 = cc in absurd (omega arith)) (o .4)
 
-    go : (b : Bool) (v i : ℕ) (t : List ℕ) → cond b (verify (λ m. leb m 1) malformed leU8 >>= markParser) (success (carrying v)) i t ≡ ok (carrying k) n r → v ≡ k
-    go true v i t h = let p = after-ok (verify (λ m. leb m 1) malformed leU8 i t) markParser h in marked (p .0) (p .1) (p .2) (p .4)
+    go : (b : Bool) (v i : ℕ) (t : List ℕ) → cond b (verify (λ m. leb m 1) badMark leU8 >>= markParser) (success (carrying v)) i t ≡ ok (carrying k) n r → v ≡ k
+    go true v i t h = let p = after-ok (verify (λ m. leb m 1) badMark leU8 i t) markParser h in marked (p .0) (p .1) (p .2) (p .4)
     go false v i t h = let z = ok-val h in cc
 
 module _ {s : List ℕ} {b : Block} {q : Parsed} (e : q ≡ endOf (uncheckedId (b .id) (drop (b .id) s))) where

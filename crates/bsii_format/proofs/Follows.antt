@@ -6,7 +6,7 @@ use mathlib.Core.Bool.{Bool, true, false, cond}
 use mathlib.Core.List.{List, [], _∷_}
 use lib.ListN.{take}
 use Rattle.bsii_format.specs.Replies.{refused}
-use Rattle.bsii_format.specs.Reader.{ok, faultAt, Reader, _>>=_, success, fail, _<$>_, verify, Consumed, with, consumed, repeat}
+use Rattle.bsii_format.specs.Reader.{ok, faultAt, Reader, _>>=_, success, fail, exhausted, _<$>_, verify, Consumed, with, consumed, repeat}
 use Rattle.bsii_format.proofs.Readers.{after-ok, cond-ok, map-ok, fault≢ok, ok-val, at-value}
 use Rattle.bsii_format.proofs.Positions.{ended, bind-ok, map-value, consumed-ok}
 
@@ -90,6 +90,10 @@ module _ {A B : Type 0} {K : A → B → Type 0} where
   pub fail-follows : (k : ℕ) (S : Reader B) → Follows K (fail k) S
   unfolding fail
   fail-follows k S = record { reads = λ at s e. fault≢ok e }
+
+  pub exhausted-follows : (n : ℕ) (S : Reader B) → Follows K (exhausted n) S
+  unfolding exhausted
+  exhausted-follows n S = record { reads = λ at s e. fault≢ok e }
 
   pub cond-follows : (b : Bool) {R R′ : Reader A} {S S′ : Reader B} → Follows K R S → Follows K R′ S′ → Follows K (cond b R R′) (cond b S S′)
   cond-follows true h k = h

@@ -7,8 +7,8 @@ use mathlib.Core.Option.{Option, none, some}
 use mathlib.Core.List.{List, [], _∷_, _++_, append-assoc, append-nil}
 use lib.ListN.{length, drop, length-append, length-drop}
 use lib.Dec.{T}
-use Rattle.bsii_format.specs.Replies.{Fault, malformed, tableFull}
-use Rattle.bsii_format.specs.Reader.{Result, ok, fault, faultAt, Reader, after, _>>=_, success, _<$>_, bytes, Consumed, with, consumed}
+use Rattle.bsii_format.specs.Replies.{Fault, tableFull}
+use Rattle.bsii_format.specs.Reader.{Result, ok, fault, faultAt, shortAt, Reader, after, _>>=_, success, exhausted, _<$>_, bytes, Consumed, with, consumed}
 use Rattle.bsii_format.specs.Numbers.{number}
 use Rattle.bsii_format.specs.Prototypes.{Prototype}
 use Rattle.bsii_format.specs.File.{Record, prototype, block, Step, end, more, headParser, recordParser, recordBytes, define, hasRoom, Records, consRecord, recordsThen, recordsFrom, defineAll}
@@ -28,7 +28,7 @@ record-exact env = record {
 
 -- ---- the fuel does not show
 
-pub record-empty : (env : List Prototype) (at : ℕ) → recordParser env at [] ≡ faultAt malformed at
+pub record-empty : (env : List Prototype) (at : ℕ) → recordParser env at [] ≡ shortAt at 4
 unfolding recordParser after consumed headParser _>>=_ number _<$>_ bytes
 record-empty env at = refl
 
@@ -64,7 +64,7 @@ then-same rooms env start K K′ (ok (more i) at s) h =
 then-same rooms env start K K′ (fault f) h = refl
 
 pub records-fuel : (rooms n m : ℕ) (env : List Prototype) (at : ℕ) (s : List ℕ) → length s ≤ n → length s ≤ m → recordsFrom rooms n env at s ≡ recordsFrom rooms m env at s
-unfolding recordsFrom after
+unfolding recordsFrom exhausted after
 records-fuel rooms zero zero env at s h k = refl
 records-fuel rooms zero (suc m) env at [] h k = rw (record-empty env at)
 records-fuel rooms zero (suc m) env at (x ∷ s) h k = absurd (omega arith)

@@ -10,8 +10,8 @@ use lib.Seq.{drop-cons, getD-take, length-take-le}
 use lib.Dec.{leb, eqb}
 use borrow.Author.Tests.{eq-eqb, ne-eqb, le-leb, lt-leb}
 use Rattle.bsii_format.specs.Ascii.{ascii}
-use Rattle.bsii_format.specs.Replies.{Fault, malformed, invalidHeader, unsupportedVersion}
-use Rattle.bsii_format.specs.Reader.{Result, ok, fault, faultAt, Reader, after, _>>=_, success, fail, bytes, verify, same, tag}
+use Rattle.bsii_format.specs.Replies.{Fault, invalidHeader, unsupportedVersion, badMark}
+use Rattle.bsii_format.specs.Reader.{Result, ok, fault, faultAt, shortAt, Reader, after, _>>=_, success, fail, bytes, verify, same, tag}
 use Rattle.bsii_format.specs.Numbers.{number, leU8, leU32}
 use Rattle.bsii_format.specs.Strings.{strParser}
 use Rattle.bsii_format.specs.File.{Head, ending, defining, carrying, markParser, headParser, headerParser}
@@ -110,16 +110,16 @@ module _ (at : ℕ) (s : List ℕ) where
 
   pub marked-short : {x : Fault} → number 1 at s ≡ fault x → markedParser at s ≡ fault x
   unfolding markedParser
-  marked-short e = bind-fault (verify (λ m. leb m 1) malformed leU8) markParser (verify-fault (λ m. leb m 1) malformed leU8 e)
+  marked-short e = bind-fault (verify (λ m. leb m 1) badMark leU8) markParser (verify-fault (λ m. leb m 1) badMark leU8 e)
 
   module _ {m n : ℕ} {r : List ℕ} (e : number 1 at s ≡ ok m n r) where
     pub marked : m ≤ 1 → markedParser at s ≡ markParser m n r
     unfolding markedParser
-    marked h = bind-ok (verify (λ m. leb m 1) malformed leU8) markParser (verify-ok (λ m. leb m 1) malformed leU8 e (le-leb m 1 h))
+    marked h = bind-ok (verify (λ m. leb m 1) badMark leU8) markParser (verify-ok (λ m. leb m 1) badMark leU8 e (le-leb m 1 h))
 
-    pub marked-bad : 1 < m → markedParser at s ≡ faultAt malformed at
+    pub marked-bad : 1 < m → markedParser at s ≡ faultAt badMark at
     unfolding markedParser
-    marked-bad h = bind-fault (verify (λ m. leb m 1) malformed leU8) markParser (verify-not (λ m. leb m 1) malformed leU8 e (lt-leb m 1 h))
+    marked-bad h = bind-fault (verify (λ m. leb m 1) badMark leU8) markParser (verify-not (λ m. leb m 1) badMark leU8 e (lt-leb m 1 h))
 
   pub head-short : {x : Fault} → number 4 at s ≡ fault x → headParser at s ≡ fault x
   unfolding headParser
@@ -163,7 +163,7 @@ module _ (at : ℕ) (s : List ℕ) {id : ℕ} {name : List ℕ} {next : ℕ} {re
   unfolding success markedParser _>>=_ verify
   past-zero e false h = carrying≢ h
   past-zero {i = i} {t = t} e true h =
-      let p = after-ok (verify (λ m. leb m 1) malformed leU8 i t) markParser h in
+      let p = after-ok (verify (λ m. leb m 1) badMark leU8 i t) markParser h in
       let q = after-ok (number 1 i t) _ (p .3) in
       let w = cond-ok (leb (q .0) 1) (ok (q .0) (q .1) (q .2)) _ (q .4) in
       past-mark (number-front 4 at s e .1) (number-front 1 i t (q .3 ∙ w .1) .1) (p .0) (p .4)
@@ -180,7 +180,7 @@ head-next at s e = ap endOf (head-past at s e)
 -- ---- the second walk
 
 module _ (s : List ℕ) (at : ℕ) where
-  pub past-short : length s - at < 9 → uncheckedHead at (drop at s) ≡ faultAt malformed at
+  pub past-short : length s - at < 9 → uncheckedHead at (drop at s) ≡ shortAt at (9 - (length s - at))
   unfolding uncheckedHead
   past-short h = bind-fault (bytes 9) (λ h. uncheckedStr) (bytes-short 9 s at h)
 

@@ -8,8 +8,8 @@ use mathlib.Core.List.{List, []}
 use lib.ListN.{length, drop}
 use lib.Dec.{eqb}
 use borrow.Author.Tests.{eq-eqb, ne-eqb}
-use Rattle.bsii_format.specs.Replies.{Fault as Refused, malformed}
-use Rattle.bsii_format.specs.Reader.{Result, ok, fault, faultAt, Reader, after, _>>=_, success, _<$>_, bytes, repeat}
+use Rattle.bsii_format.specs.Replies.{Fault as Refused}
+use Rattle.bsii_format.specs.Reader.{Result, ok, fault, shortAt, Reader, after, _>>=_, success, _<$>_, bytes, repeat}
 use Rattle.bsii_format.specs.Numbers.{number}
 use Rattle.bsii_format.specs.Prototypes.{EnumValue, ValuePrototype}
 use Rattle.bsii_format.proofs.Readers.{Exact, bind-exact, success-exact, cond-exact, repeat-exact}
@@ -129,7 +129,7 @@ module _ (S : Reader (List ℕ)) (at : ℕ) (s : List ℕ) where
     entry-more h = entry-reads ∙ ap (λ (b : Bool). cond b (success none) (definitionWith S t) n r) (ne-eqb t 0 h)
 
 -- with no byte left the type runs out
-pub entry-none : (S : Reader (List ℕ)) (at : ℕ) → entryWith S at [] ≡ faultAt malformed at
+pub entry-none : (S : Reader (List ℕ)) (at : ℕ) → entryWith S at [] ≡ shortAt at 4
 unfolding entryWith _>>=_ after number _<$>_ bytes
 entry-none S at = refl
 

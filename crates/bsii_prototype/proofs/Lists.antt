@@ -7,8 +7,8 @@ use native.Mathlib.Omega.{arith}
 use mathlib.Core.Option.{Option, none, some}
 use mathlib.Core.List.{List, [], _∷_}
 use lib.ListN.{length, take, drop, length-append}
-use Rattle.bsii_format.specs.Replies.{Fault as Refused, malformed}
-use Rattle.bsii_format.specs.Reader.{Result, ok, fault, faultAt, Reader, after, _>>=_, success, fail, _<$>_, Consumed, with, consumed}
+use Rattle.bsii_format.specs.Replies.{Fault as Refused}
+use Rattle.bsii_format.specs.Reader.{Result, ok, fault, shortAt, Reader, after, _>>=_, success, exhausted, _<$>_, Consumed, with, consumed}
 use Rattle.bsii_format.specs.Prototypes.{ValuePrototype, Fields as FieldList, consField, fieldsThen}
 use Rattle.bsii_format.proofs.Readers.{Exact, consumed-took, takes}
 use Rattle.bsii_format.proofs.Positions.{moved, moved-on}
@@ -49,12 +49,12 @@ module _ (S : Reader (List ℕ)) (x : Exact (List ℕ) S) where
       let one : 1 ≤ length (e .raw) = takes (entryWith S) (k .fit) (entry-none S 0) in
       omega (arith, ap length (k .front) ∙ length-append (e .raw) r)
 
-  empty : (n at : ℕ) → fieldsFromWith S n at [] ≡ faultAt malformed at
-  unfolding fieldsFromWith fail _>>=_ after
+  empty : (n at : ℕ) → fieldsFromWith S n at [] ≡ shortAt at 4
+  unfolding fieldsFromWith exhausted _>>=_ after
   empty zero at = refl
   empty (suc n) at = rw (consumed-fault (entryWith S) {at = at} (entry-none S at))
 
-  spent : (n at : ℕ) (s : List ℕ) → length s ≤ 0 → fieldsFromWith S n at s ≡ faultAt malformed at
+  spent : (n at : ℕ) (s : List ℕ) → length s ≤ 0 → fieldsFromWith S n at s ≡ shortAt at 4
   spent n at [] h = empty n at
   spent n at (b ∷ s) h = absurd (omega arith)
 

@@ -6,12 +6,11 @@ use mathlib.Core.Option.{Option, none, some}
 use mathlib.Core.List.{List, []}
 use lib.ListN.{length}
 use lib.Dec.{eqb}
-use Rattle.bsii_format.specs.Replies.{malformed}
 use Rattle.bsii_format.specs.Reader.{Reader, _>>=_, success, _<$>_, with, consumed}
 use Rattle.bsii_format.specs.Numbers.{number}
 use Rattle.bsii_format.specs.Strings.{strParser}
 use Rattle.bsii_format.specs.Prototypes.{EnumValue, ValuePrototype, enumValueParser, enumValuesParser, valuePrototypeParser, Fields, consField, fieldsThen, fieldsFrom, fieldsParser}
-use Rattle.bsii_format.proofs.Follows.{Follows, Same, itself, bind-same, cond-follows, repeat-same, consumed-same, fail-follows}
+use Rattle.bsii_format.proofs.Follows.{Follows, Same, itself, bind-same, cond-follows, repeat-same, consumed-same, exhausted-follows}
 use Rattle.bsii_string.specs.Answers.{uncheckedStr}
 use Rattle.bsii_string.proofs.Unchecked.{str-follows}
 use Rattle.bsii_prototype.specs.Entries.{enumValueWith, enumValuesWith, definitionWith, entryWith, fieldsFromWith, fieldsWith}
@@ -65,7 +64,7 @@ module _ {S T : Reader (List ℕ)} (h : Follows Same S T) where
 
   from-with : (n : ℕ) → Follows Same (fieldsFromWith S n) (fieldsFromWith T n)
   unfolding fieldsFromWith
-  from-with zero = fail-follows malformed _
+  from-with zero = exhausted-follows 4 _
   from-with (suc n) = bind-same (consumed-same entry-with) (λ e. then-with (from-with n) (e .value) (e .raw))
 
   fields-with : Follows Same (fieldsWith S) (fieldsWith T)

@@ -6,8 +6,8 @@ use mathlib.Core.Option.{Option, none, some}
 use mathlib.Core.List.{List, []}
 use lib.ListN.{length}
 use lib.Dec.{leb, eqb}
-use Rattle.bsii_format.specs.Replies.{malformed}
-use Rattle.bsii_format.specs.Reader.{Reader, success, fail, bytes, verify, repeat, consumed, _>>=_}
+use Rattle.bsii_format.specs.Replies.{badMark}
+use Rattle.bsii_format.specs.Reader.{Reader, success, exhausted, bytes, verify, repeat, consumed, _>>=_}
 use Rattle.bsii_format.specs.Numbers.{leU8, leU32}
 use Rattle.bsii_format.specs.Prototypes.{EnumValue, ValuePrototype, Fields, fieldsThen}
 use Rattle.bsii_format.specs.File.{Head, markParser}
@@ -35,7 +35,7 @@ entryWith S = do
   cond (eqb t 0) (success none) (definitionWith S t)
 
 unfoldable pub fieldsFromWith : Reader (List ℕ) → ℕ → Reader Fields
-fieldsFromWith S zero = fail malformed
+fieldsFromWith S zero = exhausted 4
 fieldsFromWith S (suc n) = consumed (entryWith S) >>= (λ e. fieldsThen (fieldsFromWith S n) (e .value) (e .raw))
 
 unfoldable pub fieldsWith : Reader (List ℕ) → Reader Fields
@@ -43,7 +43,7 @@ fieldsWith S at s = fieldsFromWith S (length s) at s
 
 -- what follows a record number of zero
 unfoldable pub markedParser : Reader Head
-markedParser = verify (λ m. leb m 1) malformed leU8 >>= markParser
+markedParser = verify (λ m. leb m 1) badMark leU8 >>= markParser
 
 -- the head of a prototype that was accepted before: nine bytes, the record number, the mark and the id, and the name
 unfoldable pub uncheckedHead : Reader (List ℕ)

@@ -1,8 +1,8 @@
 // The header of a file, and the heads of records.
 use crate::answers::Head;
 use crate::answers::Header;
+use bsii_string::answers::BAD_MARK;
 use bsii_string::answers::INVALID_HEADER;
-use bsii_string::answers::MALFORMED;
 use bsii_string::answers::Num;
 use bsii_string::answers::Str;
 use bsii_string::answers::UNSUPPORTED_VERSION;
@@ -79,7 +79,7 @@ fn marked_parser(s: &[u8], at: usize) -> Head
 {
     let mark = le_u8(s, at);
     match mark {
-        Num::Short(f) => Head::BadHead(f),
+        Num::Short(no_mark) => Head::BadHead(no_mark),
         Num::Got(m, next) => {
             if m == 0 {
                 return Head::End(next);
@@ -87,7 +87,7 @@ fn marked_parser(s: &[u8], at: usize) -> Head
             if m == 1 {
                 return defining_parser(s, next);
             }
-            Head::BadHead(refused(MALFORMED, at))
+            Head::BadHead(refused(BAD_MARK, at))
         }
     }
 }

@@ -1,10 +1,9 @@
 // Field definitions that were accepted before: their strings are not checked again.
 use crate::answers::Counted;
 use crate::answers::Entry;
-use bsii_string::answers::MALFORMED;
 use bsii_string::answers::Num;
 use bsii_string::answers::Parsed;
-use bsii_string::answers::refused;
+use bsii_string::answers::short;
 use bsii_string::numbers::le_u32;
 use bsii_string::numbers::left;
 use bsii_string::strings::skip_str;
@@ -121,7 +120,7 @@ pub fn fields_at(s: &[u8], offset: usize) -> Parsed
     ensures { λ r. ⌜ r ≡ endOf (uncheckedHead offset (drop offset (now (s .entry)))) ⌝ }
 {
     if left(s, offset) < 9 {
-        return Parsed::Fault(refused(MALFORMED, offset));
+        return Parsed::Fault(short(s, offset, 9));
     }
     skip_str(s, offset + 9)
 }

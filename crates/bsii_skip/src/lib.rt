@@ -77,7 +77,7 @@ pub fn skip_elements(s: &[u8], at: usize, count: u32, kind: Kind) -> Parsed
     ensures { λ r. ⌜ r ≡ endOf (repeat count (uncheckedElement (kindIs kind)) at (drop at (now (s .entry)))) ⌝ }
 {
     match kind {
-        Kind::Numbers(n) => numbers_end(s, at, size(count) * size(arity(n)), size(width(n))),
+        Kind::Numbers(n) => numbers_end(s, at, size(count) * size(arity(n)), width(n)),
         Kind::EncodedString => numbers_end(s, at, size(count), 8),
         _ => skip_each(s, at, count, kind),
     }

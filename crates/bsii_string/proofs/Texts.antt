@@ -5,8 +5,8 @@ use native.Mathlib.Nat.{add-sub-cancel-left}
 use mathlib.Core.Bool.{true, false}
 use mathlib.Core.List.{List}
 use lib.ListN.{length, take, drop}
-use Rattle.bsii_format.specs.Replies.{Fault, malformed, notUtf8}
-use Rattle.bsii_format.specs.Reader.{ok, fault, faultAt, bytes, verify, _>>=_}
+use Rattle.bsii_format.specs.Replies.{Fault, notUtf8}
+use Rattle.bsii_format.specs.Reader.{ok, fault, faultAt, shortAt, bytes, verify, _>>=_}
 use Rattle.bsii_format.specs.Numbers.{number}
 use Rattle.bsii_format.specs.Utf8.{utf8}
 use Rattle.bsii_format.specs.Strings.{strParser}
@@ -25,7 +25,7 @@ unfolding uncheckedStr
 unchecked-short s at e = bind-fault (number 4) _ e
 
 module _ (s : List ℕ) (at n start : ℕ) (e : number 4 at (drop at s) ≡ ok n start (drop start s)) where
-  pub unchecked-cut : length s - start < n → uncheckedStr at (drop at s) ≡ faultAt malformed start
+  pub unchecked-cut : length s - start < n → uncheckedStr at (drop at s) ≡ shortAt start (n - (length s - start))
   unfolding uncheckedStr
   unchecked-cut h = bind-ok (number 4) _ e ∙ bytes-short n s start h
 
@@ -33,7 +33,7 @@ module _ (s : List ℕ) (at n start : ℕ) (e : number 4 at (drop at s) ≡ ok n
   unfolding uncheckedStr
   unchecked-whole h = bind-ok (number 4) _ e ∙ bytes-at n s start h
 
-  pub str-cut : length s - start < n → strParser at (drop at s) ≡ faultAt malformed start
+  pub str-cut : length s - start < n → strParser at (drop at s) ≡ shortAt start (n - (length s - start))
   unfolding strParser
   str-cut h = bind-ok (number 4) _ e ∙ verify-fault utf8 notUtf8 (bytes n) (bytes-short n s start h)
 

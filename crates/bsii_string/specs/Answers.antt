@@ -19,13 +19,16 @@ use Rattle.bsii_string.specs.declared.answers.Parsed.the-variants.{Next,
 
 -- what a refusal of the code means, and back: laws that only hand a refusal on name none of its fields
 abbrev pub faultIs : Refusal → replies.Fault
-faultIs f = record { number = f .number; offset = f .offset }
+faultIs f = record { number = f .number; offset = f .offset; lacking = f .lacking }
 
 abbrev pub refusalIs : replies.Fault → Refusal
-refusalIs f = record { number = f .number; offset = f .offset }
+refusalIs f = record { number = f .number; lacking = f .lacking; offset = f .offset }
 
 abbrev pub refusedAt : ℕ → ℕ → Refusal
-refusedAt n at = record { number = n; offset = at }
+refusedAt n at = record { number = n; lacking = 0; offset = at }
+
+abbrev pub shortBy : ℕ → ℕ → Refusal
+shortBy at k = record { number = replies.malformed; lacking = k; offset = at }
 
 -- a position of the file stands for the bytes from there on
 abbrev pub numOf : List ℕ → Num → Result ℕ

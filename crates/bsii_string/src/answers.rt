@@ -1,17 +1,40 @@
 // What the readers answer: the value and the position after it, or a refusal. specs/Answers says what each case means.
+use crate::numbers::left;
 ghost use mathlib.Core.Path.{_≡_};
-ghost use Rattle.bsii_string.specs.Answers.{refusedAt};
+ghost use Prim.Native.Nat.{_-_, _<_};
+ghost use lib.ListN.{length};
+ghost use Rattle.bsii_string.specs.Answers.{refusedAt, shortBy};
 
-// Why and where a file is refused. What hands a refusal on names none of its fields; specs/Answers says what they mean.
+// Why and where a file is refused, and with 3 how many bytes are lacking: of one item, so at most a string's u32 length. What hands a refusal on names none
+// of its fields; specs/Answers says what they mean.
 pub struct Refusal {
     pub number: u32,
+    pub lacking: u32,
     pub offset: usize,
 }
 
+// Every refusal but 3.
 pub fn refused(number: u32, offset: usize) -> Refusal
     ensures { λ r. ⌜ r ≡ refusedAt number offset ⌝ }
 {
-    Refusal { number, offset }
+    Refusal {
+        number,
+        lacking: 0,
+        offset,
+    }
+}
+
+// 3: of the bytes of the item that starts at the offset, fewer are left.
+pub fn short(s: &[u8], offset: usize, item: u32) -> Refusal
+    requires { ⌜ length (now s) - offset < item ⌝ }
+    ensures { λ r. ⌜ r ≡ shortBy offset (item - (length (now (s .entry)) - offset)) ⌝ }
+{
+    let there = left(s, offset) as u32;
+    Refusal {
+        number: MALFORMED,
+        lacking: item - there,
+        offset,
+    }
 }
 
 // The numbers of refusals, as in include/sii_decode.h.
@@ -40,6 +63,8 @@ pub const OUTPUT_SHORT: u32 = 11;
 pub const INPUT_LONG: u32 = 12;
 
 pub const ABSENT: u32 = 13;
+
+pub const BAD_MARK: u32 = 15;
 
 // The most bytes that a file may have.
 pub const LENGTH_LIMIT: usize = 16_777_216;

@@ -1,8 +1,7 @@
 // Little-endian numbers.
-use crate::answers::MALFORMED;
 use crate::answers::Num;
 use crate::answers::Num64;
-use crate::answers::refused;
+use crate::answers::short;
 ghost use mathlib.Core.Path.{_≡_};
 ghost use Prim.Native.Nat.{_+_, _-_, _≤_, _<_};
 ghost use lib.ListN.{length, take, drop};
@@ -39,7 +38,7 @@ pub fn le_u8(s: &[u8], at: usize) -> Num
     ensures { λ r. ⌜ numOf (now (s .entry)) r ≡ number 1 at (drop at (now (s .entry))) ⌝ }
 {
     if left(s, at) < 1 {
-        return Num::Short(refused(MALFORMED, at));
+        return Num::Short(short(s, at, 1));
     }
     Num::Got(wide(s[at]), at + 1)
 }
@@ -60,7 +59,7 @@ pub fn le_u32(s: &[u8], at: usize) -> Num
     ensures { λ r. ⌜ numOf (now (s .entry)) r ≡ number 4 at (drop at (now (s .entry))) ⌝ }
 {
     if left(s, at) < 4 {
-        return Num::Short(refused(MALFORMED, at));
+        return Num::Short(short(s, at, 4));
     }
     Num::Got(quad(s, at), at + 4)
 }
@@ -69,7 +68,7 @@ pub fn le_u64(s: &[u8], at: usize) -> Num64
     ensures { λ r. ⌜ numOf64 (now (s .entry)) r ≡ number 8 at (drop at (now (s .entry))) ⌝ }
 {
     if left(s, at) < 8 {
-        return Num64::Short64(refused(MALFORMED, at));
+        return Num64::Short64(short(s, at, 8));
     }
     let low = wide64(quad(s, at));
     let high = wide64(quad(s, at + 4));

@@ -1,10 +1,10 @@
 // Strings.
-use crate::answers::MALFORMED;
 use crate::answers::NOT_UTF8;
 use crate::answers::Num;
 use crate::answers::Parsed;
 use crate::answers::Str;
 use crate::answers::refused;
+use crate::answers::short;
 use crate::numbers::le_u32;
 use crate::numbers::left;
 use crate::numbers::size;
@@ -23,7 +23,7 @@ pub fn str_parser(s: &[u8], at: usize) -> Str
         Num::Got(n, start) => {
             let count = size(n);
             if left(s, start) < count {
-                return Str::Refused(refused(MALFORMED, start));
+                return Str::Refused(short(s, start, n));
             }
             let next = start + count;
             if is_utf8(&s[start..next]) {
@@ -55,7 +55,7 @@ pub fn skip_str(s: &[u8], at: usize) -> Parsed
         Num::Got(n, start) => {
             let count = size(n);
             if left(s, start) < count {
-                return Parsed::Fault(refused(MALFORMED, start));
+                return Parsed::Fault(short(s, start, n));
             }
             Parsed::Next(start + count)
         }

@@ -6,7 +6,7 @@ use mathlib.Core.Bool.{Bool, true, false, cond}
 use mathlib.Core.List.{List}
 use lib.ListN.{length, take, drop, length-drop}
 use lib.Dec.{eqb, leb, leb→le}
-use Rattle.bsii_format.specs.Replies.{malformed}
+use Rattle.bsii_format.specs.Replies.{badMark}
 use Rattle.bsii_format.specs.Reader.{ok, _>>=_, success, verify, bytes}
 use Rattle.bsii_format.specs.Numbers.{number, leU8, littleEndian}
 use Rattle.bsii_format.specs.Strings.{strParser}
@@ -38,11 +38,11 @@ module _ (s : List ℕ) (at : ℕ) {id : ℕ} {name : List ℕ} {next : ℕ} {re
       (number-is 4 s (at + 5) n ∙ v, omega (arith, number-fits 4 s (at + 5) n))
 
   id-past-zero : (k : ℕ) {i : ℕ} {t : List ℕ} → i ≡ at + 4 → t ≡ drop (at + 4) s → (b : Bool)
-      → cond b (verify (λ m. leb m 1) malformed leU8 >>= markParser) (success (carrying k)) i t ≡ ok (defining id name) next rest → IdAt s at id
+      → cond b (verify (λ m. leb m 1) badMark leU8 >>= markParser) (success (carrying k)) i t ≡ ok (defining id name) next rest → IdAt s at id
   unfolding success _>>=_ verify
   id-past-zero k l r false h = let z : _≡_ {A = ℕ} 0 1 = cc in absurd (omega arith)
   id-past-zero k {i} {t} l r true h =
-      let p = after-ok (verify (λ m. leb m 1) malformed leU8 i t) markParser h in
+      let p = after-ok (verify (λ m. leb m 1) badMark leU8 i t) markParser h in
       let q = after-ok (number 1 i t) _ (p .3) in
       let w = cond-ok (leb (q .0) 1) (ok (q .0) (q .1) (q .2)) _ (q .4) in
       let moved = number-moves 1 s (at + 4) (ap₂ (number 1) (sym l) (sym r) ∙ q .3 ∙ w .1) in
@@ -52,6 +52,6 @@ module _ (s : List ℕ) (at : ℕ) {id : ℕ} {name : List ℕ} {next : ℕ} {re
   pub head-id : headParser at (drop at s) ≡ ok (defining id name) next rest → IdAt s at id
   unfolding headParser _>>=_
   head-id e =
-      let q = after-ok (number 4 at (drop at s)) (λ k. cond (eqb k 0) (verify (λ m. leb m 1) malformed leU8 >>= markParser) (success (carrying k))) e in
+      let q = after-ok (number 4 at (drop at s)) (λ k. cond (eqb k 0) (verify (λ m. leb m 1) badMark leU8 >>= markParser) (success (carrying k))) e in
       let moved = number-moves 4 s at (q .3) in
       id-past-zero (q .0) (moved .0) (moved .1) (eqb (q .0) 0) (q .4)

@@ -6,11 +6,11 @@ use crate::types::arity;
 use crate::types::byte_count;
 use crate::types::shape_of;
 use crate::types::width;
-use bsii_string::answers::MALFORMED;
 use bsii_string::answers::Num;
 use bsii_string::answers::Parsed;
 use bsii_string::answers::UNLISTED_TYPE;
 use bsii_string::answers::refused;
+use bsii_string::answers::short;
 use bsii_string::numbers::le_u32;
 use bsii_string::numbers::left;
 use bsii_string::numbers::size;
@@ -29,17 +29,20 @@ ghost use Rattle.bsii_string.specs.Answers.{endOf};
 ghost use Rattle.bsii_value.specs.Kinds.{numericIs, kindIs};
 
 // The end of a row of numbers, or the first number that runs out: computed, since an array of numbers need not be walked.
-pub fn numbers_end(s: &[u8], at: usize, count: usize, width: usize) -> Parsed
+pub fn numbers_end(s: &[u8], at: usize, count: usize, width: u32) -> Parsed
     ensures { λ r. ⌜ r ≡ endOf (repeat count (number width) at (drop at (now (s .entry)))) ⌝ }
 {
     if width == 0 {
         return Parsed::Next(at);
     }
-    let whole = left(s, at) / width;
+    let each = size(width);
+    let whole = left(s, at) / each;
     if whole < count {
-        return Parsed::Fault(refused(MALFORMED, at + whole * width));
+        let start = at + whole * each;
+        return Parsed::Fault(short(s, start, width));
     }
-    Parsed::Next(at + count * width)
+    let end = at + count * each;
+    Parsed::Next(end)
 }
 
 // A product of two counts of 32 bits fits.
@@ -57,10 +60,13 @@ pub fn numeric_end(s: &[u8], at: usize, n: Numeric) -> Parsed
     let total = byte_count(n);
     let rest = left(s, at);
     if rest < total {
-        let each = size(width(n));
-        return Parsed::Fault(refused(MALFORMED, at + rest / each * each));
+        let one = width(n);
+        let each = size(one);
+        let start = at + rest / each * each;
+        return Parsed::Fault(short(s, start, one));
     }
-    Parsed::Next(at + total)
+    let end = at + total;
+    Parsed::Next(end)
 }
 
 pub fn element_parser(s: &[u8], at: usize, kind: Kind) -> Parsed
@@ -99,7 +105,7 @@ fn array_parser(s: &[u8], at: usize, kind: Kind) -> Parsed
     match count {
         Num::Short(f) => Parsed::Fault(f),
         Num::Got(n, next) => match kind {
-            Kind::Numbers(form) => numbers_end(s, next, product(n, arity(form)), size(width(form))),
+            Kind::Numbers(form) => numbers_end(s, next, product(n, arity(form)), width(form)),
             _ => elements_end(s, next, n, kind),
         },
     }

@@ -7,7 +7,7 @@ use mathlib.Core.List.{List}
 use lib.ListN.{drop}
 use lib.Dec.{T, leb, eqb}
 use borrow.Author.Tests.{eq-eqb, ne-eqb}
-use Rattle.bsii_format.specs.Replies.{malformed}
+use Rattle.bsii_format.specs.Replies.{badMark}
 use Rattle.bsii_format.specs.Reader.{Result, ok, fault, faultAt, Reader, after, _>>=_, success, verify}
 use Rattle.bsii_format.specs.Numbers.{number, leU8, leU32}
 use Rattle.bsii_format.specs.Strings.{strParser}
@@ -43,7 +43,7 @@ record Marked (at : ℕ) (s : List ℕ) (h : Head) (n : ℕ) (t : List ℕ) : Ty
 marked : (at : ℕ) (s : List ℕ) (h : Head) (n : ℕ) (t : List ℕ) → markedParser at s ≡ ok h n t → Marked at s h n t
 unfolding markedParser _>>=_ verify
 marked at s h n t e =
-    let p = after-ok (verify (λ m. leb m 1) malformed leU8 at s) markParser e in
+    let p = after-ok (verify (λ m. leb m 1) badMark leU8 at s) markParser e in
     let q = after-ok (number 1 at s) _ (p .3) in
     let w = cond-ok (leb (q .0) 1) (ok (q .0) (q .1) (q .2)) _ (q .4) in
     record { mark = p .0; next = p .1; rest = p .2; read = q .3 ∙ w .1; behind = p .4 }

@@ -1,11 +1,11 @@
 // Encoded words and ids.
-use bsii_string::answers::MALFORMED;
 use bsii_string::answers::Num;
 use bsii_string::answers::Num64;
 use bsii_string::answers::Parsed;
 use bsii_string::answers::Word;
 use bsii_string::answers::ZERO_DIGIT;
 use bsii_string::answers::refused;
+use bsii_string::answers::short;
 use bsii_string::numbers::le_u8;
 use bsii_string::numbers::le_u64;
 use bsii_string::numbers::left;
@@ -94,7 +94,7 @@ fn u64_end(s: &[u8], at: usize) -> Parsed
     ensures { λ r. ⌜ r ≡ endOf (number 8 at (drop at (now (s .entry)))) ⌝ }
 {
     if left(s, at) < 8 {
-        return Parsed::Fault(refused(MALFORMED, at));
+        return Parsed::Fault(short(s, at, 8));
     }
     Parsed::Next(at + 8)
 }

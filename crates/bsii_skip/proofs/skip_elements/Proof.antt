@@ -34,17 +34,14 @@ mul-numbers-end c = record { fits = product-below (omega arith) (omega arith) }
 width-requires : tie.Need-width-requires
 width-requires c κs = search needs
 
-size-requires-3 : tie.Need-size-requires-3
-size-requires-3 c κs = search needs
-
 numbers-end-requires : tie.Need-numbers-end-requires
 numbers-end-requires c κs = search needs
 
 enum-told : tie.Need-enum-told
 enum-told c = search needs
 
-size-requires-4 : tie.Need-size-requires-4
-size-requires-4 c κs = search needs
+size-requires-3 : tie.Need-size-requires-3
+size-requires-3 c κs = search needs
 
 numbers-end-requires-2 : tie.Need-numbers-end-requires-2
 numbers-end-requires-2 c κs = search needs
@@ -54,12 +51,12 @@ skip-each-requires c κs = search needs
 
 returns : tie.Need-returns
 returns c =
-    let d = c .before .before .before .before .before in
+    let d = c .before .before .before .before in
     let a = d .before .before .before .before .before .args in
     let g = d .before .before .kind .given in
     let n = d .size .ensures in
-    let m = c .before .before .before .size2 .ensures ∙ c .before .before .before .before .arity .ensures in
-    let w = c .before .size3 .ensures ∙ c .before .before .width .ensures in
+    let m = c .before .before .size2 .ensures ∙ c .before .before .before .arity .ensures in
+    let w = c .before .width .ensures in
     c .numbers-end .ensures
     ∙ ap₂ (λ (k w : ℕ). endOf (repeat k (number w) (a .at) (drop (a .at) (now (a .s))))) (ap₂ (λ (n m : ℕ). n * m) n m) w
     ∙ sym (numbers-row (numericIs (g .0 .0)) (a .count) (a .at) (drop (a .at) (now (a .s))))
@@ -69,7 +66,7 @@ returns-2 : tie.Need-returns-2
 returns-2 c =
     let a = c .before .before .before .before .before .args in
     c .numbers-end2 .ensures
-    ∙ ap (λ (n : ℕ). endOf (repeat n (number 8) (a .at) (drop (a .at) (now (a .s))))) (c .before .size4 .ensures)
+    ∙ ap (λ (n : ℕ). endOf (repeat n (number 8) (a .at) (drop (a .at) (now (a .s))))) (c .before .size3 .ensures)
     ∙ sym (words-row (a .count) (a .at) (drop (a .at) (now (a .s))))
     ∙ ap (λ (k : Kind). endOf (repeat (a .count) (uncheckedElement (kindIs k)) (a .at) (drop (a .at) (now (a .s))))) (sym (c .before .before .enum-told .given .1))
 
@@ -86,10 +83,9 @@ skip-elements-spec =
     size-requires-2
     mul-numbers-end
     width-requires
-    size-requires-3
     numbers-end-requires
     enum-told
-    size-requires-4
+    size-requires-3
     numbers-end-requires-2
     skip-each-requires
     returns

@@ -11,12 +11,12 @@ use Rattle.bsii_prototype.proofs.skip.fields_at.Tie as tie
 left-requires : tie.Need-left-requires
 left-requires c κs = search needs
 
-refused-requires : tie.Need-refused-requires
-refused-requires c κs = search needs
+short-requires : tie.Need-short-requires
+short-requires c κs = search needs
 
 returns : tie.Need-returns
 unfolding endOf
-returns c = let a = c .before .before .before .before .args in rw (c .refused .ensures) (sym (ap endOf (past-short (now (a .s)) (a .offset) (omega arith))))
+returns c = let a = c .before .before .before .before .args in rw (c .short .ensures) (sym (ap endOf (past-short (now (a .s)) (a .offset) (omega arith))))
 
 add-skip-str : tie.Need-add-skip-str
 add-skip-str c = search needs
@@ -29,4 +29,4 @@ returns-2 c = let a = c .before .before .before .before .args in c .skip-str .en
 
 pub fields-at-spec : {M : Type 1} → statement M
 fields-at-spec =
-    tie.close (tie.spec left-requires refused-requires returns add-skip-str skip-str-requires returns-2)
+    tie.close (tie.spec left-requires short-requires returns add-skip-str skip-str-requires returns-2)

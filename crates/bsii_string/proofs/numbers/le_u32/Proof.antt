@@ -10,11 +10,11 @@ use Rattle.bsii_string.proofs.numbers.le_u32.Tie as tie
 left-requires : tie.Need-left-requires
 left-requires c κs = search needs
 
-refused-requires : tie.Need-refused-requires
-refused-requires c κs = search needs
+short-requires : tie.Need-short-requires
+short-requires c κs = search needs
 
 returns : tie.Need-returns
-returns c = let a = c .before .before .before .before .args in rw (c .refused .ensures) (sym (number-short 4 (now (a .s)) (a .at) (omega arith)))
+returns c = let a = c .before .before .before .before .args in rw (c .short .ensures) (sym (number-short 4 (now (a .s)) (a .at) (omega arith)))
 
 quad-requires : tie.Need-quad-requires
 quad-requires c κs = search needs
@@ -28,4 +28,4 @@ returns-2 c =
     cc (number-at 4 (now (a .s)) (a .at) (omega arith))
 
 pub le-u32-spec : {M : Type 1} → statement M
-le-u32-spec = tie.close (tie.spec left-requires refused-requires returns quad-requires add-t3 returns-2)
+le-u32-spec = tie.close (tie.spec left-requires short-requires returns quad-requires add-t3 returns-2)

@@ -11,11 +11,11 @@ use Rattle.bsii_string.proofs.numbers.le_u64.Tie as tie
 left-requires : tie.Need-left-requires
 left-requires c κs = search needs
 
-refused-requires : tie.Need-refused-requires
-refused-requires c κs = search needs
+short-requires : tie.Need-short-requires
+short-requires c κs = search needs
 
 returns : tie.Need-returns
-returns c = let a = c .before .before .before .before .args in rw (c .refused .ensures) (sym (number-short 8 (now (a .s)) (a .at) (omega arith)))
+returns c = let a = c .before .before .before .before .args in rw (c .short .ensures) (sym (number-short 8 (now (a .s)) (a .at) (omega arith)))
 
 quad-requires : tie.Need-quad-requires
 quad-requires c κs = search needs
@@ -51,7 +51,7 @@ le-u64-spec =
     tie.close
     (tie.spec
     left-requires
-    refused-requires
+    short-requires
     returns
     quad-requires
     wide64-requires

@@ -11,11 +11,11 @@ use Rattle.bsii_string.proofs.numbers.le_u8.Tie as tie
 left-requires : tie.Need-left-requires
 left-requires c κs = search needs
 
-refused-requires : tie.Need-refused-requires
-refused-requires c κs = search needs
+short-requires : tie.Need-short-requires
+short-requires c κs = search needs
 
 returns : tie.Need-returns
-returns c = let a = c .before .before .before .before .args in rw (c .refused .ensures) (sym (number-short 1 (now (a .s)) (a .at) (omega arith)))
+returns c = let a = c .before .before .before .before .args in rw (c .short .ensures) (sym (number-short 1 (now (a .s)) (a .at) (omega arith)))
 
 shared-slice-read-wide : tie.Need-shared-slice-read-wide
 shared-slice-read-wide c = search needs
@@ -34,4 +34,4 @@ returns-2 c =
 pub le-u8-spec : {M : Type 1} → statement M
 le-u8-spec =
     tie.close
-    (tie.spec left-requires refused-requires returns shared-slice-read-wide wide-requires add-t3 returns-2)
+    (tie.spec left-requires short-requires returns shared-slice-read-wide wide-requires add-t3 returns-2)

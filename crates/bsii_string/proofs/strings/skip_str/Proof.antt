@@ -43,12 +43,12 @@ size-requires c κs = search needs
 left-requires : tie.Need-left-requires
 left-requires c κs = search needs
 
-refused-requires : tie.Need-refused-requires
-refused-requires c κs = search needs
+short-requires : tie.Need-short-requires
+short-requires c κs = search needs
 
 returns : tie.Need-returns
 unfolding endOf
-returns c = let d = c .before .before .before in rw (c .refused .ensures) (sym (ap endOf (unchecked-cut (S d) (At d) (d .size .result) (Start d) (read d) (omega arith))))
+returns c = let d = c .before .before .before in rw (c .short .ensures, sym (d .size .ensures)) (sym (ap endOf (unchecked-cut (S d) (At d) (d .size .result) (Start d) (read d) (omega arith))))
 
 add-t9 : tie.Need-add-t9
 add-t9 c = search needs
@@ -72,7 +72,7 @@ skip-str-spec =
     enum-known-length-2
     size-requires
     left-requires
-    refused-requires
+    short-requires
     returns
     add-t9
     returns-2

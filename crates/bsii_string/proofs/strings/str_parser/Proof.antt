@@ -50,11 +50,11 @@ size-requires c κs = search needs
 left-requires : tie.Need-left-requires
 left-requires c κs = search needs
 
-refused-requires : tie.Need-refused-requires
-refused-requires c κs = search needs
+short-requires : tie.Need-short-requires
+short-requires c κs = search needs
 
 returns : tie.Need-returns
-returns c = let d = c .before .before .before in rw (c .refused .ensures) (sym (str-cut (S d) (At d) (d .size .result) (Start d) (read d) (omega arith)))
+returns c = let d = c .before .before .before in rw (c .short .ensures, sym (d .size .ensures)) (sym (str-cut (S d) (At d) (d .size .result) (Start d) (read d) (omega arith)))
 
 add-next : tie.Need-add-next
 add-next c = search needs
@@ -71,8 +71,8 @@ part-is-utf8-end c = omega (arith, inside (c .before .before))
 is-utf8-requires : tie.Need-is-utf8-requires
 is-utf8-requires c κs = search needs
 
-refused-requires-2 : tie.Need-refused-requires-2
-refused-requires-2 c κs = search needs
+refused-requires : tie.Need-refused-requires
+refused-requires c κs = search needs
 
 returns-2 : tie.Need-returns-2
 returns-2 c =
@@ -88,7 +88,7 @@ returns-3 c =
 returns-4 : tie.Need-returns-4
 returns-4 c =
     let d = c .before .before .before .before .before .before in
-    rw (c .refused2 .ensures) (sym (str-not (S d) (At d) (d .size .result) (Start d) (read d) (omega arith) (ap utf8 (sym (part (Start d) (d .size .result) (S d))) ∙ sym (c .before .before .is-utf8 .ensures) ∙ c .before .if2 .left)))
+    rw (c .refused .ensures) (sym (str-not (S d) (At d) (d .size .result) (Start d) (read d) (omega arith) (ap utf8 (sym (part (Start d) (d .size .result) (S d))) ∙ sym (c .before .before .is-utf8 .ensures) ∙ c .before .if2 .left)))
 
 pub str-parser-spec : {M : Type 1} → statement M
 str-parser-spec =
@@ -99,14 +99,14 @@ str-parser-spec =
     enum-known-length-2
     size-requires
     left-requires
-    refused-requires
+    short-requires
     returns
     add-next
     sub-is-utf8
     part-is-utf8-start
     part-is-utf8-end
     is-utf8-requires
-    refused-requires-2
+    refused-requires
     returns-2
     returns-3
     returns-4)

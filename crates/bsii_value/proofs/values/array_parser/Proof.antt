@@ -37,9 +37,6 @@ product-requires c κs = search needs
 width-requires : tie.Need-width-requires
 width-requires c κs = search needs
 
-size-requires : tie.Need-size-requires
-size-requires c κs = search needs
-
 numbers-end-requires : tie.Need-numbers-end-requires
 numbers-end-requires c κs = search needs
 
@@ -54,13 +51,13 @@ returns c =
 
 returns-2 : tie.Need-returns-2
 returns-2 c =
-    let d = c .before .before .before .before in
+    let d = c .before .before .before in
     let g = d .before .before .before .before .before .count2 .given in
     let k = d .before .before .kind .given in
     let a = d .before .before .before .before .before .before .before .before .before .args in
     let e = sym (d .before .before .before .before .before .before .before .le-u32 .ensures) ∙ ap (numOf (now (a .s))) (g .1) in
     c .numbers-end .ensures
-    ∙ ap₂ (λ (n w : ℕ). endOf (repeat n (number w) (g .0 .1 .0) (drop (g .0 .1 .0) (now (a .s))))) (c .before .before .before .product .ensures ∙ ap (λ (m : ℕ). g .0 .0 * m) (d .arity .ensures)) (c .before .size .ensures ∙ c .before .before .width .ensures)
+    ∙ ap₂ (λ (n w : ℕ). endOf (repeat n (number w) (g .0 .1 .0) (drop (g .0 .1 .0) (now (a .s))))) (c .before .before .product .ensures ∙ ap (λ (m : ℕ). g .0 .0 * m) (d .arity .ensures)) (c .before .width .ensures)
     ∙ sym (many-numbers (a .at) (drop (a .at) (now (a .s))) (g .0 .0) (g .0 .1 .0) _ e (numericIs (k .0 .0)))
     ∙ ap (λ (k : Kind). endOf (shapeParser (some (many (kindIs k))) (a .at) (drop (a .at) (now (a .s))))) (sym (k .1))
 
@@ -82,7 +79,6 @@ array-parser-spec =
     arity-requires
     product-requires
     width-requires
-    size-requires
     numbers-end-requires
     elements-end-requires
     returns

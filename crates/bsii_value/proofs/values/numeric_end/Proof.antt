@@ -1,18 +1,17 @@
 -- `values::numeric_end`: An element of numbers is a row of as many as its arity.
-use Prim.Native.Nat.{ℕ, _+_, _*_, _/_}
+use Prim.Native.Nat.{ℕ, _+_, _-_, _*_, _/_}
 use mathlib.Core.Path.{sym, ap, _∙_}
 use native.Mathlib.Nat.{le-refl}
 use native.Mathlib.Omega.{arith}
-use lib.ListN.{drop}
+use lib.ListN.{length, drop}
 use denote.Ref.{now}
-use Rattle.bsii_format.specs.Replies.{malformed}
-use Rattle.bsii_format.specs.Reader.{faultAt}
+use Rattle.bsii_format.specs.Reader.{shortAt}
 use Rattle.bsii_format.specs.Types.{width, arity}
 use Rattle.bsii_string.specs.Answers.{endOf}
 use Rattle.bsii_string.specs.declared.answers.Parsed.the-variants.{Next}
 use Rattle.bsii_value.specs.Kinds.{numericIs}
 use Rattle.bsii_value.proofs.Elements.{numbers-end}
-use Rattle.bsii_value.proofs.NumberRows.{fitting, wide, row-whole, row-cut}
+use Rattle.bsii_value.proofs.NumberRows.{fitting, part, wide, row-whole, row-cut}
 use borrow.Author.Needs.{needs}
 use Rattle.bsii_value.proofs.values.numeric_end.Statement.{statement}
 use Rattle.bsii_value.proofs.values.numeric_end.Tie as tie
@@ -29,20 +28,24 @@ width-requires c κs = search needs
 size-requires : tie.Need-size-requires
 size-requires c κs = search needs
 
-div-refused : tie.Need-div-refused
-div-refused c =
+div-start : tie.Need-div-start
+div-start c =
     let at-if = c .before .before in
     let k = numericIs (at-if .before .before .before .before .args .n) in
     omega (arith, wide (arity k) (width k) (at-if .before .left .result) (omega arith))
 
-mul-refused : tie.Need-mul-refused
-mul-refused c = let l = c .before .before .before .left .result in omega (arith, fitting (l / c .size .result) (c .size .result) l (le-refl _))
+mul-start : tie.Need-mul-start
+mul-start c = let l = c .before .before .before .left .result in omega (arith, fitting (l / c .size .result) (c .size .result) l (le-refl _))
 
-add-refused : tie.Need-add-refused
-add-refused c = let l = c .before .before .before .left .result in omega (arith, fitting (l / c .size .result) (c .size .result) l (le-refl _))
+add-start : tie.Need-add-start
+add-start c = let l = c .before .before .before .left .result in omega (arith, fitting (l / c .size .result) (c .size .result) l (le-refl _))
 
-refused-requires : tie.Need-refused-requires
-refused-requires c κs = search needs
+short-requires : tie.Need-short-requires
+short-requires c κs =
+    let at-if = c .before .before in
+    let k = numericIs (at-if .before .before .before .before .args .n) in
+    let l = at-if .before .left .result in
+    omega (arith, part (c .size .result) l (omega (arith, wide (arity k) (width k) l (omega arith))))
 
 returns : tie.Need-returns
 unfolding endOf
@@ -50,14 +53,14 @@ returns c =
     let at-if = c .before .before .before in
     let a = at-if .before .before .before .before .args in
     let k = numericIs (a .n) in
-    let l = at-if .before .left .result in
-    rw (c .refused .ensures)
-    (ap (λ (w : ℕ). endOf {A = Unit {0}} (faultAt malformed (a .at + l / w * w))) (c .before .size .ensures ∙ c .before .before .width .ensures)
-    ∙ row-cut (now (a .s)) (a .at) (arity k) (width k) (at-if .before .left .ensures) (omega arith)
+    let i = a .at + at-if .before .left .result / c .before .size .result * c .before .size .result in
+    rw (c .short .ensures)
+    (ap (λ (w : ℕ). endOf {A = Unit {0}} (shortAt i (w - (length (now (a .s)) - i)))) (c .before .before .width .ensures)
+    ∙ row-cut (now (a .s)) (a .at) (arity k) (width k) (at-if .before .left .ensures) (c .before .size .ensures ∙ c .before .before .width .ensures) (omega arith)
     ∙ sym (numbers-end k (a .at) (drop (a .at) (now (a .s)))))
 
-add-t13 : tie.Need-add-t13
-add-t13 c = search needs
+add-end : tie.Need-add-end
+add-end c = search needs
 
 returns-2 : tie.Need-returns-2
 returns-2 c =
@@ -73,10 +76,10 @@ numeric-end-spec =
     left-requires
     width-requires
     size-requires
-    div-refused
-    mul-refused
-    add-refused
-    refused-requires
+    div-start
+    mul-start
+    add-start
+    short-requires
     returns
-    add-t13
+    add-end
     returns-2)
