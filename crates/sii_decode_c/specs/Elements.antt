@@ -1,4 +1,4 @@
--- The C struct of an element: its kind, and a place, a number or words; or a refusal's number and offset and nothing else.
+-- The C struct of an element: its kind, and a place, a number or words; or a refusal's number, offset and lacking bytes and nothing else.
 use Prim.Native.Nat.{ℕ}
 use mathlib.Core.Bool.{cond}
 use lib.IntN.{ℤ}
@@ -20,16 +20,16 @@ abbrev pub word : Float → ℕ
 word x = bitsOf x 0x7fc0_0000
 
 abbrev pub placeOut : ℕ → ℕ → ℕ → SiiElement
-placeOut k at size = record { number = 0; offset = 0; kind = k; «place_offset» = at; «place_len» = size; value = 0; a = 0; b = 0; c = 0; d = 0; e = 0; f = 0; g = 0; h = 0 }
+placeOut k at size = record { number = 0; offset = 0; lacking = 0; kind = k; «place_offset» = at; «place_len» = size; value = 0; a = 0; b = 0; c = 0; d = 0; e = 0; f = 0; g = 0; h = 0 }
 
 abbrev pub valueOut : ℕ → ℕ → SiiElement
-valueOut k n = record { number = 0; offset = 0; kind = k; «place_offset» = 0; «place_len» = 0; value = n; a = 0; b = 0; c = 0; d = 0; e = 0; f = 0; g = 0; h = 0 }
+valueOut k n = record { number = 0; offset = 0; lacking = 0; kind = k; «place_offset» = 0; «place_len» = 0; value = n; a = 0; b = 0; c = 0; d = 0; e = 0; f = 0; g = 0; h = 0 }
 
 abbrev pub wordsOut : ℕ → ℕ → ℕ → ℕ → ℕ → ℕ → ℕ → ℕ → ℕ → SiiElement
-wordsOut k a b c d e f g h = record { number = 0; offset = 0; kind = k; «place_offset» = 0; «place_len» = 0; value = 0; a = a; b = b; c = c; d = d; e = e; f = f; g = g; h = h }
+wordsOut k a b c d e f g h = record { number = 0; offset = 0; lacking = 0; kind = k; «place_offset» = 0; «place_len» = 0; value = 0; a = a; b = b; c = c; d = d; e = e; f = f; g = g; h = h }
 
 abbrev pub refusedOut : Fault → SiiElement
-refusedOut f = record { number = f .number; offset = f .offset; kind = 0; «place_offset» = 0; «place_len» = 0; value = 0; a = 0; b = 0; c = 0; d = 0; e = 0; f = 0; g = 0; h = 0 }
+refusedOut f = record { number = f .number; offset = f .offset; lacking = f .lacking; kind = 0; «place_offset» = 0; «place_len» = 0; value = 0; a = 0; b = 0; c = 0; d = 0; e = 0; f = 0; g = 0; h = 0 }
 
 abbrev pub datumOut : Datum → SiiElement
 datumOut (dString p) = placeOut 1 (p .offset) (p .size)

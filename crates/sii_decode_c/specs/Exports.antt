@@ -1,4 +1,4 @@
--- The C structs of the answers: number 0 and the answer, or a refusal's number and offset and nothing else.
+-- The C structs of the answers: number 0 and the answer, or a refusal's number, offset and lacking bytes and nothing else.
 use Prim.Native.Nat.{ℕ}
 use Rattle.bsii_format.specs.Replies.{Reply, gives, refuses}
 use Rattle.bsii_format.specs.Calls.{Reading, PrototypeAnswer, BlockAnswer, FieldAnswer, TextAnswer}
@@ -10,29 +10,29 @@ use Rattle.sii_decode_c.specs.declared.calls.SiiField.{SiiField}
 use Rattle.sii_decode_c.specs.declared.calls.SiiText.{SiiText}
 
 abbrev pub readingOut : Reply Reading → SiiReading
-readingOut (gives a) = record { number = 0; offset = 0; prototypes = a .prototypes; blocks = a .blocks; next = a .next }
-readingOut (refuses f) = record { number = f .number; offset = f .offset; prototypes = 0; blocks = 0; next = 0 }
+readingOut (gives a) = record { number = 0; offset = 0; lacking = 0; prototypes = a .prototypes; blocks = a .blocks; next = a .next }
+readingOut (refuses f) = record { number = f .number; offset = f .offset; lacking = f .lacking; prototypes = 0; blocks = 0; next = 0 }
 
 abbrev pub prototypeOut : Reply PrototypeAnswer → SiiPrototype
-prototypeOut (gives a) = record { number = 0; offset = 0; «name_offset» = a .name .offset; «name_len» = a .name .size; fields = a .fields }
-prototypeOut (refuses f) = record { number = f .number; offset = f .offset; «name_offset» = 0; «name_len» = 0; fields = 0 }
+prototypeOut (gives a) = record { number = 0; offset = 0; lacking = 0; «name_offset» = a .name .offset; «name_len» = a .name .size; fields = a .fields }
+prototypeOut (refuses f) = record { number = f .number; offset = f .offset; lacking = f .lacking; «name_offset» = 0; «name_len» = 0; fields = 0 }
 
 abbrev pub blockOut : Reply BlockAnswer → SiiBlock
-blockOut (gives a) = record { number = 0; offset = 0; «prototype_id» = a .prototypeId; «id_offset» = a .id .offset; «id_len» = a .id .size }
-blockOut (refuses f) = record { number = f .number; offset = f .offset; «prototype_id» = 0; «id_offset» = 0; «id_len» = 0 }
+blockOut (gives a) = record { number = 0; offset = 0; lacking = 0; «prototype_id» = a .prototypeId; «id_offset» = a .id .offset; «id_len» = a .id .size }
+blockOut (refuses f) = record { number = f .number; offset = f .offset; lacking = f .lacking; «prototype_id» = 0; «id_offset» = 0; «id_len» = 0 }
 
 abbrev pub numberOut : Reply ℕ → SiiNumber
-numberOut (gives n) = record { number = 0; offset = 0; value = n }
-numberOut (refuses f) = record { number = f .number; offset = f .offset; value = 0 }
+numberOut (gives n) = record { number = 0; offset = 0; lacking = 0; value = n }
+numberOut (refuses f) = record { number = f .number; offset = f .offset; lacking = f .lacking; value = 0 }
 
 -- the part's bytes stay in the caller's file: only their place goes out
 abbrev pub fieldOut : Reply FieldAnswer → SiiField
-fieldOut (gives a) = record { number = 0; offset = 0; «type_id» = a .typeId; «part_offset» = a .part .offset; «part_len» = a .part .size }
-fieldOut (refuses f) = record { number = f .number; offset = f .offset; «type_id» = 0; «part_offset» = 0; «part_len» = 0 }
+fieldOut (gives a) = record { number = 0; offset = 0; lacking = 0; «type_id» = a .typeId; «part_offset» = a .part .offset; «part_len» = a .part .size }
+fieldOut (refuses f) = record { number = f .number; offset = f .offset; lacking = f .lacking; «type_id» = 0; «part_offset» = 0; «part_len» = 0 }
 
 abbrev pub lengthOut : Reply ℕ → ℕ → SiiText
-lengthOut (gives n) needed = record { number = 0; offset = 0; length = n }
-lengthOut (refuses f) needed = record { number = f .number; offset = f .offset; length = needed }
+lengthOut (gives n) needed = record { number = 0; offset = 0; lacking = 0; length = n }
+lengthOut (refuses f) needed = record { number = f .number; offset = f .offset; lacking = f .lacking; length = needed }
 
 -- the text's length; of a text longer than the output the needed one, and of any other refusal 0
 abbrev pub textOut : TextAnswer → SiiText

@@ -1,4 +1,4 @@
-// The file calls. A refusal has its number, and its offset; number 0 is an answer.
+// The file calls. A refusal has its number, its offset and how many bytes are lacking; number 0 is an answer.
 use bsii_file::blocks::BlockReply;
 use bsii_file::blocks::NumberReply;
 use bsii_file::blocks::block_at;
@@ -20,6 +20,7 @@ ghost use Rattle.sii_decode_c.specs.Exports.{readingOut, prototypeOut, b
 pub struct SiiReading {
     pub number: u32,
     pub offset: u64,
+    pub lacking: u64,
     pub prototypes: u64,
     pub blocks: u64,
     pub next: u64,
@@ -29,6 +30,7 @@ pub struct SiiReading {
 pub struct SiiPrototype {
     pub number: u32,
     pub offset: u64,
+    pub lacking: u64,
     pub name_offset: u64,
     pub name_len: u64,
     pub fields: u64,
@@ -38,6 +40,7 @@ pub struct SiiPrototype {
 pub struct SiiBlock {
     pub number: u32,
     pub offset: u64,
+    pub lacking: u64,
     pub prototype_id: u32,
     pub id_offset: u64,
     pub id_len: u64,
@@ -47,6 +50,7 @@ pub struct SiiBlock {
 pub struct SiiNumber {
     pub number: u32,
     pub offset: u64,
+    pub lacking: u64,
     pub value: u64,
 }
 
@@ -54,6 +58,7 @@ pub struct SiiNumber {
 pub struct SiiField {
     pub number: u32,
     pub offset: u64,
+    pub lacking: u64,
     pub type_id: u32,
     pub part_offset: u64,
     pub part_len: u64,
@@ -63,6 +68,7 @@ pub struct SiiField {
 pub struct SiiText {
     pub number: u32,
     pub offset: u64,
+    pub lacking: u64,
     pub length: u64,
 }
 
@@ -80,6 +86,7 @@ pub extern "C" fn sii_read(file: &[u8], table: &mut [u32]) -> SiiReading
         } => SiiReading {
             number: 0,
             offset: 0,
+            lacking: 0,
             prototypes: prototypes as u64,
             blocks: blocks as u64,
             next: next as u64,
@@ -87,6 +94,7 @@ pub extern "C" fn sii_read(file: &[u8], table: &mut [u32]) -> SiiReading
         Reading::Refused(f) => SiiReading {
             number: f.number,
             offset: f.offset as u64,
+            lacking: f.lacking as u64,
             prototypes: 0,
             blocks: 0,
             next: 0,
@@ -108,6 +116,7 @@ pub extern "C" fn sii_get_prototype(file: &[u8], table: &mut [u32], id: u32) -> 
         } => SiiPrototype {
             number: 0,
             offset: 0,
+            lacking: 0,
             name_offset: name as u64,
             name_len: name_size as u64,
             fields: fields as u64,
@@ -115,6 +124,7 @@ pub extern "C" fn sii_get_prototype(file: &[u8], table: &mut [u32], id: u32) -> 
         PrototypeReply::Refused(f) => SiiPrototype {
             number: f.number,
             offset: f.offset as u64,
+            lacking: f.lacking as u64,
             name_offset: 0,
             name_len: 0,
             fields: 0,
@@ -136,6 +146,7 @@ pub extern "C" fn sii_block_at(file: &[u8], table: &mut [u32], n: u64) -> SiiBlo
         } => SiiBlock {
             number: 0,
             offset: 0,
+            lacking: 0,
             prototype_id,
             id_offset: id as u64,
             id_len: id_size as u64,
@@ -143,6 +154,7 @@ pub extern "C" fn sii_block_at(file: &[u8], table: &mut [u32], n: u64) -> SiiBlo
         BlockReply::Refused(f) => SiiBlock {
             number: f.number,
             offset: f.offset as u64,
+            lacking: f.lacking as u64,
             prototype_id: 0,
             id_offset: 0,
             id_len: 0,
@@ -165,11 +177,13 @@ pub extern "C" fn sii_blocks_by_prototype_name(
         NumberReply::Number(value) => SiiNumber {
             number: 0,
             offset: 0,
+            lacking: 0,
             value: value as u64,
         },
         NumberReply::Refused(f) => SiiNumber {
             number: f.number,
             offset: f.offset as u64,
+            lacking: f.lacking as u64,
             value: 0,
         },
     }
@@ -189,6 +203,7 @@ pub extern "C" fn sii_field_of(file: &[u8], table: &mut [u32], block: u64, name:
         } => SiiField {
             number: 0,
             offset: 0,
+            lacking: 0,
             type_id,
             part_offset: part as u64,
             part_len: part_size as u64,
@@ -196,6 +211,7 @@ pub extern "C" fn sii_field_of(file: &[u8], table: &mut [u32], block: u64, name:
         FieldReply::Refused(f) => SiiField {
             number: f.number,
             offset: f.offset as u64,
+            lacking: f.lacking as u64,
             type_id: 0,
             part_offset: 0,
             part_len: 0,
@@ -214,11 +230,13 @@ pub extern "C" fn sii_to_siin(file: &[u8], table: &mut [u32], output: &mut [u8])
         TextReply::Text(n) => SiiText {
             number: 0,
             offset: 0,
+            lacking: 0,
             length: n as u64,
         },
         TextReply::Refused { refusal, needed } => SiiText {
             number: refusal.number,
             offset: refusal.offset as u64,
+            lacking: refusal.lacking as u64,
             length: needed as u64,
         },
     }

@@ -17,6 +17,7 @@ ghost use Rattle.sii_decode_c.specs.Elements.{twos64, word, placeOut, va
 pub struct SiiElement {
     pub number: u32,
     pub offset: u64,
+    pub lacking: u64,
     pub kind: u32,
     pub place_offset: u64,
     pub place_len: u64,
@@ -43,6 +44,7 @@ fn number(kind: u32, value: u64) -> SiiElement
     SiiElement {
         number: 0,
         offset: 0,
+        lacking: 0,
         kind,
         place_offset: 0,
         place_len: 0,
@@ -64,6 +66,7 @@ fn place(kind: u32, offset: usize, size: usize) -> SiiElement
     SiiElement {
         number: 0,
         offset: 0,
+        lacking: 0,
         kind,
         place_offset: offset as u64,
         place_len: size as u64,
@@ -85,6 +88,7 @@ fn refused(f: Refusal) -> SiiElement
     SiiElement {
         number: f.number,
         offset: f.offset as u64,
+        lacking: f.lacking as u64,
         kind: 0,
         place_offset: 0,
         place_len: 0,
@@ -106,6 +110,7 @@ fn words(kind: u32, a: u32, b: u32, c: u32, d: u32) -> SiiElement
     SiiElement {
         number: 0,
         offset: 0,
+        lacking: 0,
         kind,
         place_offset: 0,
         place_len: 0,
@@ -127,6 +132,7 @@ fn placement(p: Placement) -> SiiElement
     SiiElement {
         number: 0,
         offset: 0,
+        lacking: 0,
         kind: 8,
         place_offset: 0,
         place_len: 0,

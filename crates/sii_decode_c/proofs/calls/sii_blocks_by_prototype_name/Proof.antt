@@ -15,6 +15,9 @@ enum-known-reply c = search needs
 enum-known-reply-2 : tie.Need-enum-known-reply-2
 enum-known-reply-2 c = search needs
 
+cast-t14 : tie.Need-cast-t14
+cast-t14 c = search needs
+
 same-length : tie.Need-same-length
 same-length c = search needs
 
@@ -27,7 +30,7 @@ same-length-2 c = search needs
 
 returns-2 : tie.Need-returns-2
 returns-2 c =
-    (ap (λ z. numberOut (numberIs z)) (sym (c .before .reply2 .given .1)) ∙ ap numberOut (c .before .before .before .before .before .blocks-by-prototype-name .ensures .0), c .before .before .before .before .before .blocks-by-prototype-name .ensures .1)
+    (ap (λ z. numberOut (numberIs z)) (sym (c .before .before .reply2 .given .1)) ∙ ap numberOut (c .before .before .before .before .before .before .blocks-by-prototype-name .ensures .0), c .before .before .before .before .before .before .blocks-by-prototype-name .ensures .1)
 
 pub sii-blocks-by-prototype-name-spec : {M : Type 1} → statement M
 sii-blocks-by-prototype-name-spec =
@@ -36,6 +39,7 @@ sii-blocks-by-prototype-name-spec =
     blocks-by-prototype-name-requires
     enum-known-reply
     enum-known-reply-2
+    cast-t14
     same-length
     returns
     same-length-2

@@ -16,6 +16,9 @@ enum-known-reply c = search needs
 enum-known-reply-2 : tie.Need-enum-known-reply-2
 enum-known-reply-2 c = search needs
 
+cast-t17 : tie.Need-cast-t17
+cast-t17 c = search needs
+
 same-length : tie.Need-same-length
 same-length c = search needs
 
@@ -28,7 +31,7 @@ same-length-2 c = search needs
 
 returns-2 : tie.Need-returns-2
 returns-2 c =
-    (ap (λ z. fieldOut (fieldIs (now (c .before .before .before .before .before .before .before .before .before .before .args .file)) z)) (sym (c .before .reply2 .given .1)) ∙ ap fieldOut (c .before .before .before .before .before .field .ensures .0), c .before .before .before .before .before .field .ensures .1)
+    (ap (λ z. fieldOut (fieldIs (now (c .before .before .before .before .before .before .before .before .before .before .before .args .file)) z)) (sym (c .before .before .reply2 .given .1)) ∙ ap fieldOut (c .before .before .before .before .before .before .field .ensures .0), c .before .before .before .before .before .before .field .ensures .1)
 
 pub sii-field-of-spec : {M : Type 1} → statement M
 sii-field-of-spec =
@@ -37,6 +40,7 @@ sii-field-of-spec =
     field-requires
     enum-known-reply
     enum-known-reply-2
+    cast-t17
     same-length
     returns
     same-length-2

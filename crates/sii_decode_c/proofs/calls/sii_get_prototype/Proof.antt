@@ -15,6 +15,9 @@ enum-known-reply c = search needs
 enum-known-reply-2 : tie.Need-enum-known-reply-2
 enum-known-reply-2 c = search needs
 
+cast-t16 : tie.Need-cast-t16
+cast-t16 c = search needs
+
 same-length : tie.Need-same-length
 same-length c = search needs
 
@@ -27,7 +30,7 @@ same-length-2 c = search needs
 
 returns-2 : tie.Need-returns-2
 returns-2 c =
-    (ap (λ z. prototypeOut (prototypeIs z)) (sym (c .before .reply2 .given .1)) ∙ ap prototypeOut (c .before .before .before .before .before .get-prototype .ensures .0), c .before .before .before .before .before .get-prototype .ensures .1)
+    (ap (λ z. prototypeOut (prototypeIs z)) (sym (c .before .before .reply2 .given .1)) ∙ ap prototypeOut (c .before .before .before .before .before .before .get-prototype .ensures .0), c .before .before .before .before .before .before .get-prototype .ensures .1)
 
 pub sii-get-prototype-spec : {M : Type 1} → statement M
 sii-get-prototype-spec =
@@ -36,6 +39,7 @@ sii-get-prototype-spec =
     get-prototype-requires
     enum-known-reply
     enum-known-reply-2
+    cast-t16
     same-length
     returns
     same-length-2

@@ -16,6 +16,9 @@ enum-known-reply c = search needs
 enum-known-reply-2 : tie.Need-enum-known-reply-2
 enum-known-reply-2 c = search needs
 
+cast-t15 : tie.Need-cast-t15
+cast-t15 c = search needs
+
 same-length : tie.Need-same-length
 same-length c = search needs
 
@@ -36,8 +39,8 @@ same-length-4 c = search needs
 
 returns-2 : tie.Need-returns-2
 returns-2 c =
-    let k = c .before .before .before .before .before .before .before in
-    let e = ap (λ z. textIs z (k .to-siin .last .1 .1 .0)) (sym (c .before .reply2 .given .1)) ∙ k .to-siin .ensures .0 in
+    let k = c .before .before .before .before .before .before .before .before in
+    let e = ap (λ z. textIs z (k .to-siin .last .1 .1 .0)) (sym (c .before .before .reply2 .given .1)) ∙ k .to-siin .ensures .0 in
     (ap textOut e, (ap (λ (a : TextAnswer). a .output) e, k .to-siin .ensures .1))
 
 pub sii-to-siin-spec : {M : Type 1} → statement M
@@ -47,6 +50,7 @@ sii-to-siin-spec =
     to-siin-requires
     enum-known-reply
     enum-known-reply-2
+    cast-t15
     same-length
     same-length-2
     returns
