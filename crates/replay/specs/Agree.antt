@@ -4,9 +4,13 @@ use mathlib.Core.Bool.{Bool, false, cond}
 use mathlib.Core.List.{List}
 use lib.ListN.{length, take}
 use lib.Dec.{eqb}
-use Rattle.bsii_format.specs.Replies.{Reply, gives, refuses, absent}
+use Rattle.bsii_format.specs.Replies.{malformed, absent, badMark, Reply, gives, refuses}
 use Rattle.bsii_format.specs.Reader.{same}
 use Rattle.bsii_format.specs.Calls.{Reading, TextAnswer}
+
+-- 02, E2: "Against the Rust both numbers count as InvalidInput", which the list has as 3.
+abbrev pub rustNumber : ℕ → ℕ
+rustNumber n = cond (eqb n badMark) malformed n
 
 -- The Rust refuses nothing, and counts as many prototypes and blocks.
 abbrev pub sameCounts : ℕ → ℕ → ℕ → ℕ → ℕ → Bool
@@ -14,7 +18,7 @@ sameCounts reply p b prototypes blocks = cond (eqb reply 0) (cond (eqb p prototy
 
 abbrev pub sameReading : ℕ → ℕ → ℕ → Reply Reading → Bool
 sameReading reply prototypes blocks (gives a) = sameCounts reply (a .prototypes) (a .blocks) prototypes blocks
-sameReading reply prototypes blocks (refuses f) = eqb (f .number) reply
+sameReading reply prototypes blocks (refuses f) = eqb (rustNumber (f .number)) reply
 
 abbrev pub sameNumber : ℕ → Reply ℕ → Bool
 sameNumber n (gives k) = eqb k n
@@ -30,7 +34,7 @@ sameBytes text n output = cond (eqb n (length text)) (same (take n output) text)
 
 abbrev pub sameReply : ℕ → List ℕ → Reply ℕ → List ℕ → Bool
 sameReply reply text (gives n) output = cond (eqb reply 0) (sameBytes text n output) false
-sameReply reply text (refuses f) output = eqb (f .number) reply
+sameReply reply text (refuses f) output = eqb (rustNumber (f .number)) reply
 
 abbrev pub sameText : ℕ → List ℕ → TextAnswer → Bool
 sameText reply text a = sameReply reply text (a .reply) (a .output)

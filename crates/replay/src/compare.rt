@@ -10,12 +10,14 @@ use bsii_output::text::to_siin;
 use bsii_parse::reading::Reading;
 use bsii_parse::reading::parse;
 use bsii_string::answers::ABSENT;
+use bsii_string::answers::BAD_MARK;
+use bsii_string::answers::MALFORMED;
 use bsii_string::numbers::size;
 ghost use mathlib.Core.Path.{_≡_};
 ghost use lib.ListN.{length};
 ghost use Rattle.bsii_format.specs.Calls.{readingCall, namedBlockCall, textCall};
 ghost use Rattle.replay.specs.Parts.{Later};
-ghost use Rattle.replay.specs.Agree.{sameCounts, sameReading, sameNumber, isAbsent, sameBytes, sameText};
+ghost use Rattle.replay.specs.Agree.{rustNumber, sameCounts, sameReading, sameNumber, isAbsent, sameBytes, sameText};
 
 pub enum Outcome {
     Equal,
@@ -37,13 +39,24 @@ fn same_counts(reply: u32, p: usize, b: usize, prototypes: u32, blocks: u32) -> 
     b == size(blocks)
 }
 
+// Under which number the list has a refusal: a bad mark is the Rust's InvalidInput, as bytes that run out are.
+fn rust_number(number: u32) -> u32
+    ensures { λ r. ⌜ r ≡ rustNumber number ⌝ }
+{
+    if number == BAD_MARK {
+        MALFORMED
+    } else {
+        number
+    }
+}
+
 // Whether the reading call answers the Rust's counts, or refuses under the Rust's number, which is 0 if it refuses nothing.
 fn same_reading(file: &[u8], table: &mut [u32], reply: u32, prototypes: u32, blocks: u32) -> bool
     ensures { λ r. ⌜ r ≡ sameReading reply prototypes blocks (readingCall (length (now (table .entry))) (now (file .entry))) ⌝ }
 {
     let reading = parse(file, table);
     match reading {
-        Reading::Refused(f) => return f.number == reply,
+        Reading::Refused(f) => return rust_number(f.number) == reply,
         Reading::Read {
             prototypes: p,
             blocks: b,
@@ -149,7 +162,7 @@ fn same_text(file: &[u8], table: &mut [u32], output: &mut [u8], reply: u32, text
 {
     let answer = to_siin(file, table, output);
     match answer {
-        TextReply::Refused { refusal, needed: _ } => return refusal.number == reply,
+        TextReply::Refused { refusal, needed: _ } => return rust_number(refusal.number) == reply,
         TextReply::Text(n) => {
             if reply != 0 {
                 return false;

@@ -1,5 +1,7 @@
 -- What `parse` answered is what `readingCall` gives, by its contract, and `sameReading` has the same two cases: a refusal's number, or the counts.
+use Prim.Native.Nat.{ℕ}
 use mathlib.Core.Path.{sym, ap, _∙_}
+use lib.Dec.{eqb}
 use Rattle.bsii_parse.specs.Answers.{readingIs}
 use Rattle.replay.specs.Agree.{sameReading}
 use borrow.Author.Needs.{needs}
@@ -12,11 +14,14 @@ parse-requires c κs = search needs
 enum-known-reading : tie.Need-enum-known-reading
 enum-known-reading c = search needs
 
+rust-number-requires : tie.Need-rust-number-requires
+rust-number-requires c κs = search needs
+
 same-length : tie.Need-same-length
 same-length c = search needs
 
 returns : tie.Need-returns
-returns c = let a = c .before .before .before .before .before .before .before .before .before .before .args in ap (λ z. sameReading (a .reply) (a .prototypes) (a .blocks) (readingIs z)) (sym (c .before .before .reading .given .1)) ∙ ap (sameReading (a .reply) (a .prototypes) (a .blocks)) (c .before .before .before .before .before .before .parse .ensures .0)
+returns c = let a = c .before .before .before .before .before .before .before .before .before .before .args in ap (λ (n : ℕ). eqb n (a .reply)) (c .rust-number .ensures) ∙ ap (λ z. sameReading (a .reply) (a .prototypes) (a .blocks) (readingIs z)) (sym (c .before .before .reading .given .1)) ∙ ap (sameReading (a .reply) (a .prototypes) (a .blocks)) (c .before .before .before .before .before .before .parse .ensures .0)
 
 enum-known-reading-2 : tie.Need-enum-known-reading-2
 enum-known-reading-2 c = search needs
@@ -36,6 +41,7 @@ same-reading-spec =
     (tie.spec
     parse-requires
     enum-known-reading
+    rust-number-requires
     same-length
     returns
     enum-known-reading-2

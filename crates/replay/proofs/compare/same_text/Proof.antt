@@ -1,6 +1,8 @@
 -- What `to_siin` answered is `textCall`'s answer, and `sameText` has the same cases: a refusal's number; a text against a refusal (`unlike`); or the bytes
 -- against the text where the Rust refuses nothing (`alike`).
+use Prim.Native.Nat.{ℕ}
 use mathlib.Core.Path.{sym, ap, _∙_}
+use lib.Dec.{eqb}
 use denote.Ref.{now}
 use Rattle.bsii_output.specs.Answers.{textIs}
 use Rattle.replay.specs.Agree.{sameText}
@@ -15,6 +17,9 @@ to-siin-requires c κs = search needs
 enum-known-answer : tie.Need-enum-known-answer
 enum-known-answer c = search needs
 
+rust-number-requires : tie.Need-rust-number-requires
+rust-number-requires c κs = search needs
+
 same-length : tie.Need-same-length
 same-length c = search needs
 
@@ -26,7 +31,7 @@ returns c =
     let k = c .before .before .before .before .before .before .before .before in
     let a = k .before .before .before .before .before .before .before .args in
     let e = ap (sameText (a .reply) (now (a .text))) (ap (λ z. textIs z (k .to-siin .last .1 .1 .0)) (sym (c .before .before .answer .given .1)) ∙ k .to-siin .ensures .0) in
-    e
+    ap (λ (n : ℕ). eqb n (a .reply)) (c .rust-number .ensures) ∙ e
 
 enum-known-answer-2 : tie.Need-enum-known-answer-2
 enum-known-answer-2 c = search needs
@@ -66,6 +71,7 @@ same-text-spec =
     (tie.spec
     to-siin-requires
     enum-known-answer
+    rust-number-requires
     same-length
     same-length-2
     returns
