@@ -3,28 +3,31 @@
 use std::error::Error;
 use std::fmt;
 
-/// A refusal of the library: its number from 1 to 13, and the offset that it is about, counted
-/// from the first byte of the input.
+/// A refusal of the library: its number, and the offset that it is about, counted from the first
+/// byte of the input.
 ///
 /// `Debug` shows the sentence as `Display` does: a refusal that `main` returns is printed by
 /// `Debug`, and is for the user to read.
 #[derive(Clone, Copy, PartialEq, Eq)]
 pub struct Refusal {
-    /// From 1 to 13.
+    /// From 1 to 13, or 15.
     pub number: u32,
     /// The byte that it is about; for 10 to 13 it says nothing about the bytes there.
     pub offset: u64,
+    /// For number 3, how many bytes are not there of the item that starts at the offset: one number,
+    /// one byte, or the bytes of one string. Else 0.
+    pub lacking: u64,
     /// The text's length for number 11, else 0.
     pub needed: u64,
 }
 
 impl Refusal {
-    /// The number in plain words.
+    /// The number in plain words, without the counts of 3 and 11, which `Display` adds.
     pub fn sentence(&self) -> &'static str {
         match self.number {
             1 => "this is not a BSII file: its first four bytes are not BSII",
             2 => "the file has version 1 of the format, which is not read",
-            3 => "the file ends in the middle of what stands here, or a record has a mark above 1",
+            3 => "the save ends early",
             4 => "a string is not UTF-8",
             5 => "an encoded word has a digit 0, which stands for no character",
             6 => "a block is of a prototype that is not defined in front of it",
@@ -35,6 +38,7 @@ impl Refusal {
             11 => "there is not enough memory for the text",
             12 => "the file is longer than 16777216 bytes",
             13 => "there is no such prototype, block, name or element",
+            15 => "not a record of this format",
             _ => "the library gave a number that has no meaning",
         }
     }
@@ -42,12 +46,13 @@ impl Refusal {
 
 impl fmt::Display for Refusal {
     fn fmt(&self, f: &mut fmt::Formatter<'_>) -> fmt::Result {
-        let sentence = self.sentence();
-        write!(f, "refused {} at {}: {sentence}", self.number, self.offset)?;
-        if self.number == 11 {
-            write!(f, ", which has {} bytes", self.needed)?;
+        write!(f, "refused {} at {}: ", self.number, self.offset)?;
+        match (self.number, self.lacking) {
+            (3, 1) => write!(f, "the save ends 1 byte early"),
+            (3, lacking) => write!(f, "the save ends {lacking} bytes early"),
+            (11, _) => write!(f, "{}, which has {} bytes", self.sentence(), self.needed),
+            _ => f.write_str(self.sentence()),
         }
-        Ok(())
     }
 }
 
