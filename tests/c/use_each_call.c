@@ -443,6 +443,36 @@ static void cuts(void)
     cut("field name not UTF-8, and cut", made, 34, 33, 1);
 }
 
+/* bytes without a terminator, and how many */
+#define BYTES(literal) (literal), sizeof(literal) - 1
+
+/* the examples of the readings of document 02, E2: a name, a save with a u16 in two blocks, and a placement whose last float is cut */
+static void worked_cuts(void)
+{
+    static const char save[] = "BSII\2\0\0\0"
+                               "\0\0\0\0\1\3\0\0\0\1\0\0\0t\x2b\0\0\0\1\0\0\0n\0\0\0\0"
+                               "\3\0\0\0\0\5\0"
+                               "\3\0\0\0\1\x22\0\0\0\0\0\0\0\7\0"
+                               "\0\0\0\0";
+    static const char seven[] = "BSII\2\0\0\0"
+                                "\0\0\0\0\1\2\0\0\0\1\0\0\0j\x19\0\0\0\1\0\0\0w\0\0\0\0"
+                                "\2\0\0\0\0"
+                                "\0\0\x80\x3f\0\0\0\x80\0\0\0\x80\2\0\x80\x7f\0\0\0\0\0\0\xc0\x3f\0\0\0\xc0"
+                                "\0\0\0\0";
+    const uint8_t *bytes = (const uint8_t *)save;
+    cut("version", bytes, 5, 4, 3);
+    cut("record number", bytes, 10, 8, 2);
+    start();
+    made[12] = 3;
+    refused("mark 3", made, 13, 3, SII_BAD_MARK, 12);
+    fault("name", (const uint8_t *)BYTES("BSII\2\0\0\0\0\0\0\0\1\3\0\0\0\5\0\0\0ab"), 3, SII_MALFORMED, 21, 3);
+    cut("u16", bytes, 41, 40, 1);
+    label = "save with a u16 in two blocks";
+    /* the literals' own zeros are the end records' marks */
+    reading(bytes, sizeof save, 3, (SiiReading){0, 0, 0, 1, 2, 62});
+    cut("placement of seven floats", (const uint8_t *)seven, sizeof seven, 72, 3);
+}
+
 /* The mark is there and is neither 0 nor 1, whatever stands behind it. */
 static void marks(void)
 {
@@ -642,9 +672,6 @@ static void a_long_text(void)
     text(file, len, 3, 100, (SiiText){SII_OUTPUT_SHORT, 0, 0, 1099531488224}, "");
     free(file);
 }
-
-/* bytes without a terminator, and how many */
-#define BYTES(literal) (literal), sizeof(literal) - 1
 
 static void elements(void)
 {
@@ -854,6 +881,7 @@ int main(void)
         null_for_nothing = round == 2;
         the_worked_file();
         cuts();
+        worked_cuts();
         marks();
         damage();
         the_widened_file();
