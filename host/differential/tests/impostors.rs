@@ -182,7 +182,7 @@ impl Impostor {
         let there = (bytes.len() as u64).saturating_sub(offset);
         match (self.fault, number) {
             (Fault::LackingIsTheSize, 3) => answer.lacking(lacking + there),
-            (Fault::LackingToTheValuesEnd, 3) => answer.lacking(self.to_the_end(call, lacking)),
+            (Fault::LackingToTheValuesEnd, 3) => answer.lacking(self.lacking_of_all(call, lacking)),
             (Fault::LackingInAnotherNumber, 1..) if number != 3 => answer.lacking(1),
             (Fault::LackingInAnAnswer, 0) => answer.lacking(1),
             (Fault::LackingInTheReadingAlone, 3) if call != Call::Read => answer.lacking(0),
@@ -196,7 +196,7 @@ impl Impostor {
     }
 
     /// Of a value that runs out, the bytes that are lacking of all of it, if the rest are zeros.
-    fn to_the_end(&mut self, call: Call<'_>, lacking: u64) -> u64 {
+    fn lacking_of_all(&mut self, call: Call<'_>, lacking: u64) -> u64 {
         let Call::ElementOf { type_id, part, .. } = call else {
             return lacking;
         };
