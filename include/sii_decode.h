@@ -3,9 +3,10 @@
  * puts into target/staticlib, or with what `make install` installs (pkg-config name: sii_decode). docs/FORMAT.md explains the format, the refusals
  * and the calls.
  *
- * Answers. Each call returns a struct. Its `number` is 0 if the call has an answer; then `offset` is 0. Otherwise it is one of the refusals 1
- * to 13 below, `offset` is the byte of the file (of the part, for sii_element_of) that the refusal is about, and every other member is 0, with
- * one exception: the `length` of SII_OUTPUT_SHORT. Compare structs member by member: the padding between members holds anything.
+ * Answers. Each call returns a struct. Its `number` is 0 if the call has an answer; then `offset` and `lacking` are 0. Otherwise it is one of the
+ * refusals below, `offset` is the byte of the file (of the part, for sii_element_of) that the refusal is about, and every other member is 0, with
+ * two exceptions: the `lacking` of SII_MALFORMED and the `length` of SII_OUTPUT_SHORT. Compare structs member by member: the padding between
+ * members holds anything.
  *
  * What is asked of the caller. At least as many bytes (or words, for the table) as its length says can be read at a pointer, and for table and
  * output written. With length 0 nothing is read or written there, so any pointer is allowed, NULL too. The table is aligned for uint32_t. Table
@@ -47,15 +48,19 @@ extern "C" {
 #define SII_LENGTH_LIMIT 16777216
 
 /*
- * The refusals. Of several, SII_INPUT_LONG comes first, then the first fault of the file from front to back (1 to 7 and 10), whatever was
- * asked for, then SII_ABSENT; for sii_to_siin 8 and 9 in the order of the text, then SII_OUTPUT_SHORT. No refusal has the number 0.
+ * The refusals. Of several, SII_INPUT_LONG comes first, then the first fault of the file from front to back (1 to 7, 10 and 15), whatever was
+ * asked for, then SII_ABSENT; for sii_to_siin 8 and 9 in the order of the text, then SII_OUTPUT_SHORT. No refusal has the number 0 or 14.
  */
 enum {
     /* The first 4 bytes are missing or are not "BSII". Offset 0. */
     SII_INVALID_HEADER = 1,
     /* The version is 1; every other version is read. Offset 8. */
     SII_UNSUPPORTED_VERSION = 2,
-    /* A number, a byte, or the bytes of a string run out, or the mark of a record is neither 0 nor 1. Offset: where that item starts. */
+    /*
+     * The bytes run out in an item: a number, a byte, or the bytes of a string behind its length. Offset: where that item starts. The answer's
+     * `lacking` is how many bytes of that one item are not there, from 1 up to its size; a string's can be as large as 4294967295. With so many
+     * bytes more the refusal is gone or another. Every cut of a file that is read gives this, if 4 bytes are left and not the whole end record.
+     */
     SII_MALFORMED = 3,
     /* A string is not UTF-8. Offset: its first byte after its length. */
     SII_NOT_UTF8 = 4,
@@ -76,7 +81,9 @@ enum {
     /* The file has more than SII_LENGTH_LIMIT bytes. Offset 0. */
     SII_INPUT_LONG = 12,
     /* The prototype, block, name or element that was asked for is not there. Offset 0. */
-    SII_ABSENT = 13
+    SII_ABSENT = 13,
+    /* The mark of a record, which is the byte behind a record number 0, is there and is neither 0 nor 1. Offset: the mark. */
+    SII_BAD_MARK = 15
 };
 
 /* The kinds of an element, each with the types it comes from and the members of SiiElement that hold it; the others are 0. */
@@ -115,9 +122,12 @@ enum {
     SII_KIND_ID = 16
 };
 
+/* Each answer starts with the same three members: `lacking` is the count of SII_MALFORMED, and 0 with every other number and with an answer. */
+
 typedef struct SiiReading {
     uint32_t number;
     uint64_t offset;
+    uint64_t lacking;
     uint64_t prototypes; /* distinct prototype ids */
     uint64_t blocks;
     uint64_t next; /* the offset after the end record */
@@ -126,6 +136,7 @@ typedef struct SiiReading {
 typedef struct SiiPrototype {
     uint32_t number;
     uint64_t offset;
+    uint64_t lacking;
     uint64_t name_offset; /* the name's bytes in the file, without their length */
     uint64_t name_len;
     uint64_t fields;
@@ -134,6 +145,7 @@ typedef struct SiiPrototype {
 typedef struct SiiBlock {
     uint32_t number;
     uint64_t offset;
+    uint64_t lacking;
     uint32_t prototype_id;
     uint64_t id_offset; /* the bytes of the block's id in the file, its first one included */
     uint64_t id_len;
@@ -142,12 +154,14 @@ typedef struct SiiBlock {
 typedef struct SiiNumber {
     uint32_t number;
     uint64_t offset;
+    uint64_t lacking;
     uint64_t value;
 } SiiNumber;
 
 typedef struct SiiField {
     uint32_t number;
     uint64_t offset;
+    uint64_t lacking;
     uint32_t type_id;
     uint64_t part_offset; /* the part of the file that encodes the value: of a string with its length, of an array with its count */
     uint64_t part_len;
@@ -156,12 +170,14 @@ typedef struct SiiField {
 typedef struct SiiText {
     uint32_t number;
     uint64_t offset;
+    uint64_t lacking;
     uint64_t length; /* the text's; with SII_OUTPUT_SHORT the needed length, with every other refusal 0 */
 } SiiText;
 
 typedef struct SiiElement {
     uint32_t number;
     uint64_t offset;
+    uint64_t lacking;
     uint32_t kind;
     uint64_t place_offset;
     uint64_t place_len;
@@ -178,18 +194,18 @@ typedef struct SiiElement {
 
 /*
  * Reads the whole file. Answers the number of distinct prototype ids, the number of blocks, and the offset after the end record; bytes from
- * there on are ignored. Refusals: 1 to 7, 10, 12. Afterwards the table is all 0.
+ * there on are ignored. Refusals: 1 to 7, 10, 12, 15. Afterwards the table is all 0.
  */
 SiiReading sii_read(const uint8_t *file, size_t file_len, uint32_t *table, size_t words);
 
 /*
  * The prototype with this id, by its last definition in the file. Answers the place of its name in the file and its number of fields.
- * Refusals: 1 to 7, 10, 12; SII_ABSENT if the id is defined nowhere. Afterwards the table is all 0.
+ * Refusals: 1 to 7, 10, 12, 15; SII_ABSENT if the id is defined nowhere. Afterwards the table is all 0.
  */
 SiiPrototype sii_get_prototype(const uint8_t *file, size_t file_len, uint32_t *table, size_t words, uint32_t id);
 
 /*
- * The n-th block of the file, from 0. Answers its prototype id and the place of the block's id in the file. Refusals: 1 to 7, 10, 12;
+ * The n-th block of the file, from 0. Answers its prototype id and the place of the block's id in the file. Refusals: 1 to 7, 10, 12, 15;
  * SII_ABSENT if there are not so many blocks. Afterwards the table is all 0.
  */
 SiiBlock sii_block_at(const uint8_t *file, size_t file_len, uint32_t *table, size_t words, uint64_t n);
@@ -197,7 +213,7 @@ SiiBlock sii_block_at(const uint8_t *file, size_t file_len, uint32_t *table, siz
 /*
  * The n-th block, from 0, among those whose prototype has this name by its last definition. Answers in `value` the block's number among all
  * blocks, for sii_block_at and sii_field_of. The name has no terminator and is compared byte by byte; any bytes are allowed. Refusals: 1 to 7,
- * 10, 12; SII_ABSENT if there are not so many. Afterwards the table is all 0.
+ * 10, 12, 15; SII_ABSENT if there are not so many. Afterwards the table is all 0.
  */
 SiiNumber sii_blocks_by_prototype_name(const uint8_t *file, size_t file_len, uint32_t *table, size_t words, const uint8_t *name,
                                        size_t name_len, uint64_t n);
@@ -206,7 +222,7 @@ SiiNumber sii_blocks_by_prototype_name(const uint8_t *file, size_t file_len, uin
  * The value of a block, by the block's number from 0 and the field's name: the first definition of that name in the last definition of the
  * block's prototype gives its position. Answers the type with which the block was read, and the part of the file that encodes the value; both
  * go to sii_element_of. The part is never empty. The name has no terminator and is compared byte by byte; any bytes are allowed. Refusals: 1 to
- * 7, 10, 12; SII_ABSENT if there is no such block, no such name, or no value at that position in the block. Afterwards the table is all 0.
+ * 7, 10, 12, 15; SII_ABSENT if there is no such block, no such name, or no value at that position in the block. Afterwards the table is all 0.
  */
 SiiField sii_field_of(const uint8_t *file, size_t file_len, uint32_t *table, size_t words, uint64_t block, const uint8_t *name,
                       size_t name_len);
@@ -214,13 +230,13 @@ SiiField sii_field_of(const uint8_t *file, size_t file_len, uint32_t *table, siz
 /*
  * An element of a value of this type, which is read whole from the start of `part`; bytes behind it are ignored. A single value has the index 0
  * only, an array its elements from 0. Answers the element's kind and the element; places and the offsets of refusals count from the start of
- * `part`. Refusals: SII_UNLISTED_TYPE, then 3, 4, 5 of the whole value, also behind the element, then SII_ABSENT if the index is too high.
- * There is no table and no length limit; nothing is written.
+ * `part`, and the lacking bytes of SII_MALFORMED from its end on. Refusals: SII_UNLISTED_TYPE, then 3, 4, 5 of the whole value, also behind the
+ * element, then SII_ABSENT if the index is too high. There is no table and no length limit; nothing is written.
  */
 SiiElement sii_element_of(uint32_t type_id, const uint8_t *part, size_t part_len, uint64_t index);
 
 /*
- * Writes the file's text into the output. Answers the text's length, which has no terminator. Refusals: 1 to 12; with SII_OUTPUT_SHORT `length`
+ * Writes the file's text into the output. Answers the text's length, which has no terminator. Refusals: 1 to 12, 15; with SII_OUTPUT_SHORT `length`
  * is the length that the output must have, which may be above 32 bits. Afterwards the output starts with the text, and its bytes beyond the
  * text keep their values; after a refusal all of them do. The table is all 0. With NULL and length 0 for the output the call is a way to ask for
  * the length: every text is longer than that, so it is refused with SII_OUTPUT_SHORT if nothing else is wrong.

@@ -9,13 +9,13 @@ template <typename Answer, std::size_t size> constexpr bool plain()
     return std::is_standard_layout<Answer>::value && std::is_trivial<Answer>::value && sizeof(Answer) == size;
 }
 
-static_assert(plain<SiiReading, 40>(), "SiiReading");
-static_assert(plain<SiiPrototype, 40>(), "SiiPrototype");
-static_assert(plain<SiiBlock, 40>(), "SiiBlock");
-static_assert(plain<SiiNumber, 24>(), "SiiNumber");
-static_assert(plain<SiiField, 40>(), "SiiField");
-static_assert(plain<SiiText, 24>(), "SiiText");
-static_assert(plain<SiiElement, 80>(), "SiiElement");
+static_assert(plain<SiiReading, 48>(), "SiiReading");
+static_assert(plain<SiiPrototype, 48>(), "SiiPrototype");
+static_assert(plain<SiiBlock, 48>(), "SiiBlock");
+static_assert(plain<SiiNumber, 32>(), "SiiNumber");
+static_assert(plain<SiiField, 48>(), "SiiField");
+static_assert(plain<SiiText, 32>(), "SiiText");
+static_assert(plain<SiiElement, 88>(), "SiiElement");
 
 // one prototype 1, `p`, with a u32 `f`, and a block of it with the value 9
 static const uint8_t file[] = {

@@ -152,6 +152,7 @@ static void reading(const uint8_t *bytes, size_t len, size_t words, SiiReading e
     SiiReading got = sii_read(FILE_AND_TABLE(loan));
     equal("sii_read, number", expected.number, got.number);
     equal("sii_read, offset", expected.offset, got.offset);
+    equal("sii_read, lacking", expected.lacking, got.lacking);
     equal("sii_read, prototypes", expected.prototypes, got.prototypes);
     equal("sii_read, blocks", expected.blocks, got.blocks);
     equal("sii_read, next", expected.next, got.next);
@@ -164,6 +165,7 @@ static void prototype(const uint8_t *bytes, size_t len, size_t words, uint32_t i
     SiiPrototype got = sii_get_prototype(FILE_AND_TABLE(loan), id);
     equal("sii_get_prototype, number", expected.number, got.number);
     equal("sii_get_prototype, offset", expected.offset, got.offset);
+    equal("sii_get_prototype, lacking", expected.lacking, got.lacking);
     equal("sii_get_prototype, name_offset", expected.name_offset, got.name_offset);
     equal("sii_get_prototype, name_len", expected.name_len, got.name_len);
     equal("sii_get_prototype, fields", expected.fields, got.fields);
@@ -176,6 +178,7 @@ static void block(const uint8_t *bytes, size_t len, size_t words, uint64_t n, Si
     SiiBlock got = sii_block_at(FILE_AND_TABLE(loan), n);
     equal("sii_block_at, number", expected.number, got.number);
     equal("sii_block_at, offset", expected.offset, got.offset);
+    equal("sii_block_at, lacking", expected.lacking, got.lacking);
     equal("sii_block_at, prototype_id", expected.prototype_id, got.prototype_id);
     equal("sii_block_at, id_offset", expected.id_offset, got.id_offset);
     equal("sii_block_at, id_len", expected.id_len, got.id_len);
@@ -188,6 +191,7 @@ static void named_block(const uint8_t *bytes, size_t len, size_t words, const ch
     SiiNumber got = sii_blocks_by_prototype_name(FILE_AND_TABLE(loan), NAME(loan), n);
     equal("sii_blocks_by_prototype_name, number", expected.number, got.number);
     equal("sii_blocks_by_prototype_name, offset", expected.offset, got.offset);
+    equal("sii_blocks_by_prototype_name, lacking", expected.lacking, got.lacking);
     equal("sii_blocks_by_prototype_name, value", expected.value, got.value);
     end(loan, name);
 }
@@ -198,6 +202,7 @@ static void field(const uint8_t *bytes, size_t len, size_t words, uint64_t n, co
     SiiField got = sii_field_of(FILE_AND_TABLE(loan), n, NAME(loan));
     equal("sii_field_of, number", expected.number, got.number);
     equal("sii_field_of, offset", expected.offset, got.offset);
+    equal("sii_field_of, lacking", expected.lacking, got.lacking);
     equal("sii_field_of, type_id", expected.type_id, got.type_id);
     equal("sii_field_of, part_offset", expected.part_offset, got.part_offset);
     equal("sii_field_of, part_len", expected.part_len, got.part_len);
@@ -210,6 +215,7 @@ static void element(uint32_t type_id, const void *part, size_t len, uint64_t ind
     SiiElement got = sii_element_of(type_id, lent.start, lent.size, index);
     equal("sii_element_of, number", expected.number, got.number);
     equal("sii_element_of, offset", expected.offset, got.offset);
+    equal("sii_element_of, lacking", expected.lacking, got.lacking);
     equal("sii_element_of, kind", expected.kind, got.kind);
     equal("sii_element_of, place_offset", expected.place_offset, got.place_offset);
     equal("sii_element_of, place_len", expected.place_len, got.place_len);
@@ -238,6 +244,7 @@ static void text(const uint8_t *bytes, size_t len, size_t words, size_t output_l
     got = sii_to_siin(FILE_AND_TABLE(loan), output.start, output.size);
     equal("sii_to_siin, number", expected.number, got.number);
     equal("sii_to_siin, offset", expected.offset, got.offset);
+    equal("sii_to_siin, lacking", expected.lacking, got.lacking);
     equal("sii_to_siin, length", expected.length, got.length);
     same_bytes("text", (const uint8_t *)text, output.start, text_len);
     for (at = text_len; at < output_len; at++)
@@ -251,10 +258,10 @@ static void text(const uint8_t *bytes, size_t len, size_t words, size_t output_l
 static void converts(const uint8_t *bytes, size_t len, size_t words, const char *expected)
 {
     size_t length = strlen(expected);
-    text(bytes, len, words, length, (SiiText){0, 0, length}, expected);
-    text(bytes, len, words, length + 50, (SiiText){0, 0, length}, expected);
-    text(bytes, len, words, length - 1, (SiiText){SII_OUTPUT_SHORT, 0, length}, "");
-    text(bytes, len, words, 0, (SiiText){SII_OUTPUT_SHORT, 0, length}, "");
+    text(bytes, len, words, length, (SiiText){0, 0, 0, length}, expected);
+    text(bytes, len, words, length + 50, (SiiText){0, 0, 0, length}, expected);
+    text(bytes, len, words, length - 1, (SiiText){SII_OUTPUT_SHORT, 0, 0, length}, "");
+    text(bytes, len, words, 0, (SiiText){SII_OUTPUT_SHORT, 0, 0, length}, "");
 }
 
 static SiiElement place(uint32_t kind, uint64_t offset, uint64_t len)
@@ -272,21 +279,38 @@ static SiiElement no_element(uint32_t number, uint64_t offset)
     return (SiiElement){.number = number, .offset = offset};
 }
 
+static SiiElement cut_element(uint64_t offset, uint64_t lacking)
+{
+    return (SiiElement){.number = SII_MALFORMED, .offset = offset, .lacking = lacking};
+}
+
 /* A fault of the file is the answer of every call that takes it, whatever is asked for. */
-static void refused(const char *name, const uint8_t *bytes, size_t len, size_t words, uint32_t number, uint64_t offset)
+static void fault(const char *name, const uint8_t *bytes, size_t len, size_t words, uint32_t number, uint64_t offset, uint64_t lacking)
 {
     label = name;
-    reading(bytes, len, words, (SiiReading){number, offset, 0, 0, 0});
-    prototype(bytes, len, words, 7, (SiiPrototype){number, offset, 0, 0, 0});
-    prototype(bytes, len, words, 8, (SiiPrototype){number, offset, 0, 0, 0});
-    block(bytes, len, words, 0, (SiiBlock){number, offset, 0, 0, 0});
-    block(bytes, len, words, 9, (SiiBlock){number, offset, 0, 0, 0});
-    named_block(bytes, len, words, "trip", 0, (SiiNumber){number, offset, 0});
-    named_block(bytes, len, words, "", 0, (SiiNumber){number, offset, 0});
-    field(bytes, len, words, 0, "km", (SiiField){number, offset, 0, 0, 0});
-    field(bytes, len, words, 0, "", (SiiField){number, offset, 0, 0, 0});
-    text(bytes, len, words, 100, (SiiText){number, offset, 0}, "");
-    text(bytes, len, words, 0, (SiiText){number, offset, 0}, "");
+    reading(bytes, len, words, (SiiReading){number, offset, lacking, 0, 0, 0});
+    prototype(bytes, len, words, 7, (SiiPrototype){number, offset, lacking, 0, 0, 0});
+    prototype(bytes, len, words, 8, (SiiPrototype){number, offset, lacking, 0, 0, 0});
+    block(bytes, len, words, 0, (SiiBlock){number, offset, lacking, 0, 0, 0});
+    block(bytes, len, words, 9, (SiiBlock){number, offset, lacking, 0, 0, 0});
+    named_block(bytes, len, words, "trip", 0, (SiiNumber){number, offset, lacking, 0});
+    named_block(bytes, len, words, "", 0, (SiiNumber){number, offset, lacking, 0});
+    field(bytes, len, words, 0, "km", (SiiField){number, offset, lacking, 0, 0, 0});
+    field(bytes, len, words, 0, "", (SiiField){number, offset, lacking, 0, 0, 0});
+    text(bytes, len, words, 100, (SiiText){number, offset, lacking, 0}, "");
+    text(bytes, len, words, 0, (SiiText){number, offset, lacking, 0}, "");
+}
+
+/* any but 3: nothing is lacking */
+static void refused(const char *name, const uint8_t *bytes, size_t len, size_t words, uint32_t number, uint64_t offset)
+{
+    fault(name, bytes, len, words, number, offset, 0);
+}
+
+/* the bytes run out in the item at the offset, which has so many more */
+static void cut(const char *name, const uint8_t *bytes, size_t len, uint64_t offset, uint64_t lacking)
+{
+    fault(name, bytes, len, 3, SII_MALFORMED, offset, lacking);
 }
 
 /* ---- the worked file, and files made from it */
@@ -351,12 +375,12 @@ static void the_worked_file(void)
     size_t words;
     for (words = 3; words <= 12; words += 3) {
         label = "worked file";
-        reading(worked, WORKED, words, (SiiReading){0, 0, 1, 1, 82});
-        prototype(worked, WORKED, words, 7, (SiiPrototype){0, 0, 21, 4, 2});
-        block(worked, WORKED, words, 0, (SiiBlock){0, 0, 7, 52, 9});
-        named_block(worked, WORKED, words, "trip", 0, (SiiNumber){0, 0, 0});
-        field(worked, WORKED, words, 0, "km", (SiiField){0, 0, 0x27, 61, 4});
-        field(worked, WORKED, words, 0, "w", (SiiField){0, 0, 0x06, 65, 12});
+        reading(worked, WORKED, words, (SiiReading){0, 0, 0, 1, 1, 82});
+        prototype(worked, WORKED, words, 7, (SiiPrototype){0, 0, 0, 21, 4, 2});
+        block(worked, WORKED, words, 0, (SiiBlock){0, 0, 0, 7, 52, 9});
+        named_block(worked, WORKED, words, "trip", 0, (SiiNumber){0, 0, 0, 0});
+        field(worked, WORKED, words, 0, "km", (SiiField){0, 0, 0, 0x27, 61, 4});
+        field(worked, WORKED, words, 0, "w", (SiiField){0, 0, 0, 0x06, 65, 12});
         converts(worked, WORKED, words, worked_text);
     }
     element(0x27, worked + 61, 4, 0, value(SII_KIND_U32, 300));
@@ -366,52 +390,120 @@ static void the_worked_file(void)
     label = "worked file, bytes behind the end record";
     start();
     insert(82, "BSII\1\0\0\0", 8);
-    reading(made, made_len, 3, (SiiReading){0, 0, 1, 1, 82});
+    reading(made, made_len, 3, (SiiReading){0, 0, 0, 1, 1, 82});
     converts(made, made_len, 3, worked_text);
 
     label = "worked file, what is not there";
-    prototype(worked, WORKED, 3, 8, (SiiPrototype){SII_ABSENT, 0, 0, 0, 0});
-    prototype(worked, WORKED, 3, 0x107, (SiiPrototype){SII_ABSENT, 0, 0, 0, 0});
-    prototype(worked, WORKED, 3, 0x10007, (SiiPrototype){SII_ABSENT, 0, 0, 0, 0});
-    prototype(worked, WORKED, 3, 0, (SiiPrototype){SII_ABSENT, 0, 0, 0, 0});
-    block(worked, WORKED, 3, 1, (SiiBlock){SII_ABSENT, 0, 0, 0, 0});
-    block(worked, WORKED, 3, ABOVE_32_BITS, (SiiBlock){SII_ABSENT, 0, 0, 0, 0});
-    block(worked, WORKED, 3, UINT64_MAX, (SiiBlock){SII_ABSENT, 0, 0, 0, 0});
-    named_block(worked, WORKED, 3, "trip", 1, (SiiNumber){SII_ABSENT, 0, 0});
-    named_block(worked, WORKED, 3, "trip", ABOVE_32_BITS, (SiiNumber){SII_ABSENT, 0, 0});
-    named_block(worked, WORKED, 3, "trip", UINT64_MAX, (SiiNumber){SII_ABSENT, 0, 0});
-    named_block(worked, WORKED, 3, "tri", 0, (SiiNumber){SII_ABSENT, 0, 0});
-    named_block(worked, WORKED, 3, "trips", 0, (SiiNumber){SII_ABSENT, 0, 0});
-    named_block(worked, WORKED, 3, "", 0, (SiiNumber){SII_ABSENT, 0, 0});
-    named_block(worked, WORKED, 3, "\xff", 0, (SiiNumber){SII_ABSENT, 0, 0});
-    field(worked, WORKED, 3, 0, "k", (SiiField){SII_ABSENT, 0, 0, 0, 0});
-    field(worked, WORKED, 3, 0, "kmh", (SiiField){SII_ABSENT, 0, 0, 0, 0});
-    field(worked, WORKED, 3, 0, "", (SiiField){SII_ABSENT, 0, 0, 0, 0});
-    field(worked, WORKED, 3, 1, "km", (SiiField){SII_ABSENT, 0, 0, 0, 0});
-    field(worked, WORKED, 3, ABOVE_32_BITS, "km", (SiiField){SII_ABSENT, 0, 0, 0, 0});
-    field(worked, WORKED, 3, UINT64_MAX, "km", (SiiField){SII_ABSENT, 0, 0, 0, 0});
+    prototype(worked, WORKED, 3, 8, (SiiPrototype){SII_ABSENT, 0, 0, 0, 0, 0});
+    prototype(worked, WORKED, 3, 0x107, (SiiPrototype){SII_ABSENT, 0, 0, 0, 0, 0});
+    prototype(worked, WORKED, 3, 0x10007, (SiiPrototype){SII_ABSENT, 0, 0, 0, 0, 0});
+    prototype(worked, WORKED, 3, 0, (SiiPrototype){SII_ABSENT, 0, 0, 0, 0, 0});
+    block(worked, WORKED, 3, 1, (SiiBlock){SII_ABSENT, 0, 0, 0, 0, 0});
+    block(worked, WORKED, 3, ABOVE_32_BITS, (SiiBlock){SII_ABSENT, 0, 0, 0, 0, 0});
+    block(worked, WORKED, 3, UINT64_MAX, (SiiBlock){SII_ABSENT, 0, 0, 0, 0, 0});
+    named_block(worked, WORKED, 3, "trip", 1, (SiiNumber){SII_ABSENT, 0, 0, 0});
+    named_block(worked, WORKED, 3, "trip", ABOVE_32_BITS, (SiiNumber){SII_ABSENT, 0, 0, 0});
+    named_block(worked, WORKED, 3, "trip", UINT64_MAX, (SiiNumber){SII_ABSENT, 0, 0, 0});
+    named_block(worked, WORKED, 3, "tri", 0, (SiiNumber){SII_ABSENT, 0, 0, 0});
+    named_block(worked, WORKED, 3, "trips", 0, (SiiNumber){SII_ABSENT, 0, 0, 0});
+    named_block(worked, WORKED, 3, "", 0, (SiiNumber){SII_ABSENT, 0, 0, 0});
+    named_block(worked, WORKED, 3, "\xff", 0, (SiiNumber){SII_ABSENT, 0, 0, 0});
+    field(worked, WORKED, 3, 0, "k", (SiiField){SII_ABSENT, 0, 0, 0, 0, 0});
+    field(worked, WORKED, 3, 0, "kmh", (SiiField){SII_ABSENT, 0, 0, 0, 0, 0});
+    field(worked, WORKED, 3, 0, "", (SiiField){SII_ABSENT, 0, 0, 0, 0, 0});
+    field(worked, WORKED, 3, 1, "km", (SiiField){SII_ABSENT, 0, 0, 0, 0, 0});
+    field(worked, WORKED, 3, ABOVE_32_BITS, "km", (SiiField){SII_ABSENT, 0, 0, 0, 0, 0});
+    field(worked, WORKED, 3, UINT64_MAX, "km", (SiiField){SII_ABSENT, 0, 0, 0, 0, 0});
     element(0x27, worked + 61, 4, 1, no_element(SII_ABSENT, 0));
     element(0x06, worked + 65, 12, 2, no_element(SII_ABSENT, 0));
 }
 
-static void damage(void)
+/* each cut of the worked file, and of a file whose strings say to be longer than any file */
+static void cuts(void)
 {
     /* where the numbers, bytes and strings of the worked file start, behind its first four bytes */
     static const size_t items[] = {4, 8, 12, 13, 17, 21, 25, 29, 33, 35, 39, 43, 44, 48, 52, 53, 61, 65, 69, 73, 77, 81, 82};
-    static const uint8_t other_prototype[] = {0, 0, 0, 0, 1, 7, 0, 0, 0, 1, 0, 0, 0, 'q', 0x27, 0, 0, 0, 1, 0, 0, 0, 'x', 0, 0, 0, 0};
-    static const uint8_t enum_list[] = {1, 0, 0, 0, 5, 0, 0, 0, 4, 0, 0, 0, 'f', 'i', 'v', 'e'};
     size_t item, len;
 
     for (len = 0; len < 4; len++)
         refused("cut in the first 4 bytes", worked, len, 3, SII_INVALID_HEADER, 0);
     for (item = 0; items[item] < WORKED; item++)
         for (len = items[item]; len < items[item + 1]; len++)
-            refused("cut file", worked, len, 3, SII_MALFORMED, items[item]);
+            cut("cut file", worked, len, items[item], items[item + 1] - len);
+
+    start();
+    memset(made + 17, 0xff, 4);
+    for (len = 21; len <= made_len; len++)
+        cut("prototype name of 4294967295 bytes", made, len, 21, UINT32_MAX - (len - 21));
+    start();
+    made[32] = 0x80;
+    cut("field name of 2147483650 bytes", made, made_len, 33, 0x80000002 - (made_len - 33));
+    start();
+    memset(made + 33, 0xff, 2);
+    cut("field name not UTF-8, and cut", made, 34, 33, 1);
+}
+
+/* bytes without a terminator, and how many */
+#define BYTES(literal) (literal), sizeof(literal) - 1
+
+/* the examples of the readings of document 02, E2: a name, a save with a u16 in two blocks, and a placement whose last float is cut */
+static void worked_cuts(void)
+{
+    static const char save[] = "BSII\2\0\0\0"
+                               "\0\0\0\0\1\3\0\0\0\1\0\0\0t\x2b\0\0\0\1\0\0\0n\0\0\0\0"
+                               "\3\0\0\0\0\5\0"
+                               "\3\0\0\0\1\x22\0\0\0\0\0\0\0\7\0"
+                               "\0\0\0\0";
+    static const char seven[] = "BSII\2\0\0\0"
+                                "\0\0\0\0\1\2\0\0\0\1\0\0\0j\x19\0\0\0\1\0\0\0w\0\0\0\0"
+                                "\2\0\0\0\0"
+                                "\0\0\x80\x3f\0\0\0\x80\0\0\0\x80\2\0\x80\x7f\0\0\0\0\0\0\xc0\x3f\0\0\0\xc0"
+                                "\0\0\0\0";
+    const uint8_t *bytes = (const uint8_t *)save;
+    cut("version", bytes, 5, 4, 3);
+    cut("record number", bytes, 10, 8, 2);
+    start();
+    made[12] = 3;
+    refused("mark 3", made, 13, 3, SII_BAD_MARK, 12);
+    fault("name", (const uint8_t *)BYTES("BSII\2\0\0\0\0\0\0\0\1\3\0\0\0\5\0\0\0ab"), 3, SII_MALFORMED, 21, 3);
+    cut("u16", bytes, 41, 40, 1);
+    label = "save with a u16 in two blocks";
+    /* the literals' own zeros are the end records' marks */
+    reading(bytes, sizeof save, 3, (SiiReading){0, 0, 0, 1, 2, 62});
+    cut("placement of seven floats", (const uint8_t *)seven, sizeof seven, 72, 3);
+}
+
+/* The mark is there and is neither 0 nor 1, whatever stands behind it. */
+static void marks(void)
+{
+    static const size_t places[] = {12, 81};
+    size_t at, place;
+    unsigned mark;
+    for (at = 0; at < 2; at++) {
+        place = places[at];
+        for (mark = 2; mark < 256; mark++) {
+            start();
+            made[place] = (uint8_t)mark;
+            label = "a mark above 1";
+            reading(made, made_len, 3, (SiiReading){SII_BAD_MARK, place, 0, 0, 0, 0});
+            reading(made, place + 1, 3, (SiiReading){SII_BAD_MARK, place, 0, 0, 0, 0});
+        }
+        refused("mark 255", made, made_len, 3, SII_BAD_MARK, place);
+        refused("mark 255, and nothing behind it", made, place + 1, 3, SII_BAD_MARK, place);
+        cut("a mark that is not there", made, place, place, 1);
+    }
+}
+
+static void damage(void)
+{
+    static const uint8_t other_prototype[] = {0, 0, 0, 0, 1, 7, 0, 0, 0, 1, 0, 0, 0, 'q', 0x27, 0, 0, 0, 1, 0, 0, 0, 'x', 0, 0, 0, 0};
+    static const uint8_t enum_list[] = {1, 0, 0, 0, 5, 0, 0, 0, 4, 0, 0, 0, 'f', 'i', 'v', 'e'};
+    size_t len;
 
     damaged("first byte", 0, 'b', SII_INVALID_HEADER, 0);
     damaged("fourth byte", 3, 'i', SII_INVALID_HEADER, 0);
     damaged("version 1", 4, 1, SII_UNSUPPORTED_VERSION, 8);
-    damaged("mark 2", 12, 2, SII_MALFORMED, 12);
+    damaged("mark 2", 12, 2, SII_BAD_MARK, 12);
     damaged("prototype name not UTF-8", 21, 0xff, SII_NOT_UTF8, 21);
     damaged("field name not UTF-8", 34, 0xc3, SII_NOT_UTF8, 33);
     damaged("word 38", 53, 38, SII_ZERO_DIGIT, 53);
@@ -425,22 +517,22 @@ static void damage(void)
     start();
     insert(77, other_prototype, sizeof other_prototype);
     label = "the last definition has fewer fields";
-    reading(made, made_len, 3, (SiiReading){0, 0, 1, 1, made_len});
-    prototype(made, made_len, 3, 7, (SiiPrototype){0, 0, 90, 1, 1});
-    field(made, made_len, 3, 0, "x", (SiiField){0, 0, 0x27, 61, 4});
-    field(made, made_len, 3, 0, "km", (SiiField){SII_ABSENT, 0, 0, 0, 0});
-    text(made, made_len, 3, 100, (SiiText){SII_FIELD_COUNT, 48, 0}, "");
-    text(made, made_len, 3, 0, (SiiText){SII_FIELD_COUNT, 48, 0}, "");
+    reading(made, made_len, 3, (SiiReading){0, 0, 0, 1, 1, made_len});
+    prototype(made, made_len, 3, 7, (SiiPrototype){0, 0, 0, 90, 1, 1});
+    field(made, made_len, 3, 0, "x", (SiiField){0, 0, 0, 0x27, 61, 4});
+    field(made, made_len, 3, 0, "km", (SiiField){SII_ABSENT, 0, 0, 0, 0, 0});
+    text(made, made_len, 3, 100, (SiiText){SII_FIELD_COUNT, 48, 0, 0}, "");
+    text(made, made_len, 3, 0, (SiiText){SII_FIELD_COUNT, 48, 0, 0}, "");
 
     start();
     made[25] = 0x37;
     insert(35, enum_list, sizeof enum_list);
     label = "an enum value that its list lacks";
-    reading(made, made_len, 3, (SiiReading){0, 0, 1, 1, made_len});
-    field(made, made_len, 3, 0, "km", (SiiField){0, 0, 0x37, 77, 4});
+    reading(made, made_len, 3, (SiiReading){0, 0, 0, 1, 1, made_len});
+    field(made, made_len, 3, 0, "km", (SiiField){0, 0, 0, 0x37, 77, 4});
     element(0x37, made + 77, 4, 0, value(SII_KIND_ENUM, 300));
-    text(made, made_len, 3, 100, (SiiText){SII_ENUM_VALUE, 77, 0}, "");
-    text(made, made_len, 3, 0, (SiiText){SII_ENUM_VALUE, 77, 0}, "");
+    text(made, made_len, 3, 100, (SiiText){SII_ENUM_VALUE, 77, 0, 0}, "");
+    text(made, made_len, 3, 0, (SiiText){SII_ENUM_VALUE, 77, 0, 0}, "");
 }
 
 /* two prototypes and two blocks, with an enum: the worked list of insertions of FORMAT.md, "Widening" */
@@ -471,19 +563,19 @@ static void the_widened_file(void)
     insert(8, new_prototype, sizeof new_prototype);
     refused("widened file, 5 words", made, made_len, 5, SII_TABLE_FULL, 35);
     label = "widened file";
-    reading(made, made_len, 6, (SiiReading){0, 0, 2, 2, 144});
-    prototype(made, made_len, 6, 7, (SiiPrototype){0, 0, 48, 4, 3});
-    prototype(made, made_len, 6, 9, (SiiPrototype){0, 0, 21, 1, 1});
-    block(made, made_len, 6, 0, (SiiBlock){0, 0, 7, 104, 9});
-    block(made, made_len, 6, 1, (SiiBlock){0, 0, 9, 137, 1});
-    named_block(made, made_len, 6, "trip", 0, (SiiNumber){0, 0, 0});
-    named_block(made, made_len, 6, "p", 0, (SiiNumber){0, 0, 1});
-    named_block(made, made_len, 6, "p", 1, (SiiNumber){SII_ABSENT, 0, 0});
-    field(made, made_len, 6, 0, "km", (SiiField){0, 0, 0x27, 113, 4});
-    field(made, made_len, 6, 0, "e", (SiiField){0, 0, 0x37, 117, 4});
-    field(made, made_len, 6, 0, "w", (SiiField){0, 0, 0x06, 121, 12});
-    field(made, made_len, 6, 1, "b", (SiiField){0, 0, 0x35, 138, 1});
-    field(made, made_len, 6, 1, "km", (SiiField){SII_ABSENT, 0, 0, 0, 0});
+    reading(made, made_len, 6, (SiiReading){0, 0, 0, 2, 2, 144});
+    prototype(made, made_len, 6, 7, (SiiPrototype){0, 0, 0, 48, 4, 3});
+    prototype(made, made_len, 6, 9, (SiiPrototype){0, 0, 0, 21, 1, 1});
+    block(made, made_len, 6, 0, (SiiBlock){0, 0, 0, 7, 104, 9});
+    block(made, made_len, 6, 1, (SiiBlock){0, 0, 0, 9, 137, 1});
+    named_block(made, made_len, 6, "trip", 0, (SiiNumber){0, 0, 0, 0});
+    named_block(made, made_len, 6, "p", 0, (SiiNumber){0, 0, 0, 1});
+    named_block(made, made_len, 6, "p", 1, (SiiNumber){SII_ABSENT, 0, 0, 0});
+    field(made, made_len, 6, 0, "km", (SiiField){0, 0, 0, 0x27, 113, 4});
+    field(made, made_len, 6, 0, "e", (SiiField){0, 0, 0, 0x37, 117, 4});
+    field(made, made_len, 6, 0, "w", (SiiField){0, 0, 0, 0x06, 121, 12});
+    field(made, made_len, 6, 1, "b", (SiiField){0, 0, 0, 0x35, 138, 1});
+    field(made, made_len, 6, 1, "km", (SiiField){SII_ABSENT, 0, 0, 0, 0, 0});
     converts(made, made_len, 6, expected);
 }
 
@@ -498,13 +590,13 @@ static void the_redefined_file(void)
         0, 0, 0, 0, 0,
     };
     label = "redefined prototype";
-    reading(file, sizeof file, 3, (SiiReading){0, 0, 1, 1, 76});
-    prototype(file, sizeof file, 3, 1, (SiiPrototype){0, 0, 57, 1, 1});
-    block(file, sizeof file, 3, 0, (SiiBlock){0, 0, 1, 39, 1});
-    named_block(file, sizeof file, 3, "q", 0, (SiiNumber){0, 0, 0});
-    named_block(file, sizeof file, 3, "p", 0, (SiiNumber){SII_ABSENT, 0, 0});
-    field(file, sizeof file, 3, 0, "g", (SiiField){0, 0, 0x27, 40, 4});
-    field(file, sizeof file, 3, 0, "f", (SiiField){SII_ABSENT, 0, 0, 0, 0});
+    reading(file, sizeof file, 3, (SiiReading){0, 0, 0, 1, 1, 76});
+    prototype(file, sizeof file, 3, 1, (SiiPrototype){0, 0, 0, 57, 1, 1});
+    block(file, sizeof file, 3, 0, (SiiBlock){0, 0, 0, 1, 39, 1});
+    named_block(file, sizeof file, 3, "q", 0, (SiiNumber){0, 0, 0, 0});
+    named_block(file, sizeof file, 3, "p", 0, (SiiNumber){SII_ABSENT, 0, 0, 0});
+    field(file, sizeof file, 3, 0, "g", (SiiField){0, 0, 0, 0x27, 40, 4});
+    field(file, sizeof file, 3, 0, "f", (SiiField){SII_ABSENT, 0, 0, 0, 0, 0});
     converts(file, sizeof file, 3, "SiiNunit\n{\nq : null {\n  g: 9\n}\n}\n");
 }
 
@@ -517,9 +609,9 @@ static void small_files(void)
     size_t count;
 
     label = "smallest file";
-    reading(smallest, sizeof smallest, 0, (SiiReading){0, 0, 0, 0, 13});
-    reading(smallest, sizeof smallest, 2, (SiiReading){0, 0, 0, 0, 13});
-    block(smallest, sizeof smallest, 0, 0, (SiiBlock){SII_ABSENT, 0, 0, 0, 0});
+    reading(smallest, sizeof smallest, 0, (SiiReading){0, 0, 0, 0, 0, 13});
+    reading(smallest, sizeof smallest, 2, (SiiReading){0, 0, 0, 0, 0, 13});
+    block(smallest, sizeof smallest, 0, 0, (SiiBlock){SII_ABSENT, 0, 0, 0, 0, 0});
     converts(smallest, sizeof smallest, 0, "SiiNunit\n{\n}\n");
 
     memcpy(made, smallest, sizeof smallest);
@@ -528,8 +620,8 @@ static void small_files(void)
         insert(8, nameless, sizeof nameless);
         made[13] = (uint8_t)count;
         label = "smallest prototypes";
-        reading(made, made_len, made_len / 17 * 3, (SiiReading){0, 0, count, 0, made_len});
-        reading(made, made_len, made_len / 17 * 3 - 1, (SiiReading){SII_TABLE_FULL, 8 + 17 * (count - 1), 0, 0, 0});
+        reading(made, made_len, made_len / 17 * 3, (SiiReading){0, 0, 0, count, 0, made_len});
+        reading(made, made_len, made_len / 17 * 3 - 1, (SiiReading){SII_TABLE_FULL, 8 + 17 * (count - 1), 0, 0, 0, 0});
     }
 
     memcpy(made, smallest, sizeof smallest);
@@ -537,9 +629,9 @@ static void small_files(void)
     insert(8, its_block, sizeof its_block);
     insert(8, nameless, sizeof nameless);
     label = "empty names";
-    prototype(made, made_len, 3, 1, (SiiPrototype){0, 0, 21, 0, 0});
-    named_block(made, made_len, 3, "", 0, (SiiNumber){0, 0, 0});
-    field(made, made_len, 3, 0, "", (SiiField){SII_ABSENT, 0, 0, 0, 0});
+    prototype(made, made_len, 3, 1, (SiiPrototype){0, 0, 0, 21, 0, 0});
+    named_block(made, made_len, 3, "", 0, (SiiNumber){0, 0, 0, 0});
+    field(made, made_len, 3, 0, "", (SiiField){SII_ABSENT, 0, 0, 0, 0, 0});
     converts(made, made_len, 3, "SiiNunit\n{\n : null {\n}\n}\n");
 }
 
@@ -552,12 +644,12 @@ static void the_length_limit(void)
     }
     memcpy(file, worked, WORKED);
     label = "16,777,216 bytes";
-    reading(file, 16777216, 3, (SiiReading){0, 0, 1, 1, 82});
-    text(file, 16777216, 3, 73, (SiiText){0, 0, 73}, worked_text);
+    reading(file, 16777216, 3, (SiiReading){0, 0, 0, 1, 1, 82});
+    text(file, 16777216, 3, 73, (SiiText){0, 0, 0, 73}, worked_text);
     refused("16,777,217 bytes", file, 16777217, 3, SII_INPUT_LONG, 0);
     file[0] = 0;
     label = "16,777,217 bytes, and not BSII";
-    reading(file, 16777217, 4, (SiiReading){SII_INPUT_LONG, 0, 0, 0, 0});
+    reading(file, 16777217, 4, (SiiReading){SII_INPUT_LONG, 0, 0, 0, 0, 0});
     free(file);
 }
 
@@ -576,13 +668,10 @@ static void a_long_text(void)
     memset(file + sizeof head, 'n', many);
     memcpy(file + sizeof head + many, value, sizeof value);
     label = "a long text";
-    reading(file, len, 3, (SiiReading){0, 0, 1, 1, len});
-    text(file, len, 3, 100, (SiiText){SII_OUTPUT_SHORT, 0, 1099531488224}, "");
+    reading(file, len, 3, (SiiReading){0, 0, 0, 1, 1, len});
+    text(file, len, 3, 100, (SiiText){SII_OUTPUT_SHORT, 0, 0, 1099531488224}, "");
     free(file);
 }
-
-/* bytes without a terminator, and how many */
-#define BYTES(literal) (literal), sizeof(literal) - 1
 
 static void elements(void)
 {
@@ -590,7 +679,7 @@ static void elements(void)
     element(0x01, BYTES("\2\0\0\0hi"), 0, place(SII_KIND_STRING, 4, 2));
     element(0x01, BYTES("\0\0\0\0"), 0, place(SII_KIND_STRING, 4, 0));
     element(0x02, BYTES("\2\0\0\0\1\0\0\0a\2\0\0\0bc"), 1, place(SII_KIND_STRING, 13, 2));
-    element(0x01, BYTES("\2\0\0\0h"), 0, no_element(SII_MALFORMED, 4));
+    element(0x01, BYTES("\2\0\0\0h"), 0, cut_element(4, 1));
     element(0x01, BYTES("\2\0\0\0\xc3h"), 0, no_element(SII_NOT_UTF8, 4));
     label = "encoded word";
     element(0x03, BYTES("\xe2\xb9\x37\x86\0\0\0\x80"), 0, value(SII_KIND_WORD, 0x8637b9e2));
@@ -628,9 +717,6 @@ static void elements(void)
     label = "element refused";
     element(0x08, BYTES("\1\2\3\4"), 0, no_element(SII_UNLISTED_TYPE, 0));
     element(0x127, BYTES(""), 3, no_element(SII_UNLISTED_TYPE, 0));
-    element(0x27, BYTES(""), 0, no_element(SII_MALFORMED, 0));
-    element(0x27, BYTES("\1\2\3"), 0, no_element(SII_MALFORMED, 0));
-    element(0x28, BYTES("\2\0\0\0\1\0\0\0\2\0"), 0, no_element(SII_MALFORMED, 8));
     element(0x28, BYTES("\0\0\0\0"), 0, no_element(SII_ABSENT, 0));
     element(0x27, BYTES("\1\2\3\4"), 1, no_element(SII_ABSENT, 0));
     element(0x27, BYTES("\1\2\3\4"), ABOVE_32_BITS, no_element(SII_ABSENT, 0));
@@ -639,22 +725,63 @@ static void elements(void)
     element(0x27, BYTES("\1\0\0\0\2\0\0\0"), 0, value(SII_KIND_U32, 1));
 }
 
+/* Each cut of a value whose bytes are a head and then numbers of one size. */
+static void cut_value(uint32_t type_id, const void *part, size_t part_len, size_t head, size_t size)
+{
+    size_t len, start;
+    for (len = 0; len < part_len; len++) {
+        start = len < head ? 0 : head + (len - head) / size * size;
+        element(type_id, part, len, 0, cut_element(start, (len < head ? head : start + size) - len));
+    }
+}
+
+static void cut_elements(void)
+{
+    label = "cut number";
+    cut_value(0x2b, BYTES("\1\2"), 0, 2);
+    cut_value(0x27, BYTES("\1\2\3\4"), 0, 4);
+    cut_value(0x31, BYTES("\1\2\3\4\5\6\7\x8"), 0, 8);
+    cut_value(0x03, BYTES("\1\0\0\0\0\0\0\0"), 0, 8);
+    cut_value(0x35, BYTES("\1"), 0, 1);
+    label = "cut vector";
+    cut_value(0x07, BYTES("\1\0\0\0\2\0\0\0"), 0, 4);
+    cut_value(0x11, BYTES("\1\0\0\0\2\0\0\0\3\0\0\0"), 0, 4);
+    cut_value(0x19, BYTES("\1\0\0\0\2\0\0\0\3\0\0\0\4\0\0\0\5\0\0\0\6\0\0\0\7\0\0\0\x8\0\0\0"), 0, 4);
+    label = "cut array";
+    cut_value(0x28, BYTES("\2\0\0\0\1\0\0\0\2\0\0\0"), 4, 4);
+    cut_value(0x18, BYTES("\1\0\0\0\1\0\0\0\2\0\0\0\3\0\0\0\4\0\0\0"), 4, 4);
+    cut_value(0x2c, BYTES("\2\0\0\0\1\0\2\0"), 4, 2);
+    cut_value(0x34, BYTES("\2\0\0\0\1\0\0\0\0\0\0\0\2\0\0\0\0\0\0\0"), 4, 8);
+    cut_value(0x36, BYTES("\2\0\0\0\1\0"), 4, 1);
+    element(0x34, BYTES("\xff\xff\xff\xff"), 0, cut_element(4, 8));
+    label = "cut id";
+    cut_value(0x39, BYTES("\2\1\0\0\0\0\0\0\0\2\0\0\0\0\0\0\0"), 1, 8);
+    cut_value(0x3b, BYTES("\xff\1\0\0\0\0\0\0\0"), 1, 8);
+    element(0x3a, BYTES("\2\0\0\0\0"), 0, cut_element(5, 1));
+    label = "cut string";
+    cut_value(0x01, BYTES("\3\0\0\0abc"), 4, 3);
+    element(0x01, BYTES("\xff\xff\xff\xff"), 0, cut_element(4, UINT32_MAX));
+    element(0x02, BYTES("\2\0\0\0\1\0\0\0a\2\0\0"), 0, cut_element(9, 1));
+    element(0x02, BYTES("\2\0\0\0\1\0\0\0a\2\0\0\0b"), 0, cut_element(13, 1));
+    element(0x01, BYTES("\2\0\0\0\xff"), 0, cut_element(4, 1));
+}
+
 /* Each pointer of each call is NULL once, and both pointers of sii_to_siin: the other calls of this round have NULL where a length is 0. */
 static void nothing_at_all(void)
 {
     label = "NULL for every pointer";
-    reading(NULL, 0, 0, (SiiReading){SII_INVALID_HEADER, 0, 0, 0, 0});
+    reading(NULL, 0, 0, (SiiReading){SII_INVALID_HEADER, 0, 0, 0, 0, 0});
     refused("NULL for the file", NULL, 0, 3, SII_INVALID_HEADER, 0);
     refused("NULL for the file and the table", NULL, 0, 0, SII_INVALID_HEADER, 0);
     refused("NULL for the table", worked, WORKED, 0, SII_TABLE_FULL, 8);
     label = "NULL for the name";
-    named_block(worked, WORKED, 3, "", 0, (SiiNumber){SII_ABSENT, 0, 0});
-    field(worked, WORKED, 3, 0, "", (SiiField){SII_ABSENT, 0, 0, 0, 0});
+    named_block(worked, WORKED, 3, "", 0, (SiiNumber){SII_ABSENT, 0, 0, 0});
+    field(worked, WORKED, 3, 0, "", (SiiField){SII_ABSENT, 0, 0, 0, 0, 0});
     label = "NULL for the part";
-    element(0x27, NULL, 0, 0, no_element(SII_MALFORMED, 0));
+    element(0x27, NULL, 0, 0, cut_element(0, 4));
     element(0x08, NULL, 0, 0, no_element(SII_UNLISTED_TYPE, 0));
     label = "NULL for the output";
-    text(worked, WORKED, 3, 0, (SiiText){SII_OUTPUT_SHORT, 0, 73}, "");
+    text(worked, WORKED, 3, 0, (SiiText){SII_OUTPUT_SHORT, 0, 0, 73}, "");
     equal("areas that were NULL, 40 at least", 1, nulls >= 40);
 }
 
@@ -665,53 +792,60 @@ static void layout(void)
 #define SIZE(type, size) equal("size of " #type, size, sizeof(type))
 #define AT(type, member, at, width) \
     (equal("place of " #type "." #member, at, offsetof(type, member)), equal("size of " #type "." #member, width, sizeof(((type *)0)->member)))
-    SIZE(SiiReading, 40);
+    SIZE(SiiReading, 48);
     AT(SiiReading, number, 0, 4);
     AT(SiiReading, offset, 8, 8);
-    AT(SiiReading, prototypes, 16, 8);
-    AT(SiiReading, blocks, 24, 8);
-    AT(SiiReading, next, 32, 8);
-    SIZE(SiiPrototype, 40);
+    AT(SiiReading, lacking, 16, 8);
+    AT(SiiReading, prototypes, 24, 8);
+    AT(SiiReading, blocks, 32, 8);
+    AT(SiiReading, next, 40, 8);
+    SIZE(SiiPrototype, 48);
     AT(SiiPrototype, number, 0, 4);
     AT(SiiPrototype, offset, 8, 8);
-    AT(SiiPrototype, name_offset, 16, 8);
-    AT(SiiPrototype, name_len, 24, 8);
-    AT(SiiPrototype, fields, 32, 8);
-    SIZE(SiiBlock, 40);
+    AT(SiiPrototype, lacking, 16, 8);
+    AT(SiiPrototype, name_offset, 24, 8);
+    AT(SiiPrototype, name_len, 32, 8);
+    AT(SiiPrototype, fields, 40, 8);
+    SIZE(SiiBlock, 48);
     AT(SiiBlock, number, 0, 4);
     AT(SiiBlock, offset, 8, 8);
-    AT(SiiBlock, prototype_id, 16, 4);
-    AT(SiiBlock, id_offset, 24, 8);
-    AT(SiiBlock, id_len, 32, 8);
-    SIZE(SiiNumber, 24);
+    AT(SiiBlock, lacking, 16, 8);
+    AT(SiiBlock, prototype_id, 24, 4);
+    AT(SiiBlock, id_offset, 32, 8);
+    AT(SiiBlock, id_len, 40, 8);
+    SIZE(SiiNumber, 32);
     AT(SiiNumber, number, 0, 4);
     AT(SiiNumber, offset, 8, 8);
-    AT(SiiNumber, value, 16, 8);
-    SIZE(SiiField, 40);
+    AT(SiiNumber, lacking, 16, 8);
+    AT(SiiNumber, value, 24, 8);
+    SIZE(SiiField, 48);
     AT(SiiField, number, 0, 4);
     AT(SiiField, offset, 8, 8);
-    AT(SiiField, type_id, 16, 4);
-    AT(SiiField, part_offset, 24, 8);
-    AT(SiiField, part_len, 32, 8);
-    SIZE(SiiText, 24);
+    AT(SiiField, lacking, 16, 8);
+    AT(SiiField, type_id, 24, 4);
+    AT(SiiField, part_offset, 32, 8);
+    AT(SiiField, part_len, 40, 8);
+    SIZE(SiiText, 32);
     AT(SiiText, number, 0, 4);
     AT(SiiText, offset, 8, 8);
-    AT(SiiText, length, 16, 8);
-    SIZE(SiiElement, 80);
+    AT(SiiText, lacking, 16, 8);
+    AT(SiiText, length, 24, 8);
+    SIZE(SiiElement, 88);
     AT(SiiElement, number, 0, 4);
     AT(SiiElement, offset, 8, 8);
-    AT(SiiElement, kind, 16, 4);
-    AT(SiiElement, place_offset, 24, 8);
-    AT(SiiElement, place_len, 32, 8);
-    AT(SiiElement, value, 40, 8);
-    AT(SiiElement, a, 48, 4);
-    AT(SiiElement, b, 52, 4);
-    AT(SiiElement, c, 56, 4);
-    AT(SiiElement, d, 60, 4);
-    AT(SiiElement, e, 64, 4);
-    AT(SiiElement, f, 68, 4);
-    AT(SiiElement, g, 72, 4);
-    AT(SiiElement, h, 76, 4);
+    AT(SiiElement, lacking, 16, 8);
+    AT(SiiElement, kind, 24, 4);
+    AT(SiiElement, place_offset, 32, 8);
+    AT(SiiElement, place_len, 40, 8);
+    AT(SiiElement, value, 48, 8);
+    AT(SiiElement, a, 56, 4);
+    AT(SiiElement, b, 60, 4);
+    AT(SiiElement, c, 64, 4);
+    AT(SiiElement, d, 68, 4);
+    AT(SiiElement, e, 72, 4);
+    AT(SiiElement, f, 76, 4);
+    AT(SiiElement, g, 80, 4);
+    AT(SiiElement, h, 84, 4);
 }
 
 /* the header's constants by their numbers in the scope: the other checks use them by name */
@@ -729,6 +863,7 @@ static void constants(void)
     label = "constants";
     for (at = 0; at < sizeof refusals / sizeof refusals[0]; at++)
         equal("refusal", at + 1, (uint64_t)refusals[at]);
+    equal("SII_BAD_MARK", 15, SII_BAD_MARK);
     for (at = 0; at < sizeof kinds / sizeof kinds[0]; at++)
         equal("kind", at + 1, (uint64_t)kinds[at]);
     equal("length limit", 16777216, SII_LENGTH_LIMIT);
@@ -745,6 +880,9 @@ int main(void)
         guarded = round == 0;
         null_for_nothing = round == 2;
         the_worked_file();
+        cuts();
+        worked_cuts();
+        marks();
         damage();
         the_widened_file();
         the_redefined_file();
@@ -752,6 +890,7 @@ int main(void)
         the_length_limit();
         a_long_text();
         elements();
+        cut_elements();
         if (null_for_nothing)
             nothing_at_all();
     }

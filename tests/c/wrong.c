@@ -33,6 +33,9 @@ SiiReading __wrap_sii_read(const uint8_t *file, size_t file_len, uint32_t *table
     (void)beyond;
 #elif WRONG == 5 /* the refusal's offset is lost */
     r.offset = 0;
+#elif WRONG == 21 /* a bad mark at its record */
+    if (r.number == SII_BAD_MARK)
+        r.offset -= 4;
 #endif
     return r;
 }
@@ -77,6 +80,9 @@ SiiField __wrap_sii_field_of(const uint8_t *file, size_t file_len, uint32_t *tab
         r.part_offset += 4;
         r.part_len -= 4;
     }
+#elif WRONG == 22 /* all of the item is lacking */
+    if (r.number == SII_MALFORMED)
+        r.lacking += file_len - r.offset;
 #endif
     return r;
 }
@@ -90,6 +96,8 @@ SiiElement __wrap_sii_element_of(uint32_t type_id, const uint8_t *part, size_t p
 #elif WRONG == 12 /* an i32 without its sign */
     if (r.kind == SII_KIND_I32)
         r.value = (uint32_t)r.value;
+#elif WRONG == 23 /* the lacking bytes are left out */
+    r.lacking = 0;
 #endif
     return r;
 }
@@ -119,6 +127,9 @@ SiiText __wrap_sii_to_siin(const uint8_t *file, size_t file_len, uint32_t *table
 #elif WRONG == 18 /* the limit is a byte higher */
     if (r.number == SII_INPUT_LONG)
         return __real_sii_to_siin(file, SII_LENGTH_LIMIT, table, words, output, output_len);
+#elif WRONG == 24 /* something is lacking beside another refusal */
+    if (r.number == SII_ENUM_VALUE)
+        r.lacking = 1;
 #endif
     return r;
 }

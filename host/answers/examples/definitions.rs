@@ -2,8 +2,8 @@
 //! the format's definitions, in the checker's language. `tests/definitions/run` has them checked.
 //!
 //! Of a refusal the number alone is compared: the Rust gives no offset. With `changed`, one byte of
-//! a text and one number are wrong, and their equations are called `changed-text` and
-//! `changed-number`.
+//! a text and one number are wrong and one bad mark counts as a cut, and their equations are called
+//! `changed-text`, `changed-number` and `changed-mark`.
 
 use answers::Entry;
 use std::io::Write;
@@ -50,15 +50,27 @@ fn main() -> std::io::Result<()> {
     out.flush()
 }
 
-/// The last text in its middle, and the last refusal.
+/// The definitions' number for the Rust's. Its InvalidInput, 3 in the list, is a cut or a bad mark;
+/// the label says which, so that neither number passes for the other.
+fn number(entry: &Entry) -> u32 {
+    match entry.answer.reply {
+        3 if entry.label.starts_with(MARK) => 15,
+        reply => reply,
+    }
+}
+
+/// How the labels of the files with a bad mark start.
+const MARK: &str = "mark ";
+
+/// The last text in its middle, the last refusal, and the last bad mark.
 fn change(entries: &mut [Entry], names: &mut [String]) {
-    let last = |refused: bool| {
-        let found = entries
-            .iter()
-            .rposition(|e| (e.answer.reply != 0) == refused);
-        found.expect("texts and refusals in the list")
+    let last = |is_asked: fn(&Entry) -> bool| {
+        let found = entries.iter().rposition(is_asked);
+        found.expect("texts, refusals and bad marks in the list")
     };
-    let (text, number) = (last(false), last(true));
+    let text = last(|entry| entry.answer.reply == 0);
+    let number = last(|entry| entry.answer.reply != 0);
+    let mark = last(|entry| entry.label.starts_with(MARK));
     let bytes = &mut entries[text].answer.text;
     let middle = bytes.len() / 2;
     bytes[middle] ^= 1;
@@ -66,11 +78,13 @@ fn change(entries: &mut [Entry], names: &mut [String]) {
     *reply = *reply % 9 + 1;
     names[text] = "changed-text".to_string();
     names[number] = "changed-number".to_string();
+    entries[mark].label = "cut".to_string();
+    names[mark] = "changed-mark".to_string();
 }
 
 fn equation(entry: &Entry, name: &str) -> String {
     let file = numerals(&entry.file);
-    let (statement, unfolding) = match entry.answer.reply {
+    let (statement, unfolding) = match number(entry) {
         0 => {
             let text = numerals(&entry.answer.text);
             (format!("textOf 768 {file} ≡ gives {text}"), "computes")

@@ -10,7 +10,7 @@ use std::path::Path;
 type Edit = (&'static str, &'static str, fn(&mut Entry) -> bool);
 
 /// The reading comes first, then the text, then the look-ups; the first that differs is named.
-const EDITS: [Edit; 18] = [
+const EDITS: [Edit; 20] = [
     ("a reading refused", "reading", |e| {
         from_to(&mut e.answer.reading, 0..=0, |_| 3)
     }),
@@ -19,6 +19,10 @@ const EDITS: [Edit; 18] = [
     }),
     ("a refusal under another number", "reading", |e| {
         from_to(&mut e.answer.reading, 1..=7, |n| n % 7 + 1)
+    }),
+    // 15 counts as the Rust's 3, but the Rust has no 15.
+    ("a cut or a bad mark as 15", "reading", |e| {
+        from_to(&mut e.answer.reading, 3..=3, |_| 15)
     }),
     ("a prototype more", "reading", |e| {
         e.answer.prototypes += 1;
@@ -58,6 +62,9 @@ const EDITS: [Edit; 18] = [
     }),
     ("a text's refusal under another number", "text", |e| {
         from_to(&mut e.answer.reply, 1..=7, |n| n % 7 + 1)
+    }),
+    ("a text's cut or bad mark as 15", "text", |e| {
+        from_to(&mut e.answer.reply, 3..=3, |_| 15)
     }),
     ("a number of a look-up", "look-up", |e| {
         let number = found(e).and_then(|one| one.numbers.last_mut());

@@ -1,7 +1,8 @@
 //! The answers to the calls.
 //!
-//! `number` 0 means no refusal. What the other fields hold is left open where 01 gives them no
-//! meaning; `known` sets those to zero, so that two answers can be compared with `==`.
+//! `number` 0 means no refusal. `lacking` is the count of reply 3, and 0 beside every other number.
+//! What the other fields hold is left open where 01 gives them no meaning; `known` sets those to
+//! zero, so that two answers can be compared with `==`.
 
 /// The cases of an element's answer.
 pub mod kind {
@@ -28,6 +29,7 @@ pub mod kind {
 pub struct Reading {
     pub number: u32,
     pub offset: u64,
+    pub lacking: u64,
     pub prototypes: u64,
     pub blocks: u64,
     pub next: u64,
@@ -38,6 +40,7 @@ pub struct Reading {
 pub struct Prototype {
     pub number: u32,
     pub offset: u64,
+    pub lacking: u64,
     pub name_offset: u64,
     pub name_len: u64,
     pub fields: u64,
@@ -48,6 +51,7 @@ pub struct Prototype {
 pub struct Block {
     pub number: u32,
     pub offset: u64,
+    pub lacking: u64,
     pub prototype_id: u32,
     pub id_offset: u64,
     pub id_len: u64,
@@ -58,6 +62,7 @@ pub struct Block {
 pub struct Number {
     pub number: u32,
     pub offset: u64,
+    pub lacking: u64,
     pub value: u64,
 }
 
@@ -66,6 +71,7 @@ pub struct Number {
 pub struct Field {
     pub number: u32,
     pub offset: u64,
+    pub lacking: u64,
     pub type_id: u32,
     pub part_offset: u64,
     pub part_len: u64,
@@ -78,6 +84,7 @@ pub struct Field {
 pub struct Element {
     pub number: u32,
     pub offset: u64,
+    pub lacking: u64,
     pub kind: u32,
     pub place_offset: u64,
     pub place_len: u64,
@@ -90,6 +97,7 @@ pub struct Element {
 pub struct Text {
     pub number: u32,
     pub offset: u64,
+    pub lacking: u64,
     /// The text's length; for reply 11 the length that is needed.
     pub length: u64,
 }
@@ -97,6 +105,7 @@ pub struct Text {
 macro_rules! plain_answers {
     ($($answer:ident),*) => {$(
         impl $answer {
+            /// With nothing lacking.
             pub fn refused(number: u32, offset: u64) -> Self {
                 $answer { number, offset, ..Default::default() }
             }
@@ -104,7 +113,8 @@ macro_rules! plain_answers {
             /// The answer with the fields that mean nothing set to zero.
             pub fn known(self) -> Self {
                 if self.number != 0 {
-                    $answer::refused(self.number, self.offset)
+                    let Self { number, offset, lacking, .. } = self;
+                    $answer { number, offset, lacking, ..Default::default() }
                 } else {
                     $answer { offset: 0, ..self }
                 }
@@ -120,7 +130,7 @@ impl Text {
         Text {
             number,
             offset,
-            length: 0,
+            ..Default::default()
         }
     }
 
@@ -129,7 +139,7 @@ impl Text {
         match self.number {
             0 => Text { offset: 0, ..self },
             11 => self,
-            _ => Text::refused(self.number, self.offset),
+            _ => Text { length: 0, ..self },
         }
     }
 }
@@ -178,13 +188,16 @@ impl Element {
 
     /// The answer with the fields that mean nothing set to zero.
     pub fn known(self) -> Self {
-        if self.number != 0 {
-            return Element::refused(self.number, self.offset);
-        }
         let mut known = Element {
-            kind: self.kind,
+            number: self.number,
+            lacking: self.lacking,
             ..Default::default()
         };
+        if self.number != 0 {
+            known.offset = self.offset;
+            return known;
+        }
+        known.kind = self.kind;
         let used = parts_of(self.kind);
         known.parts[..used].copy_from_slice(&self.parts[..used]);
         if matches!(self.kind, kind::STRING | kind::ID) {
@@ -220,10 +233,24 @@ macro_rules! answers {
                 }
             }
 
-            /// The same call's refusal.
+            /// The same call's refusal, with nothing lacking.
             pub fn refused(self, number: u32, offset: u64) -> Self {
                 match self {
                     $(Answer::$answer(_) => Answer::$answer($answer::refused(number, offset))),*
+                }
+            }
+
+            /// Number, offset and lacking bytes, which every answer has.
+            pub fn fault(self) -> (u32, u64, u64) {
+                match self {
+                    $(Answer::$answer(a) => (a.number, a.offset, a.lacking)),*
+                }
+            }
+
+            /// The answer with other lacking bytes.
+            pub fn lacking(self, lacking: u64) -> Self {
+                match self {
+                    $(Answer::$answer(a) => Answer::$answer($answer { lacking, ..a })),*
                 }
             }
 

@@ -2,11 +2,13 @@
 
 use crate::arguments::Question;
 use crate::show::{self, Quoted};
-use crate::walk;
+use crate::walk::{self, Block, Place};
 use sii_decode::{BsiiFile, Refusal};
 
-/// For 10 and above the offset says nothing about the bytes there.
-const LAST_WITH_BYTES: u32 = 9;
+/// Whether the offset says something about the bytes there.
+fn has_bytes(number: u32) -> bool {
+    !matches!(number, 10..=13)
+}
 
 /// What was refused, where that is, and the bytes there.
 pub fn message(
@@ -16,16 +18,18 @@ pub fn message(
     refusal: &Refusal,
 ) -> Vec<u8> {
     let Refusal { number, offset, .. } = *refusal;
-    let sentence = sentence(content, question, refusal);
-    if number > LAST_WITH_BYTES {
+    if !has_bytes(number) {
+        let sentence = sentence(content, question, refusal, None);
         return format!("sii-decode: {name}: refused {number} at {offset}: {sentence}\n").into();
     }
+    // A fault of the first eight bytes lies in no record.
+    let place = walk::place_of(content, offset).filter(|_| number > 2);
+    let sentence = sentence(content, question, refusal, place.as_ref());
     let first =
         format!("sii-decode: {name}: refused {number} at {offset} (0x{offset:08x}): {sentence}\n");
     let mut message = first.into_bytes();
-    // A fault of the first eight bytes lies in no block.
-    if let Some(place) = walk::place_of(content, offset).filter(|_| number > 2) {
-        message.extend(format!("  {}\n", in_words(&place)).bytes());
+    if let Some(Place::Block(block)) = &place {
+        message.extend(format!("  {}\n", in_words(block)).bytes());
     }
     if !content.is_empty() {
         show::around(&mut message, content, offset);
@@ -33,30 +37,58 @@ pub fn message(
     message
 }
 
-fn in_words(place: &walk::Place) -> String {
+fn in_words(block: &Block) -> String {
     let mut words = format!(
         "in block {}, of prototype {}",
-        place.block, place.prototype_id
+        block.number, block.prototype_id
     );
-    if let Some(name) = place.prototype {
+    if let Some(name) = block.prototype {
         words += &format!(", {}", Quoted(name));
     }
-    if let Some((name, type_id)) = place.field {
+    if let Some((name, type_id)) = block.field {
         words += &format!("; field {} of type 0x{type_id:02x}", Quoted(name));
     }
     words
 }
 
 /// More of it than the number says, where the save or the question tell more.
-fn sentence(content: &[u8], question: Option<&Question>, refusal: &Refusal) -> String {
-    match refusal.number {
-        1 => not_bsii(content).unwrap_or(refusal.sentence()).into(),
-        11 => format!("{}, which has {} bytes", refusal.sentence(), refusal.needed),
-        13 => question
-            .and_then(|question| absent(content, question))
-            .unwrap_or(refusal.sentence().into()),
-        _ => refusal.sentence().into(),
-    }
+fn sentence(
+    content: &[u8],
+    question: Option<&Question>,
+    refusal: &Refusal,
+    place: Option<&Place>,
+) -> String {
+    let more = match refusal.number {
+        1 => not_bsii(content).map(String::from),
+        3 => place.map(|place| cut(refusal, place)),
+        13 => question.and_then(|question| absent(content, question)),
+        15 => bad_mark(content, refusal),
+        _ => None,
+    };
+    more.unwrap_or_else(|| refusal.sentence())
+}
+
+/// What a save that ends early was cut in. It is the last of what is left.
+fn cut(refusal: &Refusal, place: &Place) -> String {
+    let part = match place {
+        Place::Version => "version".into(),
+        Place::Beginning => "last record's beginning".into(),
+        Place::Prototype => "last prototype".into(),
+        Place::Block(block) => match block.field {
+            Some((name, _)) => format!("block {}, field {}", block.number, Quoted(name)),
+            None => format!("block {}", block.number),
+        },
+    };
+    let early = refusal.sentence();
+    format!("{early} in its {part} (was the stick pulled too soon?)")
+}
+
+fn bad_mark(content: &[u8], refusal: &Refusal) -> Option<String> {
+    let mark = content.get(usize::try_from(refusal.offset).ok()?)?;
+    let sentence = refusal.sentence();
+    Some(format!(
+        "{sentence}: its mark is 0x{mark:02x}, where 0 or 1 may stand"
+    ))
 }
 
 /// What a file is that is not BSII, by its first bytes.
@@ -128,12 +160,18 @@ mod tests {
         assert!(message.starts_with(start.as_bytes()) && message.ends_with(b"\n"));
         assert!(message.iter().filter(|byte| **byte == b'\n').count() <= 6);
         let place = walk::place_of(bytes, offset);
-        let field = place.as_ref().and_then(|place| place.field);
+        let is_told = place.is_some();
+        let block = match place {
+            Some(Place::Block(block)) => Some(block),
+            _ => None,
+        };
+        let field = block.as_ref().and_then(|block| block.field);
         let kind = field.map(|(_, type_id)| DataField { type_id, part: b"" }.kind_name());
         match number {
-            6 => assert!(place.unwrap().prototype.is_none()),
+            3 => assert!(is_told && refusal.lacking > 0),
+            6 => assert!(block.unwrap().prototype.is_none()),
             7 => assert_eq!(kind, Some("unlisted")),
-            8 => assert!(place.unwrap().prototype.is_some() && field.is_none()),
+            8 => assert!(block.unwrap().prototype.is_some() && field.is_none()),
             9 => assert_eq!(kind, Some("enum")),
             _ => assert_ne!(kind, Some("unlisted")),
         }
@@ -143,7 +181,7 @@ mod tests {
     #[test]
     fn damaged_saves() {
         let whole = garage();
-        let mut seen = [0; 14];
+        let mut seen = [0; 16];
         let mut try_one = |bytes: &[u8]| {
             if let Err(refusal) = sii_decode::to_siin(bytes) {
                 seen[refusal.number as usize] += 1;
@@ -158,7 +196,7 @@ mod tests {
                 try_one(&bytes);
             }
         }
-        for number in [1, 2, 3, 4, 5, 6, 7, 9] {
+        for number in [1, 2, 3, 4, 5, 6, 7, 9, 15] {
             assert!(seen[number] > 0, "{number}: {seen:?}");
         }
     }

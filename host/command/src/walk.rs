@@ -1,5 +1,5 @@
-//! Where in a save an offset lies: which block, of which prototype, in which field. Only for
-//! messages about a save that the library has refused; nothing is decided by it.
+//! Where in a save an offset lies: in a block, of which prototype and in which field, or in what else.
+//! Only for messages about a save that the library has refused; nothing is decided by it.
 
 use sii_decode::DataField;
 use std::collections::HashMap;
@@ -10,10 +10,20 @@ struct Prototype<'a> {
     fields: Vec<(&'a [u8], u32)>,
 }
 
-/// The block that holds an offset.
+/// What holds an offset, or would start there.
 #[derive(Debug, PartialEq, Eq)]
-pub struct Place<'a> {
-    pub block: u64,
+pub enum Place<'a> {
+    Version,
+    /// The number of a record, or the mark behind it.
+    Beginning,
+    /// A prototype behind its mark.
+    Prototype,
+    Block(Block<'a>),
+}
+
+#[derive(Debug, PartialEq, Eq)]
+pub struct Block<'a> {
+    pub number: u64,
     pub prototype_id: u32,
     /// Its name by the definition in force; none if the block's prototype is not defined.
     pub prototype: Option<&'a [u8]>,
@@ -96,40 +106,63 @@ impl<'a> Reader<'a> {
     }
 }
 
-/// None if the offset lies in no block, or if no way leads there.
+/// The block whose number was read, if it holds the offset; otherwise it is passed.
+fn block_at<'a>(
+    reader: &mut Reader<'a>,
+    number: u64,
+    prototype_id: u32,
+    prototype: Option<&Prototype<'a>>,
+    offset: usize,
+) -> Option<Block<'a>> {
+    let block = |field| Block {
+        number,
+        prototype_id,
+        prototype: prototype.map(|prototype| prototype.name),
+        field,
+    };
+    if prototype.is_none() || reader.id().is_none() || reader.at > offset {
+        return Some(block(None));
+    }
+    for &field in prototype.map_or(&[][..], |prototype| &prototype.fields) {
+        if reader.value(field.1).is_none() || reader.at > offset {
+            return Some(block(Some(field)));
+        }
+    }
+    None
+}
+
+/// None in front of the version and behind the end record, or if no way leads there.
 pub fn place_of(content: &[u8], offset: u64) -> Option<Place<'_>> {
     let offset = usize::try_from(offset).ok()?;
+    if (4..8).contains(&offset) {
+        return Some(Place::Version);
+    }
     let mut reader = Reader { content, at: 8 };
     let mut prototypes: HashMap<u32, Prototype> = HashMap::new();
-    let mut block = 0;
+    let mut blocks = 0;
     while reader.at <= offset {
-        match reader.number()? {
-            0 => {
-                if reader.byte()? != 1 {
-                    return None;
-                }
-                let (id, prototype) = reader.prototype()?;
-                prototypes.insert(id, prototype);
+        let Some(id) = reader.number() else {
+            return Some(Place::Beginning);
+        };
+        if id != 0 {
+            let of = prototypes.get(&id);
+            if let Some(block) = block_at(&mut reader, blocks, id, of, offset) {
+                return Some(Place::Block(block));
             }
-            id => {
-                let prototype = prototypes.get(&id);
-                let place = |field| Place {
-                    block,
-                    prototype_id: id,
-                    prototype: prototype.map(|prototype| prototype.name),
-                    field,
-                };
-                if prototype.is_none() || reader.id().is_none() || reader.at > offset {
-                    return Some(place(None));
-                }
-                for &field in prototype.map_or(&[][..], |prototype| &prototype.fields) {
-                    if reader.value(field.1).is_none() || reader.at > offset {
-                        return Some(place(Some(field)));
-                    }
-                }
-                block += 1;
-            }
+            blocks += 1;
+            continue;
         }
+        let mark = reader.byte();
+        if mark.is_none() || offset < reader.at {
+            return Some(Place::Beginning);
+        }
+        if mark != Some(1) {
+            return None;
+        }
+        match reader.prototype() {
+            Some((id, prototype)) if reader.at <= offset => prototypes.insert(id, prototype),
+            _ => return Some(Place::Prototype),
+        };
     }
     None
 }
@@ -158,36 +191,76 @@ mod tests {
         file
     }
 
-    type Field = (Vec<u8>, u32);
+    type Field<'a> = Option<(&'a [u8], u32)>;
 
-    fn field_at(offset: u64) -> Option<(u64, Option<Field>)> {
-        let file = save();
-        let place = place_of(&file, offset)?;
-        assert_eq!(
-            (place.prototype_id, place.prototype),
-            (7, Some(&b"trip"[..]))
-        );
-        let field = place.field.map(|(name, type_id)| (name.to_vec(), type_id));
-        Some((place.block, field))
+    fn block_of(file: &[u8], offset: u64) -> Block<'_> {
+        match place_of(file, offset) {
+            Some(Place::Block(block)) => block,
+            other => panic!("{offset}: {other:?}"),
+        }
+    }
+
+    /// The number of the block and the field at an offset.
+    fn field_at(file: &[u8], offset: u64) -> (u64, Field<'_>) {
+        let block = block_of(file, offset);
+        let trip = (7, Some(&b"trip"[..]));
+        assert_eq!((block.prototype_id, block.prototype), trip);
+        (block.number, block.field)
     }
 
     #[test]
     fn every_offset() {
-        let (s, b) = (Some((b"s".to_vec(), 0x01)), Some((b"b".to_vec(), 0x35)));
-        for offset in 0..47 {
-            assert_eq!(field_at(offset), None, "{offset}");
+        let file = save();
+        let (s, b) = (Some((&b"s"[..], 0x01)), Some((&b"b"[..], 0x35)));
+        let others = [
+            (0..4, None),
+            (4..8, Some(Place::Version)),
+            (8..13, Some(Place::Beginning)),
+            (13..47, Some(Place::Prototype)),
+            (87..92, Some(Place::Beginning)),
+            (92..100, None),
+        ];
+        for (offsets, place) in others {
+            for offset in offsets {
+                assert_eq!(place_of(&file, offset), place, "{offset}");
+            }
         }
         for (block, start) in [(0, 47), (1, 67)] {
             for offset in start..start + 13 {
-                assert_eq!(field_at(offset), Some((block, None)), "{offset}");
+                assert_eq!(field_at(&file, offset), (block, None), "{offset}");
             }
             for offset in start + 13..start + 19 {
-                assert_eq!(field_at(offset), Some((block, s.clone())), "{offset}");
+                assert_eq!(field_at(&file, offset), (block, s), "{offset}");
             }
-            assert_eq!(field_at(start + 19), Some((block, b.clone())));
+            assert_eq!(field_at(&file, start + 19), (block, b));
         }
-        for offset in 87..100 {
-            assert_eq!(field_at(offset), None, "{offset}");
+    }
+
+    /// At the end of a cut save: what would stand there.
+    #[test]
+    fn every_cut() {
+        let whole = save();
+        let place = |kept: usize| place_of(&whole[..kept], kept as u64);
+        for kept in 4..8 {
+            assert_eq!(place(kept), Some(Place::Version), "{kept}");
+        }
+        for kept in (8..13).chain(47..51).chain(67..71).chain(87..92) {
+            assert_eq!(place(kept), Some(Place::Beginning), "{kept}");
+        }
+        for kept in 13..47 {
+            assert_eq!(place(kept), Some(Place::Prototype), "{kept}");
+        }
+        for kept in (51..67).chain(71..87) {
+            let (number, field) = field_at(&whole[..kept], kept as u64);
+            assert_eq!(number, u64::from(kept > 67));
+            let start = 47 + 20 * number as usize;
+            let name = field.map(|field| field.0);
+            let expected = match kept - start {
+                0..=12 => None,
+                13..=18 => Some(&b"s"[..]),
+                _ => Some(&b"b"[..]),
+            };
+            assert_eq!(name, expected, "{kept}");
         }
     }
 
@@ -195,13 +268,13 @@ mod tests {
     fn an_unlisted_type_and_an_undefined_prototype() {
         let mut file = save();
         file[34] = 0x08;
-        let place = place_of(&file, 66).unwrap();
-        assert_eq!((place.block, place.field), (0, Some((&b"b"[..], 0x08))));
+        let block = block_of(&file, 66);
+        assert_eq!((block.number, block.field), (0, Some((&b"b"[..], 0x08))));
         let mut file = save();
         file[67] = 8;
-        let place = place_of(&file, 67).unwrap();
+        let block = block_of(&file, 67);
         assert_eq!(
-            (place.block, place.prototype_id, place.prototype),
+            (block.number, block.prototype_id, block.prototype),
             (1, 8, None)
         );
     }
@@ -236,12 +309,12 @@ mod tests {
                 let part = block.field(&file, field).unwrap().part;
                 let first = part.as_ptr() as usize - start;
                 for offset in [first, first + part.len() - 1] {
-                    let place = place_of(&bytes, offset as u64).unwrap();
+                    let found = block_of(&bytes, offset as u64);
                     assert_eq!(
-                        (place.block, place.field),
+                        (found.number, found.field),
                         (block.number, Some((field, type_id)))
                     );
-                    assert_eq!(place.prototype, Some(name.as_bytes()));
+                    assert_eq!(found.prototype, Some(name.as_bytes()));
                 }
             }
         }

@@ -1,6 +1,7 @@
 //! The comparison of the library, the model and the unchanged Rust.
 
 pub mod compare;
+pub mod cuts;
 pub mod large;
 #[cfg(feature = "linked")]
 pub mod linked;

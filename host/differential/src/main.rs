@@ -1,7 +1,9 @@
-//! `differential [--files N | --lists N] [--seed S] [--first I] [--short | --large] [--source DIR]`
+//! `differential [--files N | --lists N | --cuts N] [--seed S] [--first I] [--short | --large]
+//! [--source DIR]`
 
 use calls::Implementation;
 use differential::compare::Comparison;
+use differential::cuts::{self, Cuts};
 use differential::report::{Difference, Tally};
 use differential::shrink::{hex_dump, shrink};
 use differential::widening::{self, Widenings};
@@ -20,6 +22,8 @@ struct Arguments {
     files: Option<u64>,
     /// Lists of insertions are asked about in place of files.
     lists: Option<u64>,
+    /// Cuts of files are asked about in place of files.
+    cuts: Option<u64>,
     seed: u64,
     first: u64,
     kind: Kind,
@@ -46,6 +50,7 @@ fn arguments() -> Arguments {
     let mut found = Arguments {
         files: None,
         lists: None,
+        cuts: None,
         seed: 1,
         first: 0,
         kind: Kind::Random,
@@ -60,6 +65,7 @@ fn arguments() -> Arguments {
         match word.as_str() {
             "--files" => found.files = Some(number(&value())),
             "--lists" => found.lists = Some(number(&value())),
+            "--cuts" => found.cuts = Some(number(&value())),
             "--seed" => found.seed = number(&value()),
             "--first" => found.first = number(&value()),
             "--short" => found.kind = Kind::Short,
@@ -131,6 +137,9 @@ fn main() {
     if let Some(count) = arguments.lists {
         exit(lists(count, &arguments));
     }
+    if let Some(count) = arguments.cuts {
+        exit(cuts(count, &arguments));
+    }
     let mut comparison = Comparison::default();
     comparison.library = library();
     let mut report = match oracle::silence_stdout() {
@@ -169,6 +178,17 @@ fn lists(count: u64, arguments: &Arguments) -> i32 {
     watch::start();
     let Arguments { seed, first, .. } = *arguments;
     let (report, differences) = widening::run(&mut asked, seed, first, count);
+    print!("{report}");
+    i32::from(differences > 0)
+}
+
+/// Replies 3 and 15 on cut and changed files; the exit status.
+fn cuts(count: u64, arguments: &Arguments) -> i32 {
+    let mut asked = Cuts::default();
+    asked.library = library();
+    watch::start();
+    let Arguments { seed, first, .. } = *arguments;
+    let (report, differences) = cuts::run(&mut asked, seed, first, count);
     print!("{report}");
     i32::from(differences > 0)
 }

@@ -68,6 +68,15 @@ fn number(fault: &Fault) -> u32 {
     }
 }
 
+/// A reply under the number that the oracle has for it: the Rust's InvalidInput is a bad mark as well
+/// as a cut. The two are told apart by the comparison with the model.
+fn class(reply: u32) -> u32 {
+    match reply {
+        15 => 3,
+        other => other,
+    }
+}
+
 pub fn compare(
     side: &mut Side<'_>,
     file: &[u8],
@@ -132,7 +141,7 @@ fn refusals(
     ];
     let mut found = [0; 5];
     for (found, call) in found.iter_mut().zip(calls) {
-        *found = side.ask(call, file, plan.words)?.number();
+        *found = class(side.ask(call, file, plan.words)?.number());
     }
     let label = label(side, "class of a refused file");
     tally.same(
@@ -442,7 +451,7 @@ fn text(
     let (words, needed) = (plan.words, verdict.needed);
     match &verdict.text {
         Err(fault) => {
-            let found = side.text(file, words, 64)?.number;
+            let found = class(side.text(file, words, 64)?.number);
             tally.same(call, || "reply".to_string(), found, number(fault))
         }
         Ok(None) => {

@@ -70,6 +70,9 @@ impl Note {
     }
 }
 
+/// Replies are below this.
+const REPLIES: usize = 16;
+
 #[derive(Default)]
 pub struct Tally {
     pub files: u64,
@@ -78,9 +81,10 @@ pub struct Tally {
     pub differences: u64,
     exceptions: BTreeMap<Exception, u64>,
     notes: BTreeMap<Note, u64>,
-    /// Files by the reply to the reading call and to the text call with room enough.
-    pub readings: [u64; 14],
-    pub texts: [u64; 14],
+    /// Files by the reply to the reading call and to the text call with room enough, cuts (3) and bad
+    /// marks (15) apart.
+    pub readings: [u64; REPLIES],
+    pub texts: [u64; REPLIES],
 }
 
 impl Tally {
@@ -127,7 +131,7 @@ impl Tally {
     }
 }
 
-fn replies(counts: &[u64; 14]) -> String {
+fn replies(counts: &[u64; REPLIES]) -> String {
     let shown = counts.iter().enumerate().filter(|(_, count)| **count > 0);
     let shown = shown.map(|(number, count)| match number {
         0 => format!("answered: {count}"),

@@ -155,11 +155,10 @@ impl Asked<'_, '_> {
     fn reading(&mut self, save: &Save) -> Check {
         let answer = self.side.ask(Call::Read, &save.bytes(), words(save))?;
         let expected = Answer::Reading(Reading {
-            number: 0,
-            offset: 0,
             prototypes: save.prototypes().count() as u64,
             blocks: save.blocks().count() as u64,
             next: save.next() as u64,
+            ..Reading::default()
         });
         self.same("reading", String::new, answer, expected)
     }

@@ -35,9 +35,17 @@ enum Fault {
     IgnoresBit63,
     EnumAsU32,
     NanKeepsItsBits,
+    LackingIsTheSize,
+    LackingToTheValuesEnd,
+    LackingInAnotherNumber,
+    LackingInAnAnswer,
+    LackingInTheReadingAlone,
+    MissingMarkIsBad,
+    BadMarkAtTheRecord,
+    BadMarkIsMalformed,
 }
 
-const FAULTS: [Fault; 26] = [
+const FAULTS: [Fault; 34] = [
     Fault::RefusesEach,
     Fault::FindsNoName,
     Fault::FirstBlockForAll,
@@ -64,6 +72,14 @@ const FAULTS: [Fault; 26] = [
     Fault::IgnoresBit63,
     Fault::EnumAsU32,
     Fault::NanKeepsItsBits,
+    Fault::LackingIsTheSize,
+    Fault::LackingToTheValuesEnd,
+    Fault::LackingInAnotherNumber,
+    Fault::LackingInAnAnswer,
+    Fault::LackingInTheReadingAlone,
+    Fault::MissingMarkIsBad,
+    Fault::BadMarkAtTheRecord,
+    Fault::BadMarkIsMalformed,
 ];
 
 struct Impostor {
@@ -125,6 +141,7 @@ impl Implementation for Impostor {
         let asked = self.changed_call(call, file);
         let answer = self.model.answer(asked, lent);
         self.spoil_table(table, answer.number());
+        let answer = self.cut_or_mark(answer, call, file);
         match answer {
             Answer::Reading(answer) => Answer::Reading(self.reading(answer, file)),
             Answer::Prototype(answer) => Answer::Prototype(self.prototype(answer)),
@@ -153,6 +170,56 @@ impl Impostor {
             }
             call => call,
         }
+    }
+
+    /// What is wrong about replies 3 and 15.
+    fn cut_or_mark(&mut self, answer: Answer, call: Call<'_>, file: &[u8]) -> Answer {
+        let (number, offset, lacking) = answer.fault();
+        let bytes = match call {
+            Call::ElementOf { part, .. } => part,
+            _ => file,
+        };
+        let there = (bytes.len() as u64).saturating_sub(offset);
+        match (self.fault, number) {
+            (Fault::LackingIsTheSize, 3) => answer.lacking(lacking + there),
+            (Fault::LackingToTheValuesEnd, 3) => answer.lacking(self.lacking_of_all(call, lacking)),
+            (Fault::LackingInAnotherNumber, 1..) if number != 3 => answer.lacking(1),
+            (Fault::LackingInAnAnswer, 0) => answer.lacking(1),
+            (Fault::LackingInTheReadingAlone, 3) if call != Call::Read => answer.lacking(0),
+            (Fault::MissingMarkIsBad, 3) if self.is_mark(file, offset) => {
+                answer.refused(15, offset)
+            }
+            (Fault::BadMarkAtTheRecord, 15) => answer.refused(15, offset - 4),
+            (Fault::BadMarkIsMalformed, 15) => answer.refused(3, offset).lacking(1),
+            _ => answer,
+        }
+    }
+
+    /// Of a value that runs out, the bytes that are lacking of all of it, if the rest are zeros.
+    fn lacking_of_all(&mut self, call: Call<'_>, lacking: u64) -> u64 {
+        let Call::ElementOf { type_id, part, .. } = call else {
+            return lacking;
+        };
+        let mut whole = part.to_vec();
+        for more in 1..=64 {
+            whole.push(0);
+            let call = Call::ElementOf {
+                type_id,
+                part: &whole,
+                index: 0,
+            };
+            if self.model.answer(call, Lent::default()).number() != 3 {
+                return more;
+            }
+        }
+        lacking
+    }
+
+    /// Whether a mark would stand at the end of the file: another byte than 0 and 1 is 15 there.
+    fn is_mark(&mut self, file: &[u8], offset: u64) -> bool {
+        let marked = [file, &[2]].concat();
+        let fault = self.model.parsed(&marked, usize::MAX).err();
+        fault.is_some_and(|fault| (fault.number, fault.offset as u64) == (15, offset))
     }
 
     fn reading(&mut self, mut answer: Reading, file: &[u8]) -> Reading {

@@ -123,8 +123,8 @@ fn store(text: &[u8], out: &mut [u8]) -> Text {
     }
     Text {
         number: if fits { 0 } else { 11 },
-        offset: 0,
         length: text.len() as u64,
+        ..Text::default()
     }
 }
 

@@ -12,7 +12,13 @@ pub mod widening;
 
 pub use random::Random;
 pub use short::Short;
-pub use valid::{worked_bytes, LISTED};
+pub use valid::{worked_bytes, Made, LISTED};
+
+/// File `index` of `seed` before any damage, with the places that a fault can be aimed at. It may have
+/// faults of its own.
+pub fn whole(seed: u64, index: u64) -> Made {
+    valid::file(&mut Random::new(seed, index))
+}
 
 /// A random file, whole or damaged.
 pub fn file(seed: u64, index: u64) -> Vec<u8> {

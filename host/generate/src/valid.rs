@@ -37,9 +37,13 @@ pub struct Made {
     pub bytes: Vec<u8>,
     /// Where lengths, counts, types and record numbers stand, for aimed damage.
     pub numbers: Vec<usize>,
+    /// Of these, the lengths of strings.
+    pub lengths: Vec<usize>,
+    /// Where the marks of prototypes and of the end record stand.
+    pub marks: Vec<usize>,
     defined: Vec<Prototype>,
-    /// Percent of the places that may get a fault.
-    faults: usize,
+    /// Percent of the places that may get a fault. With none of them what was made is what is read.
+    pub faults: usize,
 }
 
 #[derive(Clone)]
@@ -70,8 +74,16 @@ impl Made {
     }
 
     fn string(&mut self, bytes: &[u8]) {
+        self.lengths.push(self.bytes.len());
         self.number(bytes.len() as u32);
         self.bytes.extend_from_slice(bytes);
+    }
+
+    /// A record number 0 and its mark.
+    fn marked(&mut self, mark: u8) {
+        self.number(0);
+        self.marks.push(self.bytes.len());
+        self.bytes.push(mark);
     }
 
     fn any_string(&mut self, random: &mut Random) {
@@ -107,8 +119,7 @@ pub fn file(random: &mut Random) -> Made {
     for _ in 0..random.below(most) {
         record(random, &mut made);
     }
-    made.number(0);
-    made.bytes.push(0);
+    made.marked(0);
     if random.chance(20) {
         let len = random.below(12);
         made.bytes.extend((0..len).map(|_| random.number() as u8));
@@ -136,8 +147,7 @@ fn prototype(random: &mut Random, made: &mut Made) {
         _ => random.pick(&PROTOTYPE_IDS),
     };
     let old = made.defined.iter().position(|p| p.id == id);
-    made.number(0);
-    made.bytes.push(1);
+    made.marked(1);
     made.number(id);
     made.any_string(random);
     let count = match old {
@@ -310,8 +320,7 @@ pub fn worked_bytes() -> Vec<u8> {
     let mut made = Made::default();
     made.bytes.extend(b"BSII");
     made.u32(2);
-    made.number(0);
-    made.bytes.push(1);
+    made.marked(1);
     made.number(7);
     made.string(b"trip");
     made.number(0x27);
@@ -326,7 +335,6 @@ pub fn worked_bytes() -> Vec<u8> {
     made.number(2);
     made.u32(0x3fc0_0000);
     made.u32(0xc000_0000);
-    made.number(0);
-    made.bytes.push(0);
+    made.marked(0);
     made.bytes
 }

@@ -6,10 +6,17 @@ use calls::{kind, parts_of, Element};
 pub struct Refusal {
     pub number: u32,
     pub offset: usize,
+    /// Of the item that runs out, the bytes that are not there; 0 with every number but 3.
+    pub lacking: usize,
 }
 
+/// Every refusal but 3, which `take` gives alone.
 pub fn refuse<T>(number: u32, offset: usize) -> Result<T, Refusal> {
-    Err(Refusal { number, offset })
+    Err(Refusal {
+        number,
+        offset,
+        lacking: 0,
+    })
 }
 
 #[derive(Clone, Copy, Debug, Default, PartialEq, Eq)]
@@ -30,10 +37,15 @@ pub struct Cursor<'a> {
 }
 
 impl<'a> Cursor<'a> {
-    /// The next `n` bytes; 3 at their start if they run out.
+    /// An item of `n` bytes; 3 at its start if it runs out.
     pub fn take(&mut self, n: usize) -> Result<&'a [u8], Refusal> {
-        if self.bytes.len() - self.at < n {
-            return refuse(3, self.at);
+        let there = self.bytes.len() - self.at;
+        if there < n {
+            return Err(Refusal {
+                number: 3,
+                offset: self.at,
+                lacking: n - there,
+            });
         }
         self.at += n;
         Ok(&self.bytes[self.at - n..self.at])

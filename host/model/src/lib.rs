@@ -1,6 +1,7 @@
-//! Document 01 as a plain program: every call's answer, with refusal number and offset.
+//! Document 01, with the requests of 02 that are in force, as a plain program: every call's answer,
+//! with refusal number, offset and lacking bytes.
 //!
-//! It is written from the document and not from the Rust source, so that it can stand beside both
+//! It is written from the documents and not from the Rust source, so that it can stand beside both
 //! the Rust (which gives no offsets) and the library.
 
 mod layout;
@@ -54,7 +55,10 @@ macro_rules! answer {
     ($kind:ident, $result:expr) => {
         Answer::$kind(match $result {
             Ok(answer) => answer,
-            Err(refusal) => $kind::refused(refusal.number, refusal.offset as u64),
+            Err(refusal) => $kind {
+                lacking: refusal.lacking as u64,
+                ..$kind::refused(refusal.number, refusal.offset as u64)
+            },
         })
     };
 }
@@ -112,7 +116,7 @@ fn to_siin(parsed: &Parsed, file: &[u8], out: &mut [u8]) -> Result<Text, Refusal
     }
     Ok(Text {
         number: if fits { 0 } else { 11 },
-        offset: 0,
         length,
+        ..Text::default()
     })
 }

@@ -67,7 +67,7 @@ impl Parsed {
                 match cursor.u8()? {
                     0 => return Ok(true),
                     1 => self.define(prototype(cursor)?, start, capacity)?,
-                    _ => return refuse(3, mark),
+                    _ => return refuse(15, mark),
                 }
             }
             id => {
@@ -123,11 +123,10 @@ impl Parsed {
 
     pub fn reading(&self) -> Reading {
         Reading {
-            number: 0,
-            offset: 0,
             prototypes: self.prototypes.len() as u64,
             blocks: self.blocks.len() as u64,
             next: self.next as u64,
+            ..Reading::default()
         }
     }
 
@@ -136,11 +135,10 @@ impl Parsed {
             return refuse(13, 0);
         };
         Ok(Prototype {
-            number: 0,
-            offset: 0,
             name_offset: prototype.name.offset as u64,
             name_len: prototype.name.len as u64,
             fields: prototype.fields.len() as u64,
+            ..Prototype::default()
         })
     }
 
@@ -152,11 +150,10 @@ impl Parsed {
     pub fn block_at(&self, n: u64) -> Result<Block, Refusal> {
         let block = self.numbered(n)?;
         Ok(Block {
-            number: 0,
-            offset: 0,
             prototype_id: block.prototype,
             id_offset: block.id.offset as u64,
             id_len: block.id.len as u64,
+            ..Block::default()
         })
     }
 
@@ -192,11 +189,10 @@ impl Parsed {
             return refuse(13, 0);
         };
         Ok(Field {
-            number: 0,
-            offset: 0,
             type_id: value.type_id,
             part_offset: value.place.offset as u64,
             part_len: value.place.len as u64,
+            ..Field::default()
         })
     }
 }

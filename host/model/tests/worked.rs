@@ -1,4 +1,4 @@
-//! Document 01's worked bytes, and offsets that no other side gives.
+//! The worked bytes of documents 01 and 02, and offsets and lacking bytes that no other side gives.
 
 use calls::{Call, Element, Implementation, Lent, Text};
 use model::Model;
@@ -11,9 +11,12 @@ fn text_in(file: &[u8], table: &mut [u32], out: &mut [u8]) -> Text {
 fn text_of(file: &[u8]) -> String {
     let mut out = vec![0; 4096];
     let text = text_in(file, &mut [0; 768], &mut out);
+    let (at, lacking) = (text.offset, text.lacking);
+    assert_eq!(lacking > 0, text.number == 3);
     match text.number {
         0 => String::from_utf8(out[..text.length as usize].to_vec()).unwrap(),
-        number => format!("refused {number} at {}", text.offset),
+        3 => format!("refused 3 at {at} lacking {lacking}"),
+        number => format!("refused {number} at {at}"),
     }
 }
 
@@ -127,25 +130,75 @@ fn faults_and_their_offsets() {
     let cut = |len: usize| text_of(&worked[..len]);
     assert_eq!(cut(3), "refused 1 at 0");
     for len in 4..8 {
-        assert_eq!(cut(len), "refused 3 at 4");
+        assert_eq!(cut(len), format!("refused 3 at 4 lacking {}", 8 - len));
     }
     assert_eq!(text_of(b"BSII\x01\0\0\0"), "refused 2 at 8");
-    assert_eq!(cut(8), "refused 3 at 8");
-    assert_eq!(cut(12), "refused 3 at 12");
-    assert_eq!(text_of(b"BSII\x02\0\0\0\0\0\0\0\x02"), "refused 3 at 12");
-    assert_eq!(cut(22), "refused 3 at 22");
+    assert_eq!(cut(8), "refused 3 at 8 lacking 4");
+    assert_eq!(cut(12), "refused 3 at 12 lacking 1");
+    assert_eq!(cut(22), "refused 3 at 22 lacking 4");
     // The block stands at 35, its id at 39, the string's length at 40, its bytes at 44.
     assert_eq!(&worked[35..40], [1, 0, 0, 0, 0].as_slice());
-    assert_eq!(cut(39), "refused 3 at 39");
-    assert_eq!(cut(43), "refused 3 at 40");
-    assert_eq!(cut(46), "refused 3 at 44");
+    assert_eq!(cut(39), "refused 3 at 39 lacking 1");
+    assert_eq!(cut(43), "refused 3 at 40 lacking 1");
+    assert_eq!(cut(46), "refused 3 at 44 lacking 1");
     assert_eq!(text_of(&one_value(1, &string(b"a\xff"))), "refused 4 at 44");
     // The second of two floats runs out.
-    assert_eq!(text_of(&one_value(7, &[0; 6])[..46]), "refused 3 at 44");
+    let floats = one_value(7, &[0; 6]);
+    assert_eq!(text_of(&floats[..46]), "refused 3 at 44 lacking 2");
     let undefined_prototype = file(&[vec![5, 0, 0, 0]]);
     assert_eq!(text_of(&undefined_prototype), "refused 6 at 8");
     assert_eq!(text_of(&one_value(8, b"")), "refused 7 at 40");
     assert_eq!(text_of(&one_value(8, b"")[..40]), "refused 7 at 40");
+}
+
+fn bytes(hex: &str) -> Vec<u8> {
+    let byte = |at: usize| u8::from_str_radix(&hex[at..at + 2], 16).unwrap();
+    (0..hex.len()).step_by(2).map(byte).collect()
+}
+
+/// A save with a u16 in two blocks: save A of the readings of document 02.
+const SAVE_A: &str = "425349490200000000000000010300000001000000742b000000010000006e00000000\
+                      030000000005000300000001220000000000000007000000000000";
+/// A placement of seven floats: the eighth takes four bytes of the end record.
+const SEVEN: &str = "4253494902000000000000000102000000010000006a19000000010000007700000000\
+                     02000000000000803f00000080000000800200807f000000000000c03f000000c00000000000";
+
+#[test]
+fn worked_cuts() {
+    let worked = |hex: &str| text_of(&bytes(hex));
+    assert_eq!(worked("4253494902"), "refused 3 at 4 lacking 3");
+    assert_eq!(worked("42534949020000000000"), "refused 3 at 8 lacking 2");
+    assert_eq!(worked("42534949020000000000000003"), "refused 15 at 12");
+    let name = "4253494902000000000000000103000000050000006162";
+    assert_eq!(worked(name), "refused 3 at 21 lacking 3");
+    assert_eq!(worked(&SAVE_A[..82]), "refused 3 at 40 lacking 1");
+    assert_eq!(worked(SEVEN), "refused 3 at 72 lacking 3");
+}
+
+/// Every mark but two; the byte itself decides, not what follows it.
+#[test]
+fn marks() {
+    for mark in 2..=255 {
+        let file = [b"BSII\x02\0\0\0\0\0\0\0".as_slice(), &[mark]].concat();
+        assert_eq!(text_of(&file), "refused 15 at 12");
+        assert_eq!(text_of(&[&file[..], &[0; 9]].concat()), "refused 15 at 12");
+        assert_eq!(text_of(&file[..12]), "refused 3 at 12 lacking 1");
+    }
+}
+
+/// A length says more than any file has; a string that is cut and already bad is cut first.
+#[test]
+fn strings_that_run_out() {
+    let with = |len: u32, rest: &[u8]| {
+        let value = [&len.to_le_bytes(), rest].concat();
+        let whole = one_value(1, &value);
+        text_of(&whole[..whole.len() - 5])
+    };
+    assert_eq!(with(u32::MAX, b""), "refused 3 at 44 lacking 4294967295");
+    assert_eq!(with(u32::MAX, b"abc"), "refused 3 at 44 lacking 4294967292");
+    assert_eq!(with(2, b"\xff"), "refused 3 at 44 lacking 1");
+    assert_eq!(with(1, b"\xff"), "refused 4 at 44");
+    assert_eq!(with(0, b""), "refused 3 at 44 lacking 4");
 }
 
 #[test]
@@ -199,8 +252,8 @@ fn needed_length_beyond_32_bits() {
     let text = text_in(&file, &mut [0; 3], &mut []);
     let expected = Text {
         number: 11,
-        offset: 0,
         length: 1_099_531_488_224,
+        ..Text::default()
     };
     assert_eq!(text, expected);
 }
@@ -222,9 +275,22 @@ fn elements() {
         (0, 13, 1)
     );
     assert_eq!(element(2, two, 2).number, 13);
-    assert_eq!(element(2, &two[..13], 0), Element::refused(3, 13));
+    let cut = |offset: u64, lacking: u64| Element {
+        lacking,
+        ..Element::refused(3, offset)
+    };
+    assert_eq!(element(2, &two[..13], 0), cut(13, 1));
+    assert_eq!(element(2, &two[..3], 0), cut(0, 1));
+    assert_eq!(element(2, &two[..7], 0), cut(4, 1));
+    assert_eq!(element(0x31, &[0; 5], 0), cut(0, 3));
+    // The second word of an id; the third float of the second of two fours.
+    let id = [&[2][..], &[0; 13]].concat();
+    assert_eq!(element(0x39, &id, 0), cut(9, 3));
+    let fours = [&[2, 0, 0, 0][..], &[0; 25]].concat();
+    assert_eq!(element(0x18, &fours, 0), cut(28, 3));
     assert_eq!(element(0, b"", 9), Element::refused(7, 0));
     assert_eq!(element(0x36, &[0; 4], 0), Element::refused(13, 0));
     assert_eq!(element(0x25, &[0xff; 4], 0).value, u64::MAX);
-    assert_eq!(element(0x19, &[0; 31], 0), Element::refused(3, 28));
+    assert_eq!(element(0x19, &[0; 31], 0), cut(28, 1));
+    assert_eq!(element(0x19, &[0; 5], 0), cut(4, 3));
 }

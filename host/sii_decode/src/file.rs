@@ -48,18 +48,16 @@ pub struct DataBlock {
     pub id: Id,
 }
 
-fn refusal(number: u32, offset: u64) -> Refusal {
-    Refusal {
-        number,
-        offset,
-        needed: 0,
-    }
-}
-
-fn answered(number: u32, offset: u64) -> Result<(), Refusal> {
+/// Number, offset and lacking bytes of an answer: a refusal, if there is one.
+fn answered(number: u32, offset: u64, lacking: u64) -> Result<(), Refusal> {
     match number {
         0 => Ok(()),
-        _ => Err(refusal(number, offset)),
+        _ => Err(Refusal {
+            number,
+            offset,
+            lacking,
+            needed: 0,
+        }),
     }
 }
 
@@ -113,33 +111,35 @@ fn text(content: &[u8], table: &mut [u32]) -> Result<Vec<u8>, Refusal> {
     let mut answer = library::to_siin_within(content, table, &mut text);
     if answer.number == 11 {
         let refusal = Refusal {
+            number: 11,
+            offset: answer.offset,
+            lacking: 0,
             needed: answer.length,
-            ..refusal(11, answer.offset)
         };
         let length = usize::try_from(answer.length).map_err(|_| refusal)?;
         text = Vec::new();
         text.try_reserve_exact(length).map_err(|_| refusal)?;
         answer = library::to_siin_within(content, table, &mut text);
     }
-    answered(answer.number, answer.offset)?;
+    answered(answer.number, answer.offset, answer.lacking)?;
     text.shrink_to_fit();
     Ok(text)
 }
 
 /// The SiiNunit text of a save, without a [`BsiiFile`] before: one reading less. Refused with 1 to
-/// 12; with 10 and 11 if there is no memory for the table or the text.
+/// 12 and 15; with 10 and 11 if there is no memory for the table or the text.
 pub fn to_siin(content: &[u8]) -> Result<Vec<u8>, Refusal> {
     with_table(content, |table| text(content, table)).map(|(text, _)| text)
 }
 
 impl<'a> BsiiFile<'a> {
-    /// Reads the whole file. Refused with 1 to 7 and 12, and with 10 if there is no memory for the
+    /// Reads the whole file. Refused with 1 to 7, 12 and 15, and with 10 if there is no memory for the
     /// table; what passes is refused by the questions below with 13 only, and by the text with 8, 9
     /// and 11.
     pub fn parse(content: &'a [u8]) -> Result<Self, Refusal> {
         let (reading, table) = with_table(content, |table| {
             let reading = library::read(content, table);
-            answered(reading.number, reading.offset).map(|()| reading)
+            answered(reading.number, reading.offset, reading.lacking).map(|()| reading)
         })?;
         Ok(BsiiFile {
             content,
@@ -179,7 +179,7 @@ impl<'a> BsiiFile<'a> {
     /// The prototype of an id, by its last definition.
     pub fn get_prototype(&self, id: u32) -> Result<Prototype<'a>, Refusal> {
         let answer = library::get_prototype(self.content, &mut self.table.borrow_mut(), id);
-        answered(answer.number, answer.offset)?;
+        answered(answer.number, answer.offset, answer.lacking)?;
         Ok(Prototype {
             id,
             name: crate::utf8(self.place(answer.name_offset, answer.name_len)),
@@ -190,7 +190,7 @@ impl<'a> BsiiFile<'a> {
     /// Block `number`, from 0.
     pub fn block(&self, number: u64) -> Result<DataBlock, Refusal> {
         let answer = library::block_at(self.content, &mut self.table.borrow_mut(), number);
-        answered(answer.number, answer.offset)?;
+        answered(answer.number, answer.offset, answer.lacking)?;
         Ok(DataBlock {
             number,
             prototype_id: answer.prototype_id,
@@ -211,7 +211,7 @@ impl<'a> BsiiFile<'a> {
     pub fn nth_by_prototype_name(&self, name: impl AsRef<[u8]>, n: u64) -> Result<u64, Refusal> {
         let mut table = self.table.borrow_mut();
         let answer = library::blocks_by_prototype_name(self.content, &mut table, name.as_ref(), n);
-        answered(answer.number, answer.offset)?;
+        answered(answer.number, answer.offset, answer.lacking)?;
         Ok(answer.value)
     }
 
@@ -231,7 +231,7 @@ impl<'a> BsiiFile<'a> {
     pub fn field(&self, block: u64, name: impl AsRef<[u8]>) -> Result<DataField<'a>, Refusal> {
         let mut table = self.table.borrow_mut();
         let answer = library::field_of(self.content, &mut table, block, name.as_ref());
-        answered(answer.number, answer.offset)?;
+        answered(answer.number, answer.offset, answer.lacking)?;
         Ok(DataField {
             type_id: answer.type_id,
             part: self.place(answer.part_offset, answer.part_len),

@@ -213,6 +213,7 @@ fn answered(answer: &Element) -> Result<(), Refusal> {
         number => Err(Refusal {
             number,
             offset: answer.offset,
+            lacking: answer.lacking,
             needed: 0,
         }),
     }

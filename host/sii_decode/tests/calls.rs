@@ -12,7 +12,15 @@ fn refusal(number: u32, offset: u64) -> Refusal {
     Refusal {
         number,
         offset,
+        lacking: 0,
         needed: 0,
+    }
+}
+
+fn cut(offset: u64, lacking: u64) -> Refusal {
+    Refusal {
+        lacking,
+        ..refusal(3, offset)
     }
 }
 
@@ -102,21 +110,35 @@ fn blocks_under_a_name_in_order() {
 
 #[test]
 fn refusals_of_a_file() {
-    let cases: [(Vec<u8>, u32, u64); 9] = [
-        (vec![], 1, 0),
-        (b"BSIJ\x02\0\0\0".to_vec(), 1, 0),
-        (b"BSII\x01\0\0\0".to_vec(), 2, 8),
-        (worked_bytes()[..81].to_vec(), 3, 81),
-        (one_field(0x01, b"\x01\0\0\0\xff"), 4, 44),
-        (one_field(0x03, &[38, 0, 0, 0, 0, 0, 0, 0]), 5, 40),
-        (b"BSII\x02\0\0\0\x07\0\0\0".to_vec(), 6, 8),
-        (one_field(0x08, b""), 7, 40),
-        (vec![0; LENGTH_LIMIT + 1], 12, 0),
+    let cases: [(Vec<u8>, Refusal); 13] = [
+        (vec![], refusal(1, 0)),
+        (b"BSIJ\x02\0\0\0".to_vec(), refusal(1, 0)),
+        (b"BSII\x01\0\0\0".to_vec(), refusal(2, 8)),
+        (b"BSII\x01".to_vec(), cut(4, 3)),
+        (worked_bytes()[..81].to_vec(), cut(81, 1)),
+        (worked_bytes()[..54].to_vec(), cut(53, 7)),
+        (one_field(0x01, b"\xff\xff\xff\xff"), cut(44, 0xffff_fffa)),
+        (one_field(0x01, b"\x01\0\0\0\xff"), refusal(4, 44)),
+        (one_field(0x03, &[38, 0, 0, 0, 0, 0, 0, 0]), refusal(5, 40)),
+        (b"BSII\x02\0\0\0\x07\0\0\0".to_vec(), refusal(6, 8)),
+        (one_field(0x08, b""), refusal(7, 40)),
+        (vec![0; LENGTH_LIMIT + 1], refusal(12, 0)),
+        (b"BSII\x02\0\0\0\0\0\0\0\x03".to_vec(), refusal(15, 12)),
     ];
-    for (bytes, number, offset) in cases {
-        assert_eq!(BsiiFile::parse(&bytes).err(), Some(refusal(number, offset)));
-        assert_eq!(to_siin(&bytes), Err(refusal(number, offset)));
+    for (bytes, refusal) in cases {
+        assert_eq!(BsiiFile::parse(&bytes).err(), Some(refusal));
+        assert_eq!(to_siin(&bytes), Err(refusal));
     }
+}
+
+/// The lacking bytes count in the part.
+#[test]
+fn values_that_run_out() {
+    let element = |type_id, part: &'static [u8]| DataField { type_id, part }.element(0);
+    assert_eq!(element(0x31, b"\x01\x02\x03\x04\x05"), Err(cut(0, 3)));
+    assert_eq!(element(0x28, b"\x02\0\0\0\x01\0\0\0\x02"), Err(cut(8, 3)));
+    assert_eq!(element(0x01, b"\x05\0\0\0ab"), Err(cut(4, 3)));
+    assert_eq!(element(0x35, b""), Err(cut(0, 1)));
 }
 
 #[test]
@@ -207,11 +229,18 @@ fn texts_of_every_length() {
 
 #[test]
 fn each_refusal_has_a_sentence() {
-    let sentences: Vec<_> = (1..=13).map(|n| refusal(n, 0).sentence()).collect();
+    let numbers = (1..=13).chain([15]);
+    let sentences: Vec<_> = numbers.map(|n| refusal(n, 0).sentence()).collect();
     for (at, sentence) in sentences.iter().enumerate() {
         assert!(!sentences[..at].contains(sentence));
     }
-    assert!(!sentences.contains(&refusal(14, 0).sentence()));
+    for none in [0, 14, 16] {
+        assert!(!sentences.contains(&refusal(none, 0).sentence()));
+    }
+    let shown = [cut(81, 1), cut(53, 7), refusal(15, 12)].map(|refusal| refusal.to_string());
+    assert_eq!(shown[0], "refused 3 at 81: the save ends 1 byte early");
+    assert_eq!(shown[1], "refused 3 at 53: the save ends 7 bytes early");
+    assert_eq!(shown[2], "refused 15 at 12: not a record of this format");
     let shown = "refused 4 at 44: a string is not UTF-8";
     assert_eq!(refusal(4, 44).to_string(), shown);
     // `main` prints what it returns by Debug, through a box too
