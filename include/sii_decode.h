@@ -41,7 +41,7 @@ extern "C" {
  * layouts included, for calls are still to be added; a new patch version changes nothing of it. From 1.0 on that takes a new major version.
  */
 #define SII_VERSION_MAJOR 0
-#define SII_VERSION_MINOR 1
+#define SII_VERSION_MINOR 2
 #define SII_VERSION_PATCH 0
 
 /* The most bytes that a file may have, those behind its end record included. */
