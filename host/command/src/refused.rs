@@ -3,7 +3,7 @@
 use crate::arguments::Question;
 use crate::show::{self, Quoted};
 use crate::walk::{self, Block, Place};
-use sii_decode::{BsiiFile, Refusal};
+use sii_decode::{BsiiFile, Refusal, LENGTH_LIMIT};
 
 /// Whether the offset says something about the bytes there.
 fn has_bytes(number: u32) -> bool {
@@ -60,7 +60,7 @@ fn sentence(
 ) -> String {
     let more = match refusal.number {
         1 => not_bsii(content).map(String::from),
-        3 => place.map(|place| cut(refusal, place)),
+        3 => place.map(|place| cut(content, refusal, place)),
         13 => question.and_then(|question| absent(content, question)),
         15 => bad_mark(content, refusal),
         _ => None,
@@ -68,19 +68,27 @@ fn sentence(
     more.unwrap_or_else(|| refusal.sentence())
 }
 
-/// What a save that ends early was cut in. It is the last of what is left.
-fn cut(refusal: &Refusal, place: &Place) -> String {
+/// What a save that ends early was cut in. Bytes with which it would be longer than a save may be were
+/// never cut off.
+fn cut(content: &[u8], refusal: &Refusal, place: &Place) -> String {
     let part = match place {
         Place::Version => "version".into(),
-        Place::Beginning => "last record's beginning".into(),
+        Place::Beginning => "next record's beginning".into(),
         Place::Prototype => "last prototype".into(),
         Place::Block(block) => match block.field {
             Some((name, _)) => format!("block {}, field {}", block.number, Quoted(name)),
             None => format!("block {}", block.number),
         },
     };
-    let early = refusal.sentence();
-    format!("{early} in its {part} (was the stick pulled too soon?)")
+    let early = match refusal.lacking {
+        1 => "1 byte".into(),
+        lacking => format!("{lacking} bytes"),
+    };
+    let why = match refusal.lacking.saturating_add(content.len() as u64) > LENGTH_LIMIT as u64 {
+        true => ": no save is so long, so the length in front of it is damaged",
+        false => " (was the stick pulled too soon?)",
+    };
+    format!("the save ends {early} early in its {part}{why}")
 }
 
 fn bad_mark(content: &[u8], refusal: &Refusal) -> Option<String> {
@@ -95,6 +103,9 @@ fn bad_mark(content: &[u8], refusal: &Refusal) -> Option<String> {
 fn not_bsii(content: &[u8]) -> Option<&'static str> {
     match content {
         [] => Some("the file is empty"),
+        b"B" | b"BS" | b"BSI" => {
+            Some("the file ends within the four bytes BSII (was the stick pulled too soon?)")
+        }
         [b'S', b'c', b's', b'C', ..] => {
             Some("the save is encrypted (ScsC), and only BSII is read: decrypt it first")
         }

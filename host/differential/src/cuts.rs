@@ -192,7 +192,8 @@ impl<'a, 'b> Asked<'a, 'b> {
     /// at the same place, with so many fewer lacking; with as many or more not by 3 at that place.
     fn longer(&mut self, file: &[u8], more: &[u8], words: usize, fault: Fault) -> Check {
         let (number, offset, lacking) = fault;
-        let fewer = usize::try_from(lacking - 1).map_or(more.len(), |most| most.min(more.len()));
+        let fewer = usize::try_from(lacking.saturating_sub(1))
+            .map_or(more.len(), |most| most.min(more.len()));
         let counts = [fewer, self.random.below(fewer + 1)];
         for count in counts.into_iter().filter(|count| *count > 0) {
             let found = self.reading(&[file, &more[..count]].concat(), words)?;

@@ -25,8 +25,8 @@ impl Refusal {
     /// The number in plain words, with the lacking or needed bytes.
     pub fn sentence(&self) -> String {
         match (self.number, self.lacking) {
-            (3, 1) => "the save ends 1 byte early".into(),
-            (3, lacking) => format!("the save ends {lacking} bytes early"),
+            (3, 1) => "the input ends 1 byte early".into(),
+            (3, lacking) => format!("the input ends {lacking} bytes early"),
             (11, _) => format!("{}, which has {} bytes", words(11), self.needed),
             (number, _) => words(number).into(),
         }

@@ -238,8 +238,8 @@ fn each_refusal_has_a_sentence() {
         assert!(!sentences.contains(&refusal(none, 0).sentence()));
     }
     let shown = [cut(81, 1), cut(53, 7), refusal(15, 12)].map(|refusal| refusal.to_string());
-    assert_eq!(shown[0], "refused 3 at 81: the save ends 1 byte early");
-    assert_eq!(shown[1], "refused 3 at 53: the save ends 7 bytes early");
+    assert_eq!(shown[0], "refused 3 at 81: the input ends 1 byte early");
+    assert_eq!(shown[1], "refused 3 at 53: the input ends 7 bytes early");
     assert_eq!(shown[2], "refused 15 at 12: not a record of this format");
     let shown = "refused 4 at 44: a string is not UTF-8";
     assert_eq!(refusal(4, 44).to_string(), shown);
