@@ -119,8 +119,9 @@ pub fn skip_fields(s: &[u8], start: usize) -> Counted
 pub fn fields_at(s: &[u8], offset: usize) -> Parsed
     ensures { λ r. ⌜ r ≡ endOf (uncheckedHead offset (drop offset (now (s .entry)))) ⌝ }
 {
-    if left(s, offset) < 9 {
-        return Parsed::Fault(short(s, offset, 9));
+    let rest = left(s, offset);
+    if rest < 9 {
+        return Parsed::Fault(short(offset, 9, rest));
     }
     skip_str(s, offset + 9)
 }

@@ -24,7 +24,7 @@ ghost use Rattle.bsii_format.specs.Replies.{unlistedType};
 ghost use Rattle.bsii_format.specs.Reader.{repeat};
 ghost use Rattle.bsii_string.specs.Answers.{refusedAt, endOf};
 ghost use Rattle.bsii_value.specs.Kinds.{kindIs};
-ghost use Rattle.bsii_skip.specs.Unchecked.{uncheckedId, uncheckedElement, uncheckedArray, uncheckedValue};
+ghost use Rattle.bsii_skip.specs.Unchecked.{uncheckedId, uncheckedElement, uncheckedValue};
 
 pub fn skip_id(s: &[u8], at: usize) -> Parsed
     ensures { λ r. ⌜ r ≡ endOf (uncheckedId at (drop at (now (s .entry)))) ⌝ }
@@ -83,16 +83,6 @@ pub fn skip_elements(s: &[u8], at: usize, count: u32, kind: Kind) -> Parsed
     }
 }
 
-pub fn skip_array(s: &[u8], at: usize, kind: Kind) -> Parsed
-    ensures { λ r. ⌜ r ≡ endOf (uncheckedArray (kindIs kind) at (drop at (now (s .entry)))) ⌝ }
-{
-    let count = le_u32(s, at);
-    match count {
-        Num::Short(f) => Parsed::Fault(f),
-        Num::Got(n, next) => skip_elements(s, next, n, kind),
-    }
-}
-
 // A type that is not listed has no length that could be guessed.
 fn unlisted(offset: usize) -> Parsed
     ensures { λ r. ⌜ r ≡ Parsed.Fault (refusedAt unlistedType offset) ⌝ }
@@ -100,13 +90,20 @@ fn unlisted(offset: usize) -> Parsed
     Parsed::Fault(refused(UNLISTED_TYPE, offset))
 }
 
+// An array's count is read here and not in a function of its own: so this one stays short enough to be compiled into its callers.
 pub fn skip_value(s: &[u8], at: usize, type_id: u32) -> Parsed
     ensures { λ r. ⌜ r ≡ endOf (uncheckedValue «type_id» at (drop at (now (s .entry)))) ⌝ }
 {
     let shape = shape_of(type_id);
     match shape {
         Shape::One(kind) => skip_element(s, at, kind),
-        Shape::Many(kind) => skip_array(s, at, kind),
+        Shape::Many(kind) => {
+            let count = le_u32(s, at);
+            match count {
+                Num::Short(f) => Parsed::Fault(f),
+                Num::Got(n, next) => skip_elements(s, next, n, kind),
+            }
+        }
         Shape::Unlisted => unlisted(at),
     }
 }

@@ -22,13 +22,13 @@ abbrev pub faultIs : Refusal → replies.Fault
 faultIs f = record { number = f .number; offset = f .offset; lacking = f .lacking }
 
 abbrev pub refusalIs : replies.Fault → Refusal
-refusalIs f = record { number = f .number; lacking = f .lacking; offset = f .offset }
+refusalIs f = record { lacking = f .lacking; number = f .number; offset = f .offset }
 
 abbrev pub refusedAt : ℕ → ℕ → Refusal
-refusedAt n at = record { number = n; lacking = 0; offset = at }
+refusedAt n at = record { lacking = 0; number = n; offset = at }
 
 abbrev pub shortBy : ℕ → ℕ → Refusal
-shortBy at k = record { number = replies.malformed; lacking = k; offset = at }
+shortBy at k = record { lacking = k; number = replies.malformed; offset = at }
 
 -- a position of the file stands for the bytes from there on
 abbrev pub numOf : List ℕ → Num → Result ℕ

@@ -1,15 +1,14 @@
 // What the readers answer: the value and the position after it, or a refusal. specs/Answers says what each case means.
-use crate::numbers::left;
 ghost use mathlib.Core.Path.{_≡_};
 ghost use Prim.Native.Nat.{_-_, _<_};
-ghost use lib.ListN.{length};
 ghost use Rattle.bsii_string.specs.Answers.{refusedAt, shortBy};
 
 // Why and where a file is refused, and with 3 how many bytes are lacking: of one item, so at most a string's u32 length. What hands a refusal on names none
-// of its fields; specs/Answers says what they mean.
+// of its fields; specs/Answers says what they mean. The count stands in front of the number, so that one subtraction makes both, and readers stay short
+// enough to be compiled into their callers.
 pub struct Refusal {
-    pub number: u32,
     pub lacking: u32,
+    pub number: u32,
     pub offset: usize,
 }
 
@@ -18,21 +17,20 @@ pub fn refused(number: u32, offset: usize) -> Refusal
     ensures { λ r. ⌜ r ≡ refusedAt number offset ⌝ }
 {
     Refusal {
-        number,
         lacking: 0,
+        number,
         offset,
     }
 }
 
-// 3: of the bytes of the item that starts at the offset, fewer are left.
-pub fn short(s: &[u8], offset: usize, item: u32) -> Refusal
-    requires { ⌜ length (now s) - offset < item ⌝ }
-    ensures { λ r. ⌜ r ≡ shortBy offset (item - (length (now (s .entry)) - offset)) ⌝ }
+// 3: of the bytes of the item that starts at the offset, fewer are there.
+pub fn short(offset: usize, item: u32, there: usize) -> Refusal
+    requires { ⌜ there < item ⌝ }
+    ensures { λ r. ⌜ r ≡ shortBy offset (item - there) ⌝ }
 {
-    let there = left(s, offset) as u32;
     Refusal {
+        lacking: item - (there as u32),
         number: MALFORMED,
-        lacking: item - there,
         offset,
     }
 }

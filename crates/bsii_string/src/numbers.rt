@@ -37,8 +37,9 @@ pub fn left(s: &[u8], at: usize) -> usize
 pub fn le_u8(s: &[u8], at: usize) -> Num
     ensures { λ r. ⌜ numOf (now (s .entry)) r ≡ number 1 at (drop at (now (s .entry))) ⌝ }
 {
-    if left(s, at) < 1 {
-        return Num::Short(short(s, at, 1));
+    let rest = left(s, at);
+    if rest < 1 {
+        return Num::Short(short(at, 1, rest));
     }
     Num::Got(wide(s[at]), at + 1)
 }
@@ -58,8 +59,9 @@ pub fn quad(s: &[u8], at: usize) -> u32
 pub fn le_u32(s: &[u8], at: usize) -> Num
     ensures { λ r. ⌜ numOf (now (s .entry)) r ≡ number 4 at (drop at (now (s .entry))) ⌝ }
 {
-    if left(s, at) < 4 {
-        return Num::Short(short(s, at, 4));
+    let rest = left(s, at);
+    if rest < 4 {
+        return Num::Short(short(at, 4, rest));
     }
     Num::Got(quad(s, at), at + 4)
 }
@@ -67,8 +69,9 @@ pub fn le_u32(s: &[u8], at: usize) -> Num
 pub fn le_u64(s: &[u8], at: usize) -> Num64
     ensures { λ r. ⌜ numOf64 (now (s .entry)) r ≡ number 8 at (drop at (now (s .entry))) ⌝ }
 {
-    if left(s, at) < 8 {
-        return Num64::Short64(short(s, at, 8));
+    let rest = left(s, at);
+    if rest < 8 {
+        return Num64::Short64(short(at, 8, rest));
     }
     let low = wide64(quad(s, at));
     let high = wide64(quad(s, at + 4));

@@ -22,8 +22,9 @@ pub fn str_parser(s: &[u8], at: usize) -> Str
         Num::Short(f) => Str::Refused(f),
         Num::Got(n, start) => {
             let count = size(n);
-            if left(s, start) < count {
-                return Str::Refused(short(s, start, n));
+            let rest = left(s, start);
+            if rest < count {
+                return Str::Refused(short(start, n, rest));
             }
             let next = start + count;
             if is_utf8(&s[start..next]) {
@@ -54,8 +55,9 @@ pub fn skip_str(s: &[u8], at: usize) -> Parsed
         Num::Short(f) => Parsed::Fault(f),
         Num::Got(n, start) => {
             let count = size(n);
-            if left(s, start) < count {
-                return Parsed::Fault(short(s, start, n));
+            let rest = left(s, start);
+            if rest < count {
+                return Parsed::Fault(short(start, n, rest));
             }
             Parsed::Next(start + count)
         }

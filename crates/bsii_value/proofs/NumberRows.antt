@@ -41,15 +41,13 @@ module _ (s : List ℕ) (at n w : ℕ) where
 
   -- the first number that runs out, by what was left for the row and by the width as the code has them
   pub row-short : {l m : ℕ} → l ≡ length s - at → m ≡ w → 0 < w → l / m < n
-      → endOf {A = Unit {0}} (shortAt (at + l / m * m) (w - (length s - (at + l / m * m)))) ≡ endOf (repeat n (number w) at (drop at s))
+      → endOf {A = Unit {0}} (shortAt (at + l / m * m) (w - (l - l / m * m))) ≡ endOf (repeat n (number w) at (drop at s))
   row-short e f p h =
       let k = (length s - at) / w in
-      let there : length s - (at + k * w) ≡ length s - at - k * w = omega arith in
-      ap₂ (λ (l m : ℕ). endOf {A = Unit {0}} (shortAt (at + l / m * m) (w - (length s - (at + l / m * m))))) e f
-      ∙ ap (λ (m : ℕ). endOf {A = Unit {0}} (shortAt (at + k * w) (w - m))) there
+      ap₂ (λ (l m : ℕ). endOf {A = Unit {0}} (shortAt (at + l / m * m) (w - (l - l / m * m)))) e f
       ∙ answer (repeat n (number w) at (drop at s)) (shortAt (at + k * w) (w - (length s - at - k * w))) (numbers-short n w s at p (rw (e, f) at h))
 
   -- where fewer bytes are left than all have, the count of numbers that fit needs no look
   pub row-cut : {l m : ℕ} → l ≡ length s - at → m ≡ w → l < n * w
-      → endOf {A = Unit {0}} (shortAt (at + l / m * m) (w - (length s - (at + l / m * m)))) ≡ endOf (repeat n (number w) at (drop at s))
+      → endOf {A = Unit {0}} (shortAt (at + l / m * m) (w - (l - l / m * m))) ≡ endOf (repeat n (number w) at (drop at s))
   row-cut e f h = let p = wide n w _ h in row-short e f p (rw f (div-lt-iff-lt-mul p .1 h))

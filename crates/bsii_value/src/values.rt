@@ -36,10 +36,12 @@ pub fn numbers_end(s: &[u8], at: usize, count: usize, width: u32) -> Parsed
         return Parsed::Next(at);
     }
     let each = size(width);
-    let whole = left(s, at) / each;
+    let rest = left(s, at);
+    let whole = rest / each;
     if whole < count {
-        let start = at + whole * each;
-        return Parsed::Fault(short(s, start, width));
+        let fit = whole * each;
+        let part = rest - fit;
+        return Parsed::Fault(short(at + fit, width, part));
     }
     let end = at + count * each;
     Parsed::Next(end)
@@ -62,8 +64,9 @@ pub fn numeric_end(s: &[u8], at: usize, n: Numeric) -> Parsed
     if rest < total {
         let one = width(n);
         let each = size(one);
-        let start = at + rest / each * each;
-        return Parsed::Fault(short(s, start, one));
+        let fit = rest / each * each;
+        let part = rest - fit;
+        return Parsed::Fault(short(at + fit, one, part));
     }
     let end = at + total;
     Parsed::Next(end)

@@ -93,8 +93,9 @@ fn words_end(s: &[u8], start: usize, count: u32) -> Parsed
 fn u64_end(s: &[u8], at: usize) -> Parsed
     ensures { λ r. ⌜ r ≡ endOf (number 8 at (drop at (now (s .entry)))) ⌝ }
 {
-    if left(s, at) < 8 {
-        return Parsed::Fault(short(s, at, 8));
+    let rest = left(s, at);
+    if rest < 8 {
+        return Parsed::Fault(short(at, 8, rest));
     }
     Parsed::Next(at + 8)
 }

@@ -4,6 +4,7 @@ use native.Mathlib.Omega.{arith}
 use denote.Ref.{now}
 use borrow.Author.Needs.{needs}
 use Rattle.bsii_string.specs.Answers.{endOf}
+use Rattle.bsii_string.proofs.Items.{short-of}
 use Rattle.bsii_prototype.proofs.Beginnings.{past-short, past-string}
 use Rattle.bsii_prototype.proofs.skip.fields_at.Statement.{statement}
 use Rattle.bsii_prototype.proofs.skip.fields_at.Tie as tie
@@ -16,7 +17,7 @@ short-requires c κs = search needs
 
 returns : tie.Need-returns
 unfolding endOf
-returns c = let a = c .before .before .before .before .args in rw (c .short .ensures) (sym (ap endOf (past-short (now (a .s)) (a .offset) (omega arith))))
+returns c = let a = c .before .before .before .before .args in rw (c .short .ensures) (ap endOf (short-of 9 (c .before .before .left .ensures) (past-short (now (a .s)) (a .offset) (omega arith))))
 
 add-skip-str : tie.Need-add-skip-str
 add-skip-str c = search needs

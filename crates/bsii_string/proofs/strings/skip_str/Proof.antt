@@ -8,6 +8,7 @@ use denote.Ref.{now}
 use Rattle.bsii_format.specs.Reader.{ok}
 use Rattle.bsii_format.specs.Numbers.{number}
 use Rattle.bsii_string.specs.Answers.{numOf, endOf}
+use Rattle.bsii_string.proofs.Items.{short-of}
 use Rattle.bsii_string.proofs.Texts.{unchecked-short, unchecked-cut, unchecked-whole}
 use borrow.Author.Needs.{needs}
 use Rattle.bsii_string.proofs.strings.skip_str.Statement.{statement}
@@ -48,10 +49,10 @@ short-requires c κs = search needs
 
 returns : tie.Need-returns
 unfolding endOf
-returns c = let d = c .before .before .before in rw (c .short .ensures, sym (d .size .ensures)) (sym (ap endOf (unchecked-cut (S d) (At d) (d .size .result) (Start d) (read d) (omega arith))))
+returns c = let d = c .before .before .before in rw (c .short .ensures, sym (d .size .ensures)) (ap endOf (short-of (d .size .result) (c .before .before .left .ensures) (unchecked-cut (S d) (At d) (d .size .result) (Start d) (read d) (omega arith))))
 
-add-t9 : tie.Need-add-t9
-add-t9 c = search needs
+add-t12 : tie.Need-add-t12
+add-t12 c = search needs
 
 returns-2 : tie.Need-returns-2
 unfolding endOf
@@ -74,6 +75,6 @@ skip-str-spec =
     left-requires
     short-requires
     returns
-    add-t9
+    add-t12
     returns-2
     returns-3)

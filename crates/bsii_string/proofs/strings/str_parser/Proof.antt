@@ -11,6 +11,7 @@ use Rattle.bsii_format.specs.Utf8.{utf8}
 use Rattle.bsii_format.proofs.Parsers.{number-exact}
 use Rattle.bsii_format.proofs.Positions.{moved-on}
 use Rattle.bsii_string.specs.Answers.{numOf}
+use Rattle.bsii_string.proofs.Items.{short-of}
 use Rattle.bsii_string.proofs.Texts.{str-short, str-cut, str-not, str-whole, part}
 use borrow.Author.Needs.{needs}
 use Rattle.bsii_string.proofs.strings.str_parser.Statement.{statement}
@@ -54,7 +55,7 @@ short-requires : tie.Need-short-requires
 short-requires c κs = search needs
 
 returns : tie.Need-returns
-returns c = let d = c .before .before .before in rw (c .short .ensures, sym (d .size .ensures)) (sym (str-cut (S d) (At d) (d .size .result) (Start d) (read d) (omega arith)))
+returns c = let d = c .before .before .before in rw (c .short .ensures, sym (d .size .ensures)) (short-of (d .size .result) (c .before .before .left .ensures) (str-cut (S d) (At d) (d .size .result) (Start d) (read d) (omega arith)))
 
 add-next : tie.Need-add-next
 add-next c = search needs

@@ -21,11 +21,14 @@ left-requires c κs = search needs
 div-whole : tie.Need-div-whole
 div-whole c = search needs
 
-mul-start : tie.Need-mul-start
-mul-start c = let w = c .before .before .size .result in omega (arith, fitting (c .before .left .result / w) w (c .before .left .result) (le-refl _))
+mul-fit : tie.Need-mul-fit
+mul-fit c = let w = c .before .before .size .result in omega (arith, fitting (c .before .left .result / w) w (c .before .left .result) (le-refl _))
 
-add-start : tie.Need-add-start
-add-start c = let w = c .before .before .size .result in omega (arith, fitting (c .before .left .result / w) w (c .before .left .result) (le-refl _))
+sub-part : tie.Need-sub-part
+sub-part c = let w = c .before .before .size .result in omega (arith, fitting (c .before .left .result / w) w (c .before .left .result) (le-refl _))
+
+add-short : tie.Need-add-short
+add-short c = let w = c .before .before .size .result in omega (arith, fitting (c .before .left .result / w) w (c .before .left .result) (le-refl _))
 
 short-requires : tie.Need-short-requires
 short-requires c κs = omega (arith, part (c .before .before .size .result) (c .before .left .result) (omega arith))
@@ -57,8 +60,9 @@ numbers-end-spec =
     size-requires
     left-requires
     div-whole
-    mul-start
-    add-start
+    mul-fit
+    sub-part
+    add-short
     short-requires
     returns-2
     mul-end

@@ -3,7 +3,7 @@ use Prim.Native.Nat.{ℕ, _+_, _-_, _*_, _/_}
 use mathlib.Core.Path.{sym, ap, _∙_}
 use native.Mathlib.Nat.{le-refl}
 use native.Mathlib.Omega.{arith}
-use lib.ListN.{length, drop}
+use lib.ListN.{drop}
 use denote.Ref.{now}
 use Rattle.bsii_format.specs.Reader.{shortAt}
 use Rattle.bsii_format.specs.Types.{width, arity}
@@ -28,17 +28,20 @@ width-requires c κs = search needs
 size-requires : tie.Need-size-requires
 size-requires c κs = search needs
 
-div-start : tie.Need-div-start
-div-start c =
+div-fit : tie.Need-div-fit
+div-fit c =
     let at-if = c .before .before in
     let k = numericIs (at-if .before .before .before .before .args .n) in
     omega (arith, wide (arity k) (width k) (at-if .before .left .result) (omega arith))
 
-mul-start : tie.Need-mul-start
-mul-start c = let l = c .before .before .before .left .result in omega (arith, fitting (l / c .size .result) (c .size .result) l (le-refl _))
+mul-fit : tie.Need-mul-fit
+mul-fit c = let l = c .before .before .before .left .result in omega (arith, fitting (l / c .size .result) (c .size .result) l (le-refl _))
 
-add-start : tie.Need-add-start
-add-start c = let l = c .before .before .before .left .result in omega (arith, fitting (l / c .size .result) (c .size .result) l (le-refl _))
+sub-part : tie.Need-sub-part
+sub-part c = let l = c .before .before .before .left .result in omega (arith, fitting (l / c .size .result) (c .size .result) l (le-refl _))
+
+add-short : tie.Need-add-short
+add-short c = let l = c .before .before .before .left .result in omega (arith, fitting (l / c .size .result) (c .size .result) l (le-refl _))
 
 short-requires : tie.Need-short-requires
 short-requires c κs =
@@ -53,9 +56,10 @@ returns c =
     let at-if = c .before .before .before in
     let a = at-if .before .before .before .before .args in
     let k = numericIs (a .n) in
-    let i = a .at + at-if .before .left .result / c .before .size .result * c .before .size .result in
+    let l = at-if .before .left .result in
+    let fit = l / c .before .size .result * c .before .size .result in
     rw (c .short .ensures)
-    (ap (λ (w : ℕ). endOf {A = Unit {0}} (shortAt i (w - (length (now (a .s)) - i)))) (c .before .before .width .ensures)
+    (ap (λ (w : ℕ). endOf {A = Unit {0}} (shortAt (a .at + fit) (w - (l - fit)))) (c .before .before .width .ensures)
     ∙ row-cut (now (a .s)) (a .at) (arity k) (width k) (at-if .before .left .ensures) (c .before .size .ensures ∙ c .before .before .width .ensures) (omega arith)
     ∙ sym (numbers-end k (a .at) (drop (a .at) (now (a .s)))))
 
@@ -76,9 +80,10 @@ numeric-end-spec =
     left-requires
     width-requires
     size-requires
-    div-start
-    mul-start
-    add-start
+    div-fit
+    mul-fit
+    sub-part
+    add-short
     short-requires
     returns
     add-end
