@@ -275,18 +275,33 @@ impl<'a, 'b> Asked<'a, 'b> {
         Ok(())
     }
 
-    /// Any file that is refused by 3, with a table of any size, and any bytes behind it.
+    /// Any file that is refused, with a table of any size, and any bytes behind it.
     fn runs_out(&mut self, file: &[u8]) -> Check {
         let words = match self.random.chance(80) {
             true => file.len(),
             false => self.random.below(12),
         };
         let fault = self.reading(file, words)?;
-        if fault.0 != 3 {
+        match fault.0 {
+            0 => Ok(()),
+            3 => {
+                self.counts.damaged += 1;
+                let any = self.any_bytes(fault.2 as usize);
+                self.longer(file, &any, words, fault)
+            }
+            _ => self.unchanged(file, words, fault),
+        }
+    }
+
+    /// A file of at least four bytes that is refused by another number, with any bytes behind it.
+    fn unchanged(&mut self, file: &[u8], words: usize, fault: Fault) -> Check {
+        if file.len() < 4 {
             return Ok(());
         }
-        self.counts.damaged += 1;
-        let any = self.any_bytes(fault.2 as usize);
-        self.longer(file, &any, words, fault)
+        let any = self.any_bytes(20);
+        let found = self.reading(&[file, &any].concat(), words)?;
+        let asked = || format!("{} bytes and {} more", file.len(), any.len());
+        self.counts.unchanged += 1;
+        self.same("another number", asked, found, fault)
     }
 }

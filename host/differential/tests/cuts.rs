@@ -23,11 +23,12 @@ enum Fault {
     BadMarkAtTheRecord,
     BadMarkIsMalformed,
     SmallMarksAreMalformed,
+    NumberByTheLength,
     RefusesEach,
 }
 
 /// Each with the check that finds it out first.
-const FAULTS: [(Fault, &str); 16] = [
+const FAULTS: [(Fault, &str); 17] = [
     (Fault::LackingIsTheSize, "fewer than lacking"),
     (Fault::LackingToTheValuesEnd, "fewer than lacking"),
     (Fault::LackingAtLeastOne, "as many as lacking"),
@@ -43,6 +44,7 @@ const FAULTS: [(Fault, &str); 16] = [
     (Fault::BadMarkAtTheRecord, "a mark"),
     (Fault::BadMarkIsMalformed, "as many as lacking"),
     (Fault::SmallMarksAreMalformed, "a mark"),
+    (Fault::NumberByTheLength, "another number"),
     (Fault::RefusesEach, "a whole save"),
 ];
 
@@ -122,6 +124,7 @@ impl Impostor {
             (Fault::MissingMarkIsBad, 3) if is_cut && self.marks.contains(&kept) => {
                 answer.refused(15, offset)
             }
+            (Fault::NumberByTheLength, 4..=7) if kept % 2 == 1 => answer.refused(10, offset),
             (Fault::RefusesEach, _) => answer.refused(3, 8).lacking(1),
             (_, 15) => self.marked(answer, file[offset as usize], offset),
             _ => answer,

@@ -27,6 +27,8 @@ pub struct Counts {
     pub values: u64,
     pub marks: u64,
     pub lengths: u64,
+    /// Files that are refused by another number than 3, with bytes behind them.
+    pub unchanged: u64,
 }
 
 impl Counts {
@@ -40,6 +42,7 @@ impl Counts {
         self.values += other.values;
         self.marks += other.marks;
         self.lengths += other.lengths;
+        self.unchanged += other.unchanged;
     }
 
     pub fn summary(&self, tally: &Tally) -> String {
@@ -57,8 +60,8 @@ impl Counts {
         );
         let _ = writeln!(
             text,
-            "changes     {} marks, {} lengths",
-            self.marks, self.lengths
+            "changes     {} marks, {} lengths; {} other refusals with bytes behind them",
+            self.marks, self.lengths, self.unchanged
         );
         let _ = writeln!(text, "answers     {}", tally.answers);
         let _ = writeln!(text, "differences {}", tally.differences);
