@@ -1,7 +1,7 @@
 -- Refusals: document 01, "Replies in number order"; document 02, E2; FORMAT.md, "Replies".
 use Prim.Native.Nat.{ℕ}
 
--- The numbers, each with 01's trade word. Where a refusal is given, and its offset, is said where it is used.
+-- The numbers, each with its trade word. Where a refusal is given, and its offset, is said where it is used.
 abbrev pub invalidHeader : ℕ  -- header
 invalidHeader = 1
 

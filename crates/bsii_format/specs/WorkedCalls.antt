@@ -119,7 +119,8 @@ readings =
     readingCall 3 (twiceFile (definition 0x27 (ascii "c")) (u32 3)) says refusal undefinedPrototype 44 ∷ []
 
 -- Files that were cut, in the order of the cuts: a part of `BSII`, `BSII` alone, in the version, in a record number, in front of a mark, in a string, in
--- the file above in front of a definition's type, in its last value and in front of the end record's mark. Then a mark that is none, which is not a cut
+-- the file above in front of a definition's type, in its first value and in front of the end record's mark. Then the whole of it, and a mark that is none,
+-- which is not a cut
 unfoldable pub cutReadings : List (Fact (Reply Reading))
 cutReadings =
     readingCall 3 (take 3 smallFile) says refusal invalidHeader 0 ∷
