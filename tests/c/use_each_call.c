@@ -446,7 +446,7 @@ static void cuts(void)
 /* bytes without a terminator, and how many */
 #define BYTES(literal) (literal), sizeof(literal) - 1
 
-/* the examples of the readings of document 02, E2: a name, a save with a u16 in two blocks, and a placement whose last float is cut */
+/* cuts, by their offsets and lacking bytes: a name, a save with a u16 in two blocks, and a placement whose last float is cut */
 static void worked_cuts(void)
 {
     static const char save[] = "BSII\2\0\0\0"

@@ -12,7 +12,7 @@ use Rattle.bsii_format.specs.Calls.{Reading, readingCall, elementCall}
 pub record Lacks (words : ℕ) (s : List ℕ) (at m : ℕ) : Type 0 where
   -- fewer than are lacking: refused at the same place, that many fewer lacking
   pub fewer : (t : List ℕ) → length t < m → length (s ++ t) ≤ lengthLimit → readingCall words (s ++ t) ≡ refuses (short at (m - length t))
-  -- as many or more: not refused by 3 there, but behind it or not at all
+  -- as many or more: refused by 3 only behind that place
   pub enough : (t : List ℕ) → m ≤ length t → (p k : ℕ) → readingCall words (s ++ t) ≡ refuses (short p k) → at < p
 
 abbrev pub LackingIsExact : Type 0

@@ -85,7 +85,7 @@ fn cut(content: &[u8], refusal: &Refusal, place: &Place) -> String {
         lacking => format!("{lacking} bytes"),
     };
     let why = match refusal.lacking.saturating_add(content.len() as u64) > LENGTH_LIMIT as u64 {
-        true => ": no save is so long, so the length in front of it is damaged",
+        true => ": no save is so long, so it is damaged in front of that",
         false => " (was the stick pulled too soon?)",
     };
     format!("the save ends {early} early in its {part}{why}")

@@ -1,4 +1,4 @@
-//! The worked bytes of documents 01 and 02, and offsets and lacking bytes that no other side gives.
+//! Document 01's worked bytes, and offsets and lacking bytes that no other side gives.
 
 use calls::{Call, Element, Implementation, Lent, Text};
 use model::Model;
@@ -156,7 +156,7 @@ fn bytes(hex: &str) -> Vec<u8> {
     (0..hex.len()).step_by(2).map(byte).collect()
 }
 
-/// A save with a u16 in two blocks: save A of the readings of document 02.
+/// A save with a u16 in two blocks.
 const SAVE_A: &str = "425349490200000000000000010300000001000000742b000000010000006e00000000\
                       030000000005000300000001220000000000000007000000000000";
 /// A placement of seven floats: the eighth takes four bytes of the end record.
