@@ -1,17 +1,17 @@
 -- Bytes appended to a file of four bytes or more, by the law of proofs/Extends.antt for every reader of the layout. The header alone has no such law: what
 -- is shorter than `BSII` is refused by 1, and more bytes may cure that.
-use mathlib.Core.Path.{_≡_, refl, ap}
+use mathlib.Core.Path.{refl, ap}
 use Prim.Native.Nat.{ℕ, zero, suc, _+_, _≤_, _<_}
 use native.Mathlib.Omega.{arith}
 use mathlib.Core.Bool.{Bool, true, false, cond}
 use mathlib.Core.Option.{Option, none, some}
 use mathlib.Core.List.{List, [], _∷_, _++_}
-use lib.ListN.{length, take, drop, length-append}
+use lib.ListN.{length, take, drop}
 use lib.Seq.{take-append-le, drop-append-le}
 use lib.Dec.{leb, eqb}
 use Rattle.bsii_format.specs.Ascii.{ascii}
-use Rattle.bsii_format.specs.Replies.{Fault, invalidHeader, unsupportedVersion, notUtf8, zeroDigit, undefinedPrototype, unlistedType, tableFull, badMark}
-use Rattle.bsii_format.specs.Reader.{ok, fault, faultAt, Reader, after, _>>=_, success, fail, exhausted, _<$>_, bytes, Consumed, with, consumed, same, tag}
+use Rattle.bsii_format.specs.Replies.{invalidHeader, unsupportedVersion, notUtf8, zeroDigit, undefinedPrototype, unlistedType, tableFull, badMark}
+use Rattle.bsii_format.specs.Reader.{fault, faultAt, Reader, after, _>>=_, success, fail, exhausted, _<$>_, bytes, Consumed, with, consumed, same, tag}
 use Rattle.bsii_format.specs.Numbers.{littleEndian, number, leU32}
 use Rattle.bsii_format.specs.Utf8.{utf8}
 use Rattle.bsii_format.specs.Strings.{strParser, low63, spelled, encodedStrParser, Id, nameless, named, idParser}
@@ -20,9 +20,9 @@ use Rattle.bsii_format.specs.Values.{Element, nums, str, word, ident, Va
 use Rattle.bsii_format.specs.Prototypes.{EnumValue, ValuePrototype, Prototype, enumValueParser, enumValuesParser, valuePrototypeParser, Fields, consField, fieldsThen, fieldsFrom, fieldsParser}
 use Rattle.bsii_format.specs.Blocks.{DataValue, getPrototype, dataValue, dataValueParser, dataValuesParser}
 use Rattle.bsii_format.specs.File.{Head, ending, defining, carrying, markParser, headParser, Step, end, more, prototypeStep, blockStep, dataBlockParser, stepParser, recordParser, define, hasRoom, Records, consRecord, recordsThen, recordsFrom, recordsParser, headerParser, BsiiFile, bsiiFile, bsiiParser}
-use Rattle.bsii_format.proofs.Readers.{Exact, takes, consumed-exact}
+use Rattle.bsii_format.proofs.Readers.{shorter, consumed-exact}
 use Rattle.bsii_format.proofs.Parsers.{id-exact, element-exact, value-exact, valuePrototype-exact, head-exact, header-exact}
-use Rattle.bsii_format.proofs.Records.{GoodStep, stepBytes, head-takes, record-takes, record-good}
+use Rattle.bsii_format.proofs.Records.{record-exact, record-empty}
 use Rattle.bsii_format.proofs.Extends.{From, Extended, Extends, Onward, Other, after-extended, success-extends, refusal-extends, fail-extends, after-extends, bind-extends, map-from, map-extended, map-extends, repeat-extends, cond-extends, tested, verify-extends, consumed-extended, consumed-extends, bytes-extends, Loop, loop-from, loop-extended}
 
 -- ---- values
@@ -81,13 +81,6 @@ unfolding valuePrototypeParser
 entry-extends =
     bind-extends _ (number-extends 4)
     (λ t. cond-extends (eqb t 0) (success-extends none) (bind-extends _ str-extends (λ n. bind-extends _ (enumValues-extends t) (λ l. success-extends _))))
-
--- a reader that refuses the empty file leaves fewer bytes than there were
-shorter : {A : Type 0} {R : Reader A} → Exact A R → {f : Fault} → R 0 [] ≡ fault f → (at : ℕ) (s : List ℕ) (v : A) (n : ℕ) (r : List ℕ) → R at s ≡ ok v n r
-    → length r < length s
-shorter {R = R} x z at s v n r e =
-    let k = x .took at s v n r e in
-    omega (arith, takes R (k .1 .fits) z, ap length (k .1 .front), length-append (k .0) r)
 
 then-from : (R : Reader Fields) (o : Option ValuePrototype) (c : List ℕ) (at : ℕ) (s : List ℕ) → From at (R at s) → From at (fieldsThen R o c at s)
 unfolding fieldsThen
@@ -151,16 +144,6 @@ record-extends env =
     after-extends (λ start h. stepParser env start (h .raw) (h .value)) (consumed-extends head-exact head-extends)
     (λ start h. step-extends env start (h .raw) (h .value))
 
-step-takes : (env : List Prototype) (q : Step) → GoodStep env q → 1 ≤ length (stepBytes q)
-unfolding stepBytes
-step-takes env (end l) g = head-takes g
-step-takes env (more i) g = record-takes env i g
-
-record-less : (env : List Prototype) (at : ℕ) (s : List ℕ) (q : Step) (n : ℕ) (r : List ℕ) → recordParser env at s ≡ ok q n r → length r < length s
-record-less env at s q n r e =
-    let x = record-good env at s q n r e in
-    omega (arith, step-takes env q (x .good), ap length (x .front), length-append (stepBytes q) r)
-
 module _ (rooms : ℕ) (env : List Prototype) (start : ℕ) where
   next-from : (M : List Prototype → Reader Records) → Onward M → Onward (recordsThen rooms env start M)
   unfolding recordsThen
@@ -183,13 +166,13 @@ module _ (rooms : ℕ) (env : List Prototype) (start : ℕ) where
       go false = refusal-extends Records tableFull start tt .extended at s t
 
 records-loop : (rooms : ℕ) → Loop (List Prototype) Step Records (recordsFrom rooms) recordParser (recordsThen rooms)
-unfolding recordsFrom exhausted recordParser consumed headParser _>>=_ after number _<$>_ bytes
+unfolding recordsFrom exhausted
 records-loop rooms = record {
   stop = λ env at s. refl;
-  due = λ env at. refl;
+  due = record-empty;
   step = λ n env at s. refl;
   extends = record-extends;
-  less = record-less;
+  less = λ env. shorter (record-exact env) (record-empty env 0);
   onward = next-from rooms;
   extended = next-extended rooms;
 }

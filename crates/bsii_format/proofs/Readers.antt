@@ -271,3 +271,10 @@ fits-well-formed {A} {R} {v} {c} h = ap (R 0) (sym (append-nil c)) ∙ h .reads 
 pub takes : {A : Type 0} (R : Reader A) {v : A} {c : List ℕ} {f : Fault} → Fits A R v c → R 0 [] ≡ fault f → 1 ≤ length c
 takes R {c = []} h e = fault≢ok (sym e ∙ h .reads 0 [])
 takes R {c = x ∷ c} h e = omega arith
+
+-- and leaves fewer bytes than there were
+pub shorter : {A : Type 0} {R : Reader A} → Exact A R → {f : Fault} → R 0 [] ≡ fault f → (at : ℕ) (s : List ℕ) (v : A) (n : ℕ) (r : List ℕ) → R at s ≡ ok v n r
+    → length r < length s
+shorter {R = R} x z at s v n r e =
+    let k = x .took at s v n r e in
+    omega (arith, takes R (k .1 .fits) z, ap length (k .1 .front), length-append (k .0) r)

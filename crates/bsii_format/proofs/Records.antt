@@ -1,23 +1,23 @@
 -- What the reader accepts is a row of well-formed parts whose bytes are the file's (A), and a row of well-formed parts is accepted (B):
 -- for field definitions, a block's values, records and lists of records.
-use mathlib.Core.Path.{_≡_, refl, sym, ap, ap₂, _∙_, subst}
+use mathlib.Core.Path.{_≡_, refl, sym, ap, _∙_, subst}
 use Prim.Native.Nat.{ℕ, zero, suc, _+_, _≤_, _<_}
-use native.Mathlib.Nat.{add-assoc, add-zero, zero-add, suc-add}
+use native.Mathlib.Nat.{add-assoc, add-zero}
 use native.Mathlib.Omega.{arith}
 use mathlib.Core.Bool.{Bool, true, false, cond}
 use mathlib.Core.Option.{Option, none, some}
 use mathlib.Core.List.{List, [], _∷_, _++_, append-assoc, append-nil}
 use lib.ListN.{length, length-append}
 use lib.Dec.{T, leb→le, le→leb}
-use Rattle.bsii_format.specs.Replies.{Fault, tableFull}
-use Rattle.bsii_format.specs.Reader.{Result, ok, fault, faultAt, Reader, after, _>>=_, success, exhausted, _<$>_, bytes, Consumed, with, consumed}
+use Rattle.bsii_format.specs.Replies.{Fault}
+use Rattle.bsii_format.specs.Reader.{ok, fault, shortAt, Reader, after, _>>=_, success, exhausted, _<$>_, bytes, Consumed, with, consumed}
 use Rattle.bsii_format.specs.Numbers.{number}
 use Rattle.bsii_format.specs.Strings.{Id, isSome, idParser}
 use Rattle.bsii_format.specs.Values.{Value, valueParser}
 use Rattle.bsii_format.specs.Prototypes.{ValuePrototype, Prototype, valuePrototypeParser, Fields, consField, fieldsThen, fieldsFrom, fieldsParser}
 use Rattle.bsii_format.specs.Blocks.{DataValue, DataBlock, getPrototype, dataValue, dataValueParser, dataValuesParser}
 use Rattle.bsii_format.specs.File.{Record, prototype, block, Head, ending, defining, carrying, headParser, Step, end, more, prototypeStep, blockStep, dataBlockParser, stepParser, recordParser, define, distinctIds, hasRoom, Records, consRecord, recordsThen, recordsFrom, recordsParser, fieldsBytes, valuesBytes, recordBytes, recordsBytes, defineAll}
-use Rattle.bsii_format.proofs.Readers.{Fits, Took, Exact, fault≢ok, ok-val, ok-at, ok-rest, ok-move, after-ok, cond-ok, is-true, bind-fits, success-fits, map-fits, map-ok, map-fault, consumed-fits, Kept, consumed-took, takes}
+use Rattle.bsii_format.proofs.Readers.{Fits, Exact, fault≢ok, ok-move, after-ok, is-true, bind-fits, success-fits, map-fits, map-ok, consumed-fits, consumed-took, takes}
 use Rattle.bsii_format.proofs.Parsers.{value-exact, id-exact, valuePrototype-exact, head-exact}
 
 -- ---- field definitions
@@ -268,11 +268,25 @@ unfolding hasRoom define
 room-had rooms (prototype p) env h k = leb→le (distinctIds (p ∷ env)) rooms h
 room-had rooms (block b) env h k = k
 
+-- ---- a record takes a byte at least
+
+pub record-exact : (env : List Prototype) → Exact Step (recordParser env)
+record-exact env = record {
+  took = λ at s v at′ r e.
+      let g = record-good env at s v at′ r e in
+      (stepBytes v, record { front = g .front; place = g .place; fits = record-fits env v (g .good) });
+}
+
+-- with no byte left its number runs out
+pub record-empty : (env : List Prototype) (at : ℕ) → recordParser env at [] ≡ shortAt at 4
+unfolding recordParser after consumed headParser _>>=_ number _<$>_ bytes
+record-empty env at = refl
+
 pub head-takes : {h : Head} {c : List ℕ} → Fits Head headParser h c → 1 ≤ length c
 unfolding headParser _>>=_ after number _<$>_ bytes
 head-takes h = takes headParser h refl
 
-pub record-takes : (env : List Prototype) (i : Record) → GoodRecord env i → 1 ≤ length (recordBytes i)
+record-takes : (env : List Prototype) (i : Record) → GoodRecord env i → 1 ≤ length (recordBytes i)
 unfolding recordBytes
 record-takes env (prototype p) g = rw length-append (omega (arith, head-takes (g .head)))
 record-takes env (block b) g = rw length-append (omega (arith, head-takes (g .head)))

@@ -15,7 +15,7 @@ use Rattle.bsii_format.specs.File.{Record, prototype, block, ending, defining, 
 use Rattle.bsii_format.specs.Calls.{Placed, consPrototype}
 use Rattle.bsii_format.proofs.Readers.{Exact, bind-exact}
 use Rattle.bsii_format.proofs.Parsers.{id-exact}
-use Rattle.bsii_format.proofs.Records.{stepBytes, record-good, fields-good, fields-fits, values-good, values-fits}
+use Rattle.bsii_format.proofs.Records.{stepBytes, record-good, fields-good, fields-fits, values-good, values-fits, record-exact, record-empty}
 use Rattle.bsii_format.proofs.Positions.{moved, moved-on}
 use Rattle.bsii_string.specs.Answers.{faultIs, refusalIs, refusedAt}
 use Rattle.bsii_string.specs.declared.answers.Refusal.{Refusal}
@@ -38,7 +38,7 @@ use Rattle.bsii_parse.specs.Walks.{DefinedAt, DefinedEnd, blockCount, be
 use Rattle.bsii_parse.specs.declared.walk.Progress.{Progress}
 use Rattle.bsii_parse.specs.declared.walk.ReadStep.{ReadStep}
 use Rattle.bsii_parse.specs.declared.walk.ReadStep.the-variants.{Go, End, Refused}
-use Rattle.bsii_parse.proofs.Records.{record-exact, record-empty, records-fault, records-end, records-full, records-more}
+use Rattle.bsii_parse.proofs.Records.{records-fault, records-end, records-full, records-more}
 use Rattle.bsii_parse.proofs.RecordSteps.{record-fault, record-end, prototypeOf, record-prototype, record-fields-fault, record-undefined, record-block-fault, record-block}
 use Rattle.bsii_parse.proofs.Tables.{offsets-put, bare-cons}
 

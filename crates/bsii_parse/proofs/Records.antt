@@ -1,48 +1,20 @@
 -- One step of a walk over the records of a file.
-use mathlib.Core.Path.{_≡_, refl, sym, ap, ap₂, _∙_, subst}
+use mathlib.Core.Path.{_≡_, refl, sym, ap, _∙_}
 use Prim.Native.Nat.{ℕ, zero, suc, _+_, _-_, _≤_, _<_}
 use native.Mathlib.Omega.{arith}
 use mathlib.Core.Bool.{Bool, true, false, cond}
-use mathlib.Core.Option.{Option, none, some}
-use mathlib.Core.List.{List, [], _∷_, _++_, append-assoc, append-nil}
-use lib.ListN.{length, drop, length-append, length-drop}
+use mathlib.Core.List.{List, [], _∷_, _++_, append-assoc}
+use lib.ListN.{length, drop}
 use lib.Dec.{T}
 use Rattle.bsii_format.specs.Replies.{Fault, tableFull}
-use Rattle.bsii_format.specs.Reader.{Result, ok, fault, faultAt, shortAt, Reader, after, _>>=_, success, exhausted, _<$>_, bytes, Consumed, with, consumed}
-use Rattle.bsii_format.specs.Numbers.{number}
+use Rattle.bsii_format.specs.Reader.{Result, ok, fault, faultAt, Reader, after, _>>=_, success, exhausted, _<$>_}
 use Rattle.bsii_format.specs.Prototypes.{Prototype}
-use Rattle.bsii_format.specs.File.{Record, prototype, block, Step, end, more, headParser, recordParser, recordBytes, define, hasRoom, Records, consRecord, recordsThen, recordsFrom, defineAll}
-use Rattle.bsii_format.proofs.Readers.{Fits, Exact, fault≢ok, ok-val, ok-at, ok-rest}
-use Rattle.bsii_format.proofs.Positions.{Moved}
-use Rattle.bsii_format.proofs.Records.{GoodTaken, GoodStep, GoodRecord, stepBytes, record-fits, record-good, head-takes}
+use Rattle.bsii_format.specs.File.{Record, prototype, block, Step, end, more, recordParser, define, hasRoom, Records, consRecord, recordsThen, recordsFrom, defineAll}
+use Rattle.bsii_format.proofs.Readers.{shorter}
+use Rattle.bsii_format.proofs.Records.{record-exact, record-empty}
 use Rattle.bsii_parse.specs.Walks.{blockCount, behind, recordsAt}
 
--- ---- the record reader is exact, and takes a byte at least
-
-pub record-exact : (env : List Prototype) → Exact Step (recordParser env)
-record-exact env = record {
-  took = λ at s v at′ r e.
-      let g = record-good env at s v at′ r e in
-      (stepBytes v, record { front = g .front; place = g .place; fits = record-fits env v (g .good) });
-}
-
 -- ---- the fuel does not show
-
-pub record-empty : (env : List Prototype) (at : ℕ) → recordParser env at [] ≡ shortAt at 4
-unfolding recordParser after consumed headParser _>>=_ number _<$>_ bytes
-record-empty env at = refl
-
-step-takes : (env : List Prototype) (q : Step) → GoodStep env q → 1 ≤ length (stepBytes q)
-unfolding stepBytes recordBytes
-step-takes env (end l) g = head-takes g
-step-takes env (more (prototype p)) g = rw length-append (omega (arith, head-takes (g .head)))
-step-takes env (more (block b)) g = rw length-append (omega (arith, head-takes (g .head)))
-
-shorter : (env : List Prototype) (at : ℕ) (s : List ℕ) (q : Step) (at′ : ℕ) (r : List ℕ) → recordParser env at s ≡ ok q at′ r → length r < length s
-shorter env at s q at′ r e =
-    let g = record-good env at s q at′ r e in
-    let l : length s ≡ length (stepBytes q) + length r = ap length (g .front) ∙ length-append (stepBytes q) r in
-    omega (arith, step-takes env q (g .good))
 
 cond-same : {A : Type 0} (b : Bool) (R R′ S : Reader A) (at : ℕ) (s : List ℕ) → R at s ≡ R′ at s → cond b R S at s ≡ cond b R′ S at s
 cond-same true R R′ S at s e = e
@@ -75,7 +47,7 @@ records-fuel rooms (suc n) (suc m) env at s h k =
     (λ i at′ r e. records-fuel rooms n m (define i env) at′ r (less n h i at′ r e) (less m k i at′ r e))
   where
     less : (n : ℕ) → length s ≤ suc n → (i : Record) (at′ : ℕ) (r : List ℕ) → recordParser env at s ≡ ok (more i) at′ r → length r ≤ n
-    less n h i at′ r e = let z = shorter env at s (more i) at′ r e in omega arith
+    less n h i at′ r e = let z = shorter (record-exact env) (record-empty env 0) at s (more i) at′ r e in omega arith
 
 -- ---- the records from a position on, and one step of them
 
@@ -100,7 +72,7 @@ module _ (rooms : ℕ) (env : List Prototype) (at : ℕ) (s : List ℕ) where
       → recordsAt rooms env at s ≡ behind (i ∷ []) (recordsAt rooms (define i env) n s)
   unfolding after recordsThen _<$>_ _>>=_
   records-more {i} {n} e h =
-      let z = shorter env at (drop at s) (more i) n (drop n s) e in
+      let z = shorter (record-exact env) (record-empty env 0) at (drop at s) (more i) n (drop n s) e in
       unfolded ∙ rw (e, h)
       (ap (λ q. after q (λ a. success (consRecord i a))) (records-fuel rooms (length (drop at s)) (length (drop n s)) (define i env) n (drop n s) (omega arith) (omega arith))
       ∙ put (recordsAt rooms (define i env) n s))

@@ -6,11 +6,11 @@ use native.Mathlib.Nat.{zero-add}
 use native.Mathlib.Omega.{arith}
 use mathlib.Core.Option.{Option, none, some}
 use mathlib.Core.List.{List, [], _∷_}
-use lib.ListN.{length, take, drop, length-append}
+use lib.ListN.{length, take, drop}
 use Rattle.bsii_format.specs.Replies.{Fault as Refused}
 use Rattle.bsii_format.specs.Reader.{Result, ok, fault, shortAt, Reader, after, _>>=_, success, exhausted, _<$>_, Consumed, with, consumed}
 use Rattle.bsii_format.specs.Prototypes.{ValuePrototype, Fields as FieldList, consField, fieldsThen}
-use Rattle.bsii_format.proofs.Readers.{Exact, consumed-took, takes}
+use Rattle.bsii_format.proofs.Readers.{Exact, consumed-exact, shorter}
 use Rattle.bsii_format.proofs.Positions.{moved, moved-on}
 use Rattle.bsii_string.specs.Answers.{refusalIs}
 use Rattle.bsii_string.specs.declared.answers.Refusal.{Refusal}
@@ -43,11 +43,8 @@ consumed-fault R e = rw e
 -- ---- fuel
 
 module _ (S : Reader (List ℕ)) (x : Exact (List ℕ) S) where
-  shorter : (at : ℕ) (s : List ℕ) (e : Consumed (Option ValuePrototype)) (n : ℕ) (r : List ℕ) → consumed (entryWith S) at s ≡ ok e n r → length r < length s
-  shorter at s e n r h =
-      let k = consumed-took (entry-exact x) at s e n r h in
-      let one : 1 ≤ length (e .raw) = takes (entryWith S) (k .fit) (entry-none S 0) in
-      omega (arith, ap length (k .front) ∙ length-append (e .raw) r)
+  less : (at : ℕ) (s : List ℕ) (e : Consumed (Option ValuePrototype)) (n : ℕ) (r : List ℕ) → consumed (entryWith S) at s ≡ ok e n r → length r < length s
+  less = shorter (consumed-exact (entry-exact x)) (consumed-fault (entryWith S) (entry-none S 0))
 
   empty : (n at : ℕ) → fieldsFromWith S n at [] ≡ shortAt at 4
   unfolding fieldsFromWith exhausted _>>=_ after
@@ -65,7 +62,7 @@ module _ (S : Reader (List ℕ)) (x : Exact (List ℕ) S) where
   fuel (suc n) (suc m) at s h k =
       after-same (consumed (entryWith S) at s) _ _
       (λ e i r q. then-same (fieldsFromWith S n) (fieldsFromWith S m) (e .value) (e .raw) i r
-      (fuel n m i r (omega (arith, shorter at s e i r q)) (omega (arith, shorter at s e i r q))))
+      (fuel n m i r (omega (arith, less at s e i r q)) (omega (arith, less at s e i r q))))
 
   -- one step, at any position: past the end too
   pub fields-unfold : (at : ℕ) (s : List ℕ) → fieldsWith S at s ≡ after (consumed (entryWith S) at s) (λ e. fieldsThen (fieldsWith S) (e .value) (e .raw))
@@ -74,7 +71,7 @@ module _ (S : Reader (List ℕ)) (x : Exact (List ℕ) S) where
   fields-unfold at (b ∷ s) =
       after-same (consumed (entryWith S) at (b ∷ s)) _ _
       (λ e i r q. then-same (fieldsFromWith S (length s)) (fieldsWith S) (e .value) (e .raw) i r
-      (fuel (length s) (length r) i r (omega (arith, shorter at (b ∷ s) e i r q)) (omega arith)))
+      (fuel (length s) (length r) i r (omega (arith, less at (b ∷ s) e i r q)) (omega arith)))
 
   module _ (at : ℕ) (s : List ℕ) where
     pub fields-last : {n : ℕ} {r : List ℕ} → entryWith S at s ≡ ok none n r → fieldsWith S at s ≡ ok (record { fields = []; terminator = take (n - at) s }) n r

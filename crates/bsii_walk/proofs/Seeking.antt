@@ -10,9 +10,9 @@ use Rattle.bsii_format.specs.Prototypes.{Prototype}
 use Rattle.bsii_format.specs.File.{Record, prototype, block, Step, end, more, recordParser, recordBytes, define, hasRoom, Records}
 use Rattle.bsii_format.proofs.Readers.{fault≢ok, ok-val, ok-at, ok-rest}
 use Rattle.bsii_format.proofs.Positions.{moved}
-use Rattle.bsii_format.proofs.Records.{record-good, head-takes, GoodStep, stepBytes}
+use Rattle.bsii_format.proofs.Records.{record-good, head-takes, GoodStep, stepBytes, record-exact}
 use Rattle.bsii_parse.specs.Walks.{behind, recordsAt}
-use Rattle.bsii_parse.proofs.Records.{record-exact, records-fault, records-end, records-full, records-more}
+use Rattle.bsii_parse.proofs.Records.{records-fault, records-end, records-full, records-more}
 
 -- a record from `at` to n
 pub record Passed (env : List Prototype) (s : List ℕ) (at n : ℕ) (i : Record) : Type 0 where
