@@ -68,8 +68,10 @@ typeTable =
     0x06 is many (numbers float) ∷
     0x07 is one (numbers floatVec2) ∷
     0x09 is one (numbers floatVec3) ∷
+    0x0a is many (numbers floatVec3) ∷
     0x11 is one (numbers int32Vec3) ∷
     0x12 is many (numbers int32Vec3) ∷
+    0x17 is one (numbers floatVec4) ∷
     0x18 is many (numbers floatVec4) ∷
     0x19 is one (numbers floatVec8) ∷
     0x1a is many (numbers floatVec8) ∷
