@@ -134,8 +134,16 @@ unfolding shapeOf shapeIn typeTable
 returns-32 c = ap shapeOf (sym (c .match .keys32))
 
 returns-33 : tie.Need-returns-33
+unfolding shapeOf shapeIn typeTable
+returns-33 c = ap shapeOf (sym (c .match .keys33))
+
+returns-34 : tie.Need-returns-34
+unfolding shapeOf shapeIn typeTable
+returns-34 c = ap shapeOf (sym (c .match .keys34))
+
+returns-35 : tie.Need-returns-35
 unfolding shapeOf typeTable
-returns-33 c = sym (absent (Unit {0}) typeTable (c .before .args .type-id) (c .match .rest))
+returns-35 c = sym (absent (Unit {0}) typeTable (c .before .args .type-id) (c .match .rest))
 
 pub shape-of-spec : {M : Type 1} → statement M
 shape-of-spec =
@@ -173,4 +181,6 @@ shape-of-spec =
     returns-30
     returns-31
     returns-32
-    returns-33)
+    returns-33
+    returns-34
+    returns-35)
