@@ -74,6 +74,23 @@ unfoldable pub smallFile : List ℕ
 smallFile =
     fileWith (prototypeRecord 3 (ascii "t") (definition 0x2b (ascii "n")) ++ u32 3 ++ le 1 0 ++ le 2 5 ++ u32 3 ++ le 1 1 ++ u64 0x22 ++ le 2 7)
 
+-- one triple in an array, and one quadruple: the bits of 0.5, 1, -2 and of 1, 0, 0, -0
+unfoldable pub triplesPart : List ℕ
+triplesPart = u32 1 ++ u32 0x3f00_0000 ++ u32 0x3f80_0000 ++ u32 0xc000_0000
+
+unfoldable pub quadruplePart : List ℕ
+quadruplePart = u32 0x3f80_0000 ++ u32 0 ++ u32 0 ++ u32 0x8000_0000
+
+-- 86 bytes: prototype 3, `t` with an array of three f32 `v` and a single four f32 `r`; its block `null`, with their values at 49 and 65
+unfoldable pub vectorsFile : List ℕ
+vectorsFile =
+    fileWith (
+    prototypeRecord 3 (ascii "t") (definition 0x0a (ascii "v") ++ definition 0x17 (ascii "r")) ++ u32 3 ++ le 1 0 ++ triplesPart ++ quadruplePart
+    )
+
+unfoldable pub vectorsText : List ℕ
+vectorsText = ascii "SiiNunit\n{\nt : null {\n  v: 1\n  v[0]: (&3f000000, 1, -2)\n  r: (1; 0, 0, -0)\n}\n}\n"
+
 -- prototype 1 with the definitions `first`; a block of it with the u32 5; prototype 1 again, with the definitions `last`
 abbrev pub againFile : List ℕ → List ℕ → List ℕ
 againFile first last = fileWith (prototypeRecord 1 (ascii "p") first ++ u32 1 ++ le 1 0 ++ u32 5 ++ prototypeRecord 1 (ascii "p") last)
@@ -109,6 +126,7 @@ unfoldable pub readings : List (Fact (Reply Reading))
 readings =
     readingCall 3 workedFile says reads 1 1 82 ∷
     readingCall 3 redefinedFile says reads 1 1 76 ∷
+    readingCall 3 vectorsFile says reads 1 1 86 ∷
     readingCall 9 twinFile says reads 3 2 127 ∷
     readingCall 8 twinFile says refusal tableFull 83 ∷
     readingCall 0 (fileWith []) says reads 0 0 13 ∷
@@ -120,7 +138,7 @@ readings =
 
 -- Files that were cut, in the order of the cuts: a part of `BSII`, `BSII` alone, in the version, in a record number, in front of a mark, in a string, in
 -- the file above in front of a definition's type, in its first value and in front of the end record's mark. Then the whole of it, and a mark that is none,
--- which is not a cut
+-- which is not a cut; a cut in the second number of a triple in an array, and one in the first of a quadruple, which has no count in front
 unfoldable pub cutReadings : List (Fact (Reply Reading))
 cutReadings =
     readingCall 3 (take 3 smallFile) says refusal invalidHeader 0 ∷
@@ -133,7 +151,9 @@ cutReadings =
     readingCall 3 (take 41 smallFile) says lacks 40 1 ∷
     readingCall 3 (take 61 smallFile) says lacks 61 1 ∷
     readingCall 3 smallFile says reads 1 2 62 ∷
-    readingCall 3 (ascii "BSII" ++ u32 2 ++ u32 0 ++ le 1 3) says refusal badMark 12 ∷ []
+    readingCall 3 (ascii "BSII" ++ u32 2 ++ u32 0 ++ le 1 3) says refusal badMark 12 ∷
+    readingCall 3 (take 60 vectorsFile) says lacks 57 1 ∷
+    readingCall 3 (take 66 vectorsFile) says lacks 65 3 ∷ []
 
 abbrev pub defines : Place → ℕ → Reply PrototypeAnswer
 defines name fields = gives (record { name = name; fields = fields })
@@ -187,6 +207,8 @@ fields =
     fieldCall 9 twinFile 0 (ascii "x") says carries 0x01 75 (string (ascii "hi")) ∷
     fieldCall 9 twinFile 1 (ascii "x") says refusal absent 0 ∷
     fieldCall 3 enumFile 0 (ascii "e") says carries 0x37 67 (u32 5) ∷
+    fieldCall 3 vectorsFile 0 (ascii "v") says carries 0x0a 49 triplesPart ∷
+    fieldCall 3 vectorsFile 0 (ascii "r") says carries 0x17 65 quadruplePart ∷
     fieldCall 3 (workedWith 25 0x08) 0 (ascii "w") says refusal unlistedType 61 ∷
     fieldCall 3 (take 70 workedFile) 0 (ascii "km") says lacks 69 3 ∷ []
 
@@ -198,6 +220,12 @@ parts =
 -- ---- elements
 
 -- floats as numbers: negative for `true`, a whole number times a power of two
+abbrev pub zero : Float
+zero = fin false 0 (pos 0)
+
+abbrev pub half : Float
+half = fin false 1 (negsuc 0)
+
 abbrev pub one : Float
 one = fin false 1 (pos 0)
 
@@ -223,6 +251,8 @@ elements =
     elementCall 0x05 (u32 0x7f80_0001) 0 says gives (dFloat nan) ∷
     elementCall 0x07 fourBits 0 says gives (dFloatVec2 one oneAndHalf) ∷
     elementCall 0x09 fourBits 0 says gives (dFloatVec3 one oneAndHalf minusTwo) ∷
+    elementCall 0x0a triplesPart 0 says gives (dFloatVec3 half one minusTwo) ∷
+    elementCall 0x17 quadruplePart 0 says gives (dFloatVec4 one zero zero minusZero) ∷
     elementCall 0x18 (u32 1 ++ fourBits) 0 says gives (dFloatVec4 one oneAndHalf minusTwo minusZero) ∷
     elementCall 0x19 (fourBits ++ fourBits) 0 says gives (dFloatVec8 one oneAndHalf minusTwo minusZero one oneAndHalf minusTwo minusZero) ∷
     elementCall 0x25 (u32 0xffff_fffe) 0 says gives (dInt32 (negsuc 1)) ∷
@@ -238,11 +268,15 @@ elements =
     elementCall 0x3a (u32 2 ++ le 1 1 ++ u64 0x57 ++ le 1 0) 1 says gives (dId (place 13 1)) ∷
     elementCall 0x3d (le 1 0xff ++ u64 38) 0 says gives (dId (place 0 9)) ∷
     elementCall 0x08 [] 0 says refusal unlistedType 0 ∷
+    elementCall 0x0b triplesPart 0 says refusal unlistedType 0 ∷
+    elementCall 0x16 quadruplePart 0 says refusal unlistedType 0 ∷
     elementCall 0x01 (u32 3 ++ le 1 0xc0 ++ le 1 0x80) 0 says lacks 4 1 ∷
     elementCall 0x01 (u32 2 ++ le 1 0xc0 ++ le 1 0x80) 0 says refusal notUtf8 4 ∷
     elementCall 0x04 (u32 2 ++ u64 1 ++ u64 38) 0 says refusal zeroDigit 12 ∷
     elementCall 0x06 (u32 2 ++ u32 0) 0 says lacks 8 4 ∷
     elementCall 0x06 (u32 0) 0 says refusal absent 0 ∷
+    elementCall 0x0a triplesPart 1 says refusal absent 0 ∷
+    elementCall 0x17 quadruplePart 1 says refusal absent 0 ∷
     elementCall 0x27 (u32 300) 1 says refusal absent 0 ∷ []
 
 -- cut in an i64; in a triple's second number, at that number and without the third; in a placement; in the last element of an array; in a string of
@@ -274,6 +308,7 @@ texts =
     textCall 0 (fileWith []) (replicate 13 1) says written (ascii "SiiNunit\n{\n}\n") [] ∷
     textCall 3 redefinedFile (replicate 33 1) says written (ascii "SiiNunit\n{\nq : null {\n  g: 9\n}\n}\n") [] ∷
     textCall 3 enumFile (replicate 36 1) says written (ascii "SiiNunit\n{\np : null {\n  e: high\n}\n}\n") [] ∷
+    textCall 3 vectorsFile (replicate 80 1) says written vectorsText (1 ∷ []) ∷
     textCall 3 recountedFile [] says unwritten fieldCount 44 0 [] ∷
     textCall 3 unlistedEnumFile [] says unwritten enumValue 65 0 [] ∷
     textCall 3 (againFile fiveField (definition 0x37 (ascii "e") ++ u32 0 ++ plainField)) [] says unwritten fieldCount 51 0 [] ∷
