@@ -21,7 +21,7 @@ use Rattle.bsii_widening.proofs.Decided.{allowed-proves}
 use Rattle.bsii_widening.proofs.Demand3.{demand3}
 
 -- the worked file is an old save: it converts with 768 words and an output of 128 bytes
-old-save : OldSave 768 workedFile (replicate 128 0) oldFile 82 [] 73
+pub old-save : OldSave 768 workedFile (replicate 128 0) oldFile 82 [] 73
 unfolding computesAll
 old-save = record { reads = refl; converts = refl; once = (tt, tt) }
 

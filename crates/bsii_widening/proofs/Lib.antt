@@ -20,6 +20,7 @@ pub mod Written
 pub mod Computes
 pub mod Example
 pub mod EveryType
+pub mod Vectors
 pub mod Premises
 pub mod Splices
 pub mod Conclusions

@@ -9,3 +9,4 @@ pub mod Splices
 pub mod Written
 pub mod EveryType
 pub mod Example
+pub mod Vectors

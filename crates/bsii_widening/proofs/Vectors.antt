@@ -1,0 +1,35 @@
+-- The block of an array of three f32 and a single four f32 meets the premises, in a save that has only defined them: all of it is computed.
+use mathlib.Core.Path.{_≡_, refl}
+use mathlib.Core.List.{[]}
+use lib.ListN.{replicate}
+use lib.Dec.{lit≤}
+use Rattle.bsii_format.specs.File.{lengthLimit}
+use Rattle.bsii_format.specs.Text.{valueText}
+use Rattle.bsii_format.specs.WorkedCalls.{triplesPart, quadruplePart, vectorsFile, vectorsText}
+use Rattle.bsii_widening.specs.Insertions.{AllAllowed}
+use Rattle.bsii_widening.specs.Marks.{markRecords}
+use Rattle.bsii_widening.specs.Claim.{OldSave, Room, StillConverts, newText, widened, newFile}
+use Rattle.bsii_widening.specs.Vectors.{definedFile, definedSave, firstBlock}
+use Rattle.bsii_widening.proofs.Computes.{computesAll}
+use Rattle.bsii_widening.proofs.Decided.{allowed-proves}
+use Rattle.bsii_widening.proofs.Demand3.{demand3}
+
+old-save : OldSave 3 definedFile (replicate 13 0) definedSave 49 [] 13
+unfolding computesAll triplesPart quadruplePart vectorsFile definedFile definedSave
+old-save = record { reads = refl; converts = refl; once = (tt, tt) }
+
+allowed : AllAllowed firstBlock (markRecords (definedSave .records))
+unfolding computesAll triplesPart quadruplePart vectorsFile definedFile definedSave firstBlock
+allowed = allowed-proves firstBlock (markRecords (definedSave .records)) tt
+
+room : Room lengthLimit 3 definedSave [] (widened definedSave firstBlock)
+unfolding computesAll triplesPart quadruplePart vectorsFile definedFile definedSave firstBlock
+room = record { file = lit≤ tt; table = lit≤ tt }
+
+pub vectors-convert : StillConverts 3 definedFile (replicate 13 0) definedSave [] 13 3 (widened definedSave firstBlock)
+vectors-convert = demand3 3 definedFile (replicate 13 0) definedSave 49 [] 13 old-save firstBlock allowed 3 .1 room
+
+-- the new save is the worked one, and has its text
+pub vectors-added : (newFile definedSave [] (widened definedSave firstBlock) ≡ vectorsFile) × (newText valueText (widened definedSave firstBlock) ≡ vectorsText)
+unfolding computesAll triplesPart quadruplePart vectorsFile vectorsText definedFile definedSave firstBlock
+vectors-added = (refl, refl)
