@@ -33,7 +33,9 @@ prototypes, falling, names, long-text, arrays, redefinition, redefinitions,
 enums; or one of 16 MiB that needs a table of more than 4,096 rows, and gets
 three words for each whole 17 bytes: rows-ORDER, prototypes alone, or
 blocks-ORDER, where the ORDER of the ids is rising, falling, random, low-equal,
-high-equal or reversed.
+high-equal or reversed. Only with --write: triple, triples, quadruple or
+quadruples, a save of one vector type (0x09, 0x0a, 0x17, 0x18), two of which the
+Rust does not read.
 
 Exit status: 0 if all was measured, 1 if the two texts differ or something
 failed, 2 for bad usage.
@@ -91,13 +93,15 @@ pub fn parse(words: Vec<OsString>) -> Result<Arguments, String> {
                 let (found, words) = match name.as_str() {
                     "--memory" => {
                         let side = side(&next("SIDE and INPUT")?)?;
-                        (Arguments::Memory(side, input(next("an INPUT")?, true)?), 3)
+                        let name =
+                            input(next("an INPUT")?, |name| name == "-" || is_measured(name))?;
+                        (Arguments::Memory(side, name), 3)
                     }
                     "--convert" => {
                         let side = side(&next("SIDE and FILE")?)?;
                         (Arguments::Convert(side, next("a FILE")?.into()), 3)
                     }
-                    _ => (Arguments::Write(input(next("an INPUT")?, false)?), 2),
+                    _ => (Arguments::Write(input(next("an INPUT")?, is_written)?), 2),
                 };
                 if alone != words {
                     return Err(format!("{name} goes with nothing else"));
@@ -106,7 +110,7 @@ pub fn parse(words: Vec<OsString>) -> Result<Arguments, String> {
             }
             "--markdown" => run.markdown = true,
             "--rounds" => run.rounds = rounds(&next("a number")?)?,
-            "--only" => run.only.push(input(next("an INPUT")?, false)?),
+            "--only" => run.only.push(input(next("an INPUT")?, is_measured)?),
             "--plot" => run.plot = Some(next("a FILE")?.into()),
             _ => return Err(format!("what is {name}?")),
         }
@@ -127,13 +131,20 @@ fn side(word: &OsString) -> Result<Side, String> {
     found.ok_or(format!("{text} is no side: ours or rust"))
 }
 
-fn input(word: OsString, or_standard_input: bool) -> Result<String, String> {
+fn input(word: OsString, is_one: impl Fn(&str) -> bool) -> Result<String, String> {
     let name = word.to_string_lossy().into_owned();
-    if inputs::by_name(&name).is_some() || or_standard_input && name == "-" {
-        Ok(name)
-    } else {
-        Err(format!("{name} is no input"))
+    match is_one(&name) {
+        true => Ok(name),
+        false => Err(format!("{name} is no input")),
     }
+}
+
+fn is_measured(name: &str) -> bool {
+    inputs::by_name(name).is_some()
+}
+
+fn is_written(name: &str) -> bool {
+    inputs::to_write(name).is_some()
 }
 
 #[cfg(test)]
@@ -194,7 +205,7 @@ mod tests {
 
     #[test]
     fn badly_used() {
-        let bad: [&[&str]; 17] = [
+        let bad: [&[&str]; 18] = [
             &["save-7"],
             &["--what"],
             &["--rounds"],
@@ -211,6 +222,7 @@ mod tests {
             &["--convert", "theirs", "a.bsii"],
             &["--convert", "ours", "a.bsii", "b.bsii"],
             &["--write", "-"],
+            &["--only", "triples"],
             &["--markdown", "--write", "save-1"],
         ];
         for words in bad {

@@ -1,6 +1,6 @@
 //! The inputs by name.
 
-use crate::{hostile, orders, saves};
+use crate::{hostile, orders, saves, vectors};
 
 pub struct Input {
     pub name: String,
@@ -60,6 +60,11 @@ pub fn is_larger(name: &str) -> bool {
     orders::all().any(|larger| larger.name == name)
 }
 
+/// The one of that name that can be written: one of those that are measured, or of one vector type.
+pub fn to_write(name: &str) -> Option<Input> {
+    by_name(name).or_else(|| vectors::all().find(|input| input.name == name))
+}
+
 /// The one of that name: a save of any size from 1 to 16 MB, or a hostile file.
 pub fn by_name(name: &str) -> Option<Input> {
     let megabytes = (1..=saves::LARGEST).find(|size| name == format!("save-{size}"));
@@ -85,5 +90,7 @@ mod tests {
         assert!(is_larger("rows-random") && !is_hostile("rows-random"));
         assert!(!is_larger("falling") && !is_larger("save-1"));
         assert!(is_save("save-1") && !is_save("enums") && !is_save("rows-random"));
+        assert!(to_write("save-1").is_some() && to_write("triples").is_some());
+        assert!(by_name("triples").is_none() && to_write("save-0").is_none());
     }
 }

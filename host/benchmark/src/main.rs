@@ -14,6 +14,7 @@ mod report;
 mod saves;
 mod sides;
 mod statistics;
+mod vectors;
 
 use arguments::{Arguments, Run, Side, USAGE};
 use inputs::Input;
@@ -47,7 +48,7 @@ fn show(bytes: &[u8]) -> Result<(), String> {
 }
 
 fn input(name: &str) -> Input {
-    inputs::by_name(name).expect("the arguments were looked up")
+    inputs::to_write(name).expect("the arguments were looked up")
 }
 
 fn answer(arguments: Arguments) -> Result<(), String> {
