@@ -1,4 +1,4 @@
--- The table of types, as data: document 01, "Types (hexadecimal; an array is a u32 count, then elements)"; FORMAT.md, "Types".
+-- The table of types, as data: document 01, "Types (hexadecimal; an array is a u32 count, then elements)"; document 02, E3; FORMAT.md, "Types".
 use Prim.Native.Nat.{ℕ}
 use mathlib.Core.Bool.{cond}
 use mathlib.Core.Option.{Option, none, some}
@@ -58,6 +58,7 @@ pub record Listed : Type 0 where
 abbrev pub _is_ : ℕ → Shape → Listed
 t is x = record { typeId = t; shape = x }
 
+-- 01's types in its order, and E3's: "0x0a, an array of three f32, and 0x17, a single four f32"
 unfoldable pub typeTable : List Listed
 typeTable =
     0x01 is one string ∷
