@@ -1,7 +1,7 @@
 //! What the Rust says about a file.
 
 use answers::{Answer, LookUp};
-use oracle::{BsiiFile, DataBlock, DataValue, Fault};
+use oracle::{BsiiFile, DataBlock, DataValue};
 
 /// The names that are looked up in one file.
 const NAMES: usize = 2;
@@ -18,7 +18,7 @@ pub fn answer(file: &[u8]) -> Option<Answer> {
     let parsed = match parsed {
         Ok(parsed) => parsed,
         Err(fault) => {
-            return number(&fault).map(|reply| Answer {
+            return fault.number().map(|reply| Answer {
                 reading: reply,
                 reply,
                 ..Answer::default()
@@ -34,7 +34,7 @@ pub fn answer(file: &[u8]) -> Option<Answer> {
     }
     let (reply, text) = match oracle::to_siin(&parsed) {
         Ok(text) => (0, text),
-        Err(fault) => (number(&fault)?, String::new()),
+        Err(fault) => (fault.number()?, String::new()),
     };
     Some(Answer {
         reading: 0,
@@ -44,13 +44,6 @@ pub fn answer(file: &[u8]) -> Option<Answer> {
         text: text.into_bytes(),
         look_ups: look_ups(&parsed),
     })
-}
-
-fn number(fault: &Fault) -> Option<u32> {
-    match fault {
-        Fault::Number(number) => Some(*number),
-        Fault::Unknown(_) => None,
-    }
 }
 
 /// f1 and f3 of a value's placements.
