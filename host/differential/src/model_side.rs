@@ -181,7 +181,7 @@ pub fn element_fault(type_id: u32, part: &[u8], tally: &mut Tally) -> Check {
     file.extend(vec![0; 4 + empty_list + 4]);
     file.extend([1, 0, 0, 0, 0]);
     file.extend_from_slice(part);
-    let stand_in = StandIn::new(&file, Model::default().in_front_of_fault(&file));
+    let stand_in = StandIn::of(&file);
     let parsed = stand_in.parse();
     stand_in.stops(&parsed, tally)?;
     let rust = parsed.err().and_then(|fault| fault.number()).unwrap_or(0);

@@ -3,7 +3,7 @@
 //! behind a count of 1 for 0x17, and what it has read is put back.
 
 use crate::report::{differ, Check, Exception, Tally};
-use model::Parsed;
+use model::{Model, Parsed};
 use oracle::{BsiiFile, DataValue, Fault};
 use std::borrow::Cow;
 
@@ -30,6 +30,11 @@ pub struct StandIn<'a> {
 }
 
 impl<'a> StandIn<'a> {
+    /// By what the model reads of the file.
+    pub fn of(file: &'a [u8]) -> StandIn<'a> {
+        StandIn::new(file, Model::default().in_front_of_fault(file))
+    }
+
     /// `read` is what stands in front of the file's first fault.
     pub fn new(file: &'a [u8], read: &Parsed) -> StandIn<'a> {
         let mut values = Vec::new();

@@ -1,6 +1,7 @@
-//! What the Rust says about a file.
+//! What the Rust says about a file; of types that its reader stops at, by a stand-in.
 
 use answers::{Answer, LookUp};
+use differential::stand_in::StandIn;
 use oracle::{BsiiFile, DataBlock, DataValue};
 
 /// The names that are looked up in one file.
@@ -11,7 +12,8 @@ const NAMES: usize = 2;
 pub fn answer(file: &[u8]) -> Option<Answer> {
     let short_header = file.starts_with(b"BSII") && file.len() < 8;
     let reserved = oracle::huge_requests();
-    let parsed = oracle::parse(file);
+    let stand_in = StandIn::of(file);
+    let parsed = stand_in.parse();
     if short_header || oracle::huge_requests() > reserved {
         return None;
     }
