@@ -47,7 +47,7 @@ enum Fault {
     SingleFourCounted,
     ThreesAsOne,
     SingleFourWithCommas,
-    ElementOfOldTypes,
+    ElementUnlisted,
 }
 
 const FAULTS: [Fault; 38] = [
@@ -88,7 +88,7 @@ const FAULTS: [Fault; 38] = [
     Fault::SingleFourCounted,
     Fault::ThreesAsOne,
     Fault::SingleFourWithCommas,
-    Fault::ElementOfOldTypes,
+    Fault::ElementUnlisted,
 ];
 
 struct Impostor {
@@ -346,7 +346,7 @@ impl Impostor {
                 kind: calls::kind::U32,
                 ..whole
             },
-            Fault::ElementOfOldTypes if matches!(type_id, 0x0a | 0x17) => Element::refused(7, 0),
+            Fault::ElementUnlisted if matches!(type_id, 0x0a | 0x17) => Element::refused(7, 0),
             Fault::NanKeepsItsBits if type_id == 5 && whole.number == 0 => {
                 let bits = u32::from_le_bytes(part[..4].try_into().unwrap());
                 Element {
@@ -431,7 +431,7 @@ fn the_rust_finds_wrong_todo_types() {
         (Fault::SingleFourCounted, "reading"),
         (Fault::ThreesAsOne, "reading"),
         (Fault::SingleFourWithCommas, "text"),
-        (Fault::ElementOfOldTypes, "element"),
+        (Fault::ElementUnlisted, "element"),
     ] {
         let label = format!("library and Rust: {call}");
         let found = differences(Some(fault), 2000).any(|found| found == label);
