@@ -97,11 +97,11 @@ enum {
     SII_KIND_F32 = 3,
     /* 0x07: a, b. */
     SII_KIND_TWO_F32 = 4,
-    /* 0x09: a, b, c. */
+    /* 0x09, 0x0a: a, b, c. */
     SII_KIND_THREE_F32 = 5,
     /* 0x11, 0x12: a, b, c, each an int32_t in two's complement. */
     SII_KIND_THREE_I32 = 6,
-    /* 0x18: a, b, c, d. */
+    /* 0x17, 0x18: a, b, c, d. */
     SII_KIND_FOUR_F32 = 7,
     /* 0x19, 0x1a: a to h, as they stand in the file: the sums of the text are not made. */
     SII_KIND_PLACEMENT = 8,

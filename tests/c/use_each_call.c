@@ -600,6 +600,52 @@ static void the_redefined_file(void)
     converts(file, sizeof file, 3, "SiiNunit\n{\nq : null {\n  g: 9\n}\n}\n");
 }
 
+/* one block with an array of three f32 and a single four f32; each of its cuts from the array on; other types in their place */
+static void the_file_with_vectors(void)
+{
+    static const uint8_t file[] = {
+        'B', 'S', 'I', 'I', 2, 0, 0, 0,
+        /* 8: the prototype, its definitions at 22 and 31 */
+        0, 0, 0, 0, 1, 3, 0, 0, 0, 1, 0, 0, 0, 't',
+        0x0a, 0, 0, 0, 1, 0, 0, 0, 'v',
+        0x17, 0, 0, 0, 1, 0, 0, 0, 'r',
+        0, 0, 0, 0,
+        /* 44: the block, its id at 48, the values at 49 and 65 */
+        3, 0, 0, 0, 0,
+        1, 0, 0, 0, 0, 0, 0, 0x3f, 0, 0, 0x80, 0x3f, 0, 0, 0, 0xc0,
+        0, 0, 0x80, 0x3f, 0, 0, 0, 0, 0, 0, 0, 0, 0, 0, 0, 0x80,
+        /* 81: the end record */
+        0, 0, 0, 0, 0,
+    };
+    static const uint8_t unlisted[] = {0x08, 0x0b, 0x16, 0x38};
+    const SiiElement three = {.kind = SII_KIND_THREE_F32, .a = 0x3f000000, .b = 0x3f800000, .c = 0xc0000000};
+    const SiiElement four = {.kind = SII_KIND_FOUR_F32, .a = 0x3f800000, .d = 0x80000000};
+    uint8_t other[sizeof file];
+    size_t at, len, item;
+    label = "vectors";
+    reading(file, sizeof file, 3, (SiiReading){0, 0, 0, 1, 1, 86});
+    field(file, sizeof file, 3, 0, "v", (SiiField){0, 0, 0, 0x0a, 49, 16});
+    field(file, sizeof file, 3, 0, "r", (SiiField){0, 0, 0, 0x17, 65, 16});
+    element(0x0a, file + 49, 16, 0, three);
+    element(0x0a, file + 49, 16, 1, no_element(SII_ABSENT, 0));
+    element(0x17, file + 65, 16, 0, four);
+    element(0x17, file + 65, 16, 1, no_element(SII_ABSENT, 0));
+    converts(file, sizeof file, 3, "SiiNunit\n{\nt : null {\n  v: 1\n  v[0]: (&3f000000, 1, -2)\n  r: (1; 0, 0, -0)\n}\n}\n");
+    for (len = 49; len < 81; len++) {
+        item = 49 + (len - 49) / 4 * 4;
+        cut("cut vectors", file, len, item, item + 4 - len);
+    }
+    for (at = 0; at < sizeof unlisted; at++) {
+        memcpy(other, file, sizeof file);
+        other[22] = unlisted[at];
+        refused("unlisted in place of 0x0a", other, sizeof other, 3, SII_UNLISTED_TYPE, 49);
+        memcpy(other, file, sizeof file);
+        other[31] = unlisted[at];
+        refused("unlisted in place of 0x17", other, sizeof other, 3, SII_UNLISTED_TYPE, 65);
+        element(unlisted[at], file + 65, 16, 0, no_element(SII_UNLISTED_TYPE, 0));
+    }
+}
+
 /* The smallest file, and the smallest prototypes: 17 bytes each, without a name and without fields. */
 static void small_files(void)
 {
@@ -691,6 +737,10 @@ static void elements(void)
     element(0x05, BYTES("\1\0\xc0\xff"), 0, (SiiElement){.kind = SII_KIND_F32, .a = 0x7fc00000});
     element(0x07, BYTES("\1\0\0\0\2\0\0\0"), 0, (SiiElement){.kind = SII_KIND_TWO_F32, .a = 1, .b = 2});
     element(0x09, BYTES("\1\0\0\0\2\0\0\0\3\0\0\0"), 0, (SiiElement){.kind = SII_KIND_THREE_F32, .a = 1, .b = 2, .c = 3});
+    element(0x0a, BYTES("\2\0\0\0\1\0\0\0\2\0\0\0\3\0\0\0\4\0\0\0\5\0\0\0\1\0\xc0\xff"), 1,
+            (SiiElement){.kind = SII_KIND_THREE_F32, .a = 4, .b = 5, .c = 0x7fc00000});
+    element(0x17, BYTES("\1\0\0\0\2\0\0\0\3\0\0\0\4\0\0\0"), 0,
+            (SiiElement){.kind = SII_KIND_FOUR_F32, .a = 1, .b = 2, .c = 3, .d = 4});
     element(0x18, BYTES("\1\0\0\0\1\0\0\0\2\0\0\0\3\0\0\0\4\0\0\0"), 0,
             (SiiElement){.kind = SII_KIND_FOUR_F32, .a = 1, .b = 2, .c = 3, .d = 4});
     element(0x19, BYTES("\1\0\0\0\2\0\0\0\3\0\0\0\4\0\0\0\5\0\0\0\6\0\0\0\7\0\0\0\x8\0\0\0"), 0,
@@ -746,9 +796,11 @@ static void cut_elements(void)
     label = "cut vector";
     cut_value(0x07, BYTES("\1\0\0\0\2\0\0\0"), 0, 4);
     cut_value(0x11, BYTES("\1\0\0\0\2\0\0\0\3\0\0\0"), 0, 4);
+    cut_value(0x17, BYTES("\1\0\0\0\2\0\0\0\3\0\0\0\4\0\0\0"), 0, 4);
     cut_value(0x19, BYTES("\1\0\0\0\2\0\0\0\3\0\0\0\4\0\0\0\5\0\0\0\6\0\0\0\7\0\0\0\x8\0\0\0"), 0, 4);
     label = "cut array";
     cut_value(0x28, BYTES("\2\0\0\0\1\0\0\0\2\0\0\0"), 4, 4);
+    cut_value(0x0a, BYTES("\2\0\0\0\1\0\0\0\2\0\0\0\3\0\0\0\4\0\0\0\5\0\0\0\6\0\0\0"), 4, 4);
     cut_value(0x18, BYTES("\1\0\0\0\1\0\0\0\2\0\0\0\3\0\0\0\4\0\0\0"), 4, 4);
     cut_value(0x2c, BYTES("\2\0\0\0\1\0\2\0"), 4, 2);
     cut_value(0x34, BYTES("\2\0\0\0\1\0\0\0\0\0\0\0\2\0\0\0\0\0\0\0"), 4, 8);
@@ -886,6 +938,7 @@ int main(void)
         damage();
         the_widened_file();
         the_redefined_file();
+        the_file_with_vectors();
         small_files();
         the_length_limit();
         a_long_text();

@@ -98,6 +98,9 @@ SiiElement __wrap_sii_element_of(uint32_t type_id, const uint8_t *part, size_t p
         r.value = (uint32_t)r.value;
 #elif WRONG == 23 /* the lacking bytes are left out */
     r.lacking = 0;
+#elif WRONG == 25 /* the element call without 0x0a and 0x17 */
+    if (type_id == 0x0a || type_id == 0x17)
+        return (SiiElement){.number = SII_UNLISTED_TYPE};
 #endif
     return r;
 }
@@ -130,6 +133,9 @@ SiiText __wrap_sii_to_siin(const uint8_t *file, size_t file_len, uint32_t *table
 #elif WRONG == 24 /* something is lacking beside another refusal */
     if (r.number == SII_ENUM_VALUE)
         r.lacking = 1;
+#elif WRONG == 26 /* no semicolon in a text */
+    for (size_t at = 0; r.number == 0 && at < r.length; at++)
+        output[at] = output[at] == ';' ? ',' : output[at];
 #endif
     return r;
 }

@@ -1,6 +1,6 @@
 //! Saves shaped like real ones: a few hundred prototypes, of which some sixteen make up most
-//! blocks, ids of words and nameless ones, and values of every listed type. All names and values
-//! are made up.
+//! blocks, ids of words and nameless ones, and values of every type that the Rust reads. All names
+//! and values are made up.
 
 use generate::bytes::{choice, definition, file, floats, named, nameless, prototype, string, word};
 use generate::Random;
@@ -26,7 +26,7 @@ pub fn blocks(megabytes: usize) -> usize {
     40_000 * megabytes / 7
 }
 
-/// Types of fields with their weights. Every listed type is there.
+/// Types of fields with their weights: all listed ones but 0x0a and 0x17, at which the Rust panics.
 const TYPES: [(u32, usize); 32] = [
     (0x27, 13),
     (0x05, 12),
@@ -369,9 +369,11 @@ mod tests {
     }
 
     #[test]
-    fn every_listed_type() {
+    fn every_type_that_the_rust_reads() {
         let types: HashSet<u32> = (0..prototypes(1)).flat_map(|n| kind(n).types).collect();
-        assert_eq!(types, HashSet::from(generate::LISTED));
+        let mut read = HashSet::from(generate::LISTED);
+        read.retain(|type_id| !matches!(type_id, 0x0a | 0x17));
+        assert_eq!(types, read);
     }
 
     #[test]

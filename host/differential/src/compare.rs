@@ -5,6 +5,7 @@ use crate::oracle_side::{self, Verdict};
 use crate::plan::Plan;
 use crate::report::{Check, Tally};
 use crate::side::Side;
+use crate::stand_in::StandIn;
 use calls::Implementation;
 use generate::Random;
 use model::Model;
@@ -30,7 +31,8 @@ impl Comparison {
     /// `random` decides only what is asked beyond the fixed questions.
     pub fn whole(&mut self, file: &[u8], random: &mut Random, tally: &mut Tally) -> Check {
         let plan = Plan::new(&mut self.planner, file);
-        let verdict = Verdict::new(file, &mut self.planner, tally);
+        let stand_in = StandIn::new(file, self.planner.in_front_of_fault(file));
+        let verdict = Verdict::new(file, &stand_in, &mut self.planner, tally)?;
         let garbage = random.number() as u32;
         let mut model = Side::new("model", &mut self.model, garbage);
         oracle_side::compare(&mut model, file, &plan, &verdict, tally)?;

@@ -11,5 +11,6 @@ mod plan;
 pub mod report;
 pub mod shrink;
 mod side;
+pub mod stand_in;
 pub mod watch;
 pub mod widening;

@@ -3,6 +3,7 @@
 use crate::plan::{indices, Plan, TEXT_MEMORY};
 use crate::report::{Check, Difference, Tally};
 use crate::side::Side;
+use crate::stand_in::StandIn;
 use calls::{Answer, Call, Implementation, Lent, Text};
 use generate::Random;
 use model::Model;
@@ -180,10 +181,10 @@ pub fn element_fault(type_id: u32, part: &[u8], tally: &mut Tally) -> Check {
     file.extend(vec![0; 4 + empty_list + 4]);
     file.extend([1, 0, 0, 0, 0]);
     file.extend_from_slice(part);
-    let rust = match oracle::parse(&file) {
-        Err(oracle::Fault::Number(number)) => number,
-        _ => 0,
-    };
+    let stand_in = StandIn::of(&file);
+    let parsed = stand_in.parse();
+    stand_in.stops(&parsed, tally)?;
+    let rust = parsed.err().and_then(|fault| fault.number()).unwrap_or(0);
     let asked = || format!("type {type_id:#x}, {part:02x?}");
     tally.same(("model and Rust", "faulty value"), asked, refused, rust)
 }

@@ -3,12 +3,14 @@
 use crate::plan::{indices, Plan, TEXT_MEMORY};
 use crate::report::{differ, Check, Difference, Exception, Label, Note, Tally};
 use crate::side::Side;
+use crate::stand_in::StandIn;
 use calls::{kind, one_nan, Answer, Call, Element, LENGTH_LIMIT};
 use model::{word_text, Model, Place};
 use oracle::{BsiiFile, DataValue, Fault, Id};
 
-/// What the Rust says about a file.
+/// What the Rust says about a file, or about its stand-in.
 pub struct Verdict<'a> {
+    stand_in: &'a StandIn<'a>,
     parsed: Result<BsiiFile<'a>, Fault>,
     text: Result<Option<String>, Fault>,
     /// The length that 01 gives the text, and the places that are not compared.
@@ -25,9 +27,14 @@ fn count_replies(file: &[u8], reading: u32, text: u32, tally: &mut Tally) {
 }
 
 impl<'a> Verdict<'a> {
-    pub fn new(file: &'a [u8], model: &mut Model, tally: &mut Tally) -> Verdict<'a> {
+    pub fn new(
+        file: &[u8],
+        stand_in: &'a StandIn<'a>,
+        model: &mut Model,
+        tally: &mut Tally,
+    ) -> Result<Verdict<'a>, Difference> {
         let reserved = oracle::huge_requests();
-        let parsed = oracle::parse(file);
+        let parsed = stand_in.parse();
         if oracle::huge_requests() > reserved {
             tally.note(Note::HugeCount);
         }
@@ -42,17 +49,21 @@ impl<'a> Verdict<'a> {
             Err(fault) => (fault.number, 0, Vec::new()),
         };
         count_replies(file, read, number, tally);
+        if file.len() <= LENGTH_LIMIT {
+            stand_in.stops(&parsed, tally)?;
+        }
         let text = match &parsed {
             Err(fault) => Err(fault.clone()),
             Ok(_) if needed > TEXT_MEMORY => Ok(None),
             Ok(parsed) => oracle::to_siin(parsed).map(Some),
         };
-        Verdict {
+        Ok(Verdict {
+            stand_in,
             parsed,
             text,
             needed,
             open,
-        }
+        })
     }
 
     fn reading_number(&self) -> u32 {
@@ -61,11 +72,8 @@ impl<'a> Verdict<'a> {
 }
 
 fn number(fault: &Fault) -> u32 {
-    match fault {
-        Fault::Number(number) => *number,
-        // No reply has this number, so this shows as a difference.
-        Fault::Unknown(_) => u32::MAX,
-    }
+    // No reply has this number, so an unknown panic shows as a difference.
+    fault.number().unwrap_or(u32::MAX)
 }
 
 /// A reply under the number that the oracle has for it: the Rust's InvalidInput is a bad mark as well
@@ -101,6 +109,7 @@ pub fn compare(
                 side,
                 file,
                 plan,
+                stand_in: verdict.stand_in,
                 parsed,
                 tally,
             };
@@ -152,22 +161,18 @@ fn refusals(
     )
 }
 
-struct Lookups<'a, 'b, 'f> {
+struct Lookups<'a, 'b> {
     side: &'a mut Side<'b>,
-    file: &'f [u8],
+    file: &'a [u8],
     plan: &'a Plan,
-    parsed: &'a BsiiFile<'f>,
+    stand_in: &'a StandIn<'a>,
+    parsed: &'a BsiiFile<'a>,
     tally: &'a mut Tally,
 }
 
-impl Lookups<'_, '_, '_> {
+impl Lookups<'_, '_> {
     fn ask(&mut self, call: Call<'_>) -> Result<Answer, Difference> {
         self.side.ask(call, self.file, self.plan.words)
-    }
-
-    fn offset_of(&self, text: &str) -> (u64, u64) {
-        let offset = text.as_ptr() as usize - self.file.as_ptr() as usize;
-        (offset as u64, text.len() as u64)
     }
 
     fn reading(&mut self) -> Check {
@@ -184,10 +189,11 @@ impl Lookups<'_, '_, '_> {
     /// shorter one.
     fn next(&mut self, next: usize) -> Check {
         let label = label(self.side, "offset after the end record");
-        let Some(whole) = self.file.get(..next).filter(|whole| !whole.is_empty()) else {
+        let whole = self.stand_in.up_to(next);
+        let Some(whole) = whole.filter(|whole| !whole.is_empty()) else {
             return differ(label, format!("offset {next}"));
         };
-        let replies = [whole, &whole[..next - 1]]
+        let replies = [whole, &whole[..whole.len() - 1]]
             .map(|cut| oracle::parse(cut).map_or_else(|fault| number(&fault), |_| 0));
         self.tally
             .same(label, || format!("offset {next}"), replies, [0, 3])
@@ -200,7 +206,7 @@ impl Lookups<'_, '_, '_> {
             let expected = match self.parsed.get_prototype(*id) {
                 None => (13, 0, 0, 0),
                 Some(prototype) => {
-                    let (offset, len) = self.offset_of(prototype.name);
+                    let (offset, len) = self.stand_in.place(prototype.name);
                     (0, offset, len, prototype.fields().count() as u64)
                 }
             };
@@ -298,7 +304,7 @@ impl Lookups<'_, '_, '_> {
             if is_other_nan {
                 self.tally.except(Exception::ElementNan);
             }
-            let ok = same_element(&element, bytes, &expected);
+            let ok = same_element(&element, bytes, &expected, self.stand_in);
             let asked = || format!("{}, index {index}: {element:?}, Rust {value:?}", asked());
             let label = label(self.side, "element");
             self.tally.same(label, asked, ok, true)?;
@@ -356,6 +362,10 @@ fn expected_element<'a>(value: &'a DataValue<'_>, index: u64) -> Expected<'a> {
         let parts = bits(&[p.0, p.1, p.2, p.3, p.4, p.5, p.6, p.7]);
         Expected::Parts(kind::PLACEMENT, parts)
     };
+    let three_floats =
+        |v: &(f32, f32, f32)| Expected::Parts(kind::THREE_F32, bits(&[v.0, v.1, v.2]));
+    let four_floats =
+        |v: &(f32, f32, f32, f32)| Expected::Parts(kind::FOUR_F32, bits(&[v.0, v.1, v.2, v.3]));
     let three = |v: &(i32, i32, i32)| {
         let [a, b, c] = [v.0, v.1, v.2].map(|part| part as u32);
         Expected::Parts(kind::THREE_I32, [a, b, c, 0, 0, 0, 0, 0])
@@ -370,11 +380,10 @@ fn expected_element<'a>(value: &'a DataValue<'_>, index: u64) -> Expected<'a> {
         DataValue::Float(float) => Expected::Parts(kind::F32, bits(&[*float])),
         DataValue::FloatArray(floats) => Expected::Parts(kind::F32, bits(&[floats[i]])),
         DataValue::FloatVec2(v) => Expected::Parts(kind::TWO_F32, bits(&[v.0, v.1])),
-        DataValue::FloatVec3(v) => Expected::Parts(kind::THREE_F32, bits(&[v.0, v.1, v.2])),
-        DataValue::FloatVec4Array(all) => {
-            let v = &all[i];
-            Expected::Parts(kind::FOUR_F32, bits(&[v.0, v.1, v.2, v.3]))
-        }
+        DataValue::FloatVec3(v) => three_floats(v),
+        DataValue::FloatVec3Array(all) => three_floats(&all[i]),
+        DataValue::FloatVec4(v) => four_floats(v),
+        DataValue::FloatVec4Array(all) => four_floats(&all[i]),
         DataValue::FloatVec8(p) => placement(p),
         DataValue::FloatVec8Array(all) => placement(&all[i]),
         DataValue::Int32Vec3(v) => three(v),
@@ -392,12 +401,15 @@ fn expected_element<'a>(value: &'a DataValue<'_>, index: u64) -> Expected<'a> {
         DataValue::Bool(truth) => Expected::Value(kind::BOOL, *truth as u64),
         DataValue::BoolArray(all) => Expected::Value(kind::BOOL, all[i] as u64),
         DataValue::Enum(number) => Expected::Value(kind::ENUM, *number as u64),
-        // The reader makes none of these.
-        DataValue::FloatVec4(_) | DataValue::FloatVec3Array(_) => Expected::Absent,
     }
 }
 
-fn same_element(found: &Element, bytes: &[u8], expected: &Expected<'_>) -> bool {
+fn same_element(
+    found: &Element,
+    bytes: &[u8],
+    expected: &Expected<'_>,
+    stand_in: &StandIn<'_>,
+) -> bool {
     let place = || part(bytes, found.place_offset, found.place_len);
     if let Expected::Absent = expected {
         return found.number == 13;
@@ -408,7 +420,7 @@ fn same_element(found: &Element, bytes: &[u8], expected: &Expected<'_>) -> bool 
     match expected {
         Expected::Absent => false,
         Expected::String(text) => {
-            let same = |bytes: &[u8]| bytes.as_ptr_range() == text.as_bytes().as_ptr_range();
+            let same = |bytes: &[u8]| stand_in.place(text) == stand_in.place_in_file(bytes);
             found.kind == kind::STRING && place().is_some_and(same)
         }
         Expected::Word(word) => found.kind == kind::WORD && word_text(found.value) == **word,

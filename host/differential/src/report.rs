@@ -36,6 +36,9 @@ pub enum Exception {
     /// A float of the element is a NaN of other bits than `ONE_NAN`: the Rust keeps them, and here
     /// there is one NaN. All else of the element is compared.
     ElementNan,
+    /// A block carries 0x0a or 0x17, and the Rust stops at the `todo!` of that type: it is asked about
+    /// a stand-in of the file, see `stand_in.rs`.
+    TodoType,
 }
 
 /// Places that are compared like all others, counted since the Rust gets there only in this build.
@@ -56,6 +59,7 @@ impl Exception {
             Exception::TextMemory => "text-memory",
             Exception::PlacementNan => "placement-nan",
             Exception::ElementNan => "element-nan",
+            Exception::TodoType => "todo-type",
         }
     }
 }

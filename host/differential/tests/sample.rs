@@ -1,6 +1,8 @@
-//! The sample save has its stored text by the unchanged Rust and by the model.
+//! The sample save has its stored text by the unchanged Rust, which reads a stand-in of it, and by the
+//! model.
 
 use calls::{Call, Implementation, Lent};
+use differential::stand_in::StandIn;
 use model::Model;
 use std::path::Path;
 
@@ -12,7 +14,8 @@ fn sample(name: &str) -> Vec<u8> {
 #[test]
 fn has_the_text_of_the_rust() {
     let (save, text) = (sample("garage.bsii"), sample("garage.sii"));
-    let file = oracle::parse(&save).unwrap();
+    let stand_in = StandIn::of(&save);
+    let file = stand_in.parse().unwrap();
     assert_eq!(oracle::to_siin(&file).unwrap().as_bytes(), text);
 }
 

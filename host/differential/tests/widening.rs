@@ -197,7 +197,7 @@ impl Impostor {
         let mut save = self.new.clone();
         match self.fault {
             Fault::OldText => save = self.old.clone(),
-            Fault::InsertedFieldsLast => save.records.iter_mut().for_each(inserted_last),
+            Fault::InsertedFieldsLast => inserted_last(&mut save),
             Fault::InsertedBlocksLast => save
                 .records
                 .sort_by_key(|record| matches!(record, Record::Block(block) if block.inserted)),
@@ -206,9 +206,18 @@ impl Impostor {
         let made = self.model.whole_text(&save.bytes(), usize::MAX);
         let (text, _, _) = made.expect("it converts");
         match self.fault {
-            Fault::DropsALine => without_a_line(&text),
+            Fault::DropsALine if self.ends_with_an_old_value() => without_a_line(&text),
             _ => text,
         }
+    }
+
+    /// Whether the last line of a field is none of an inserted part.
+    fn ends_with_an_old_value(&self) -> bool {
+        let last = self.new.blocks().filter(|block| !block.values.is_empty());
+        last.last().is_some_and(|block| {
+            let value = block.values.last().expect("not empty");
+            !block.inserted && !value.inserted
+        })
     }
 
     /// The save with the last definition.
@@ -253,11 +262,21 @@ fn carried(fault: Fault, answer: Answer, call: Call<'_>, save: &Save) -> Answer 
     }
 }
 
-/// The inserted definitions and values behind the others.
-fn inserted_last(record: &mut Record) {
-    match record {
-        Record::Prototype(of) => of.fields.sort_by_key(|field| field.inserted),
-        Record::Block(block) => block.values.sort_by_key(|value| value.inserted),
+/// The inserted definitions and their values behind the others. An inserted block's values are not
+/// marked by themselves, so the definitions decide.
+fn inserted_last(save: &mut Save) {
+    let before = save.clone();
+    for record in &mut save.records {
+        match record {
+            Record::Prototype(of) => of.fields.sort_by_key(|field| field.inserted),
+            Record::Block(block) => {
+                let fields = &before.of(block).fields;
+                let values = std::mem::take(&mut block.values);
+                let mut values: Vec<_> = fields.iter().zip(values).collect();
+                values.sort_by_key(|(field, _)| field.inserted);
+                block.values = values.into_iter().map(|(_, value)| value).collect();
+            }
+        }
     }
 }
 

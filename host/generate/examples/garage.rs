@@ -3,7 +3,7 @@
 //!     cargo run --offline -q -p generate --example garage > ../samples/garage.bsii
 //!
 //! Nothing in it comes from a game: the names and values are made up, so that a small save shows
-//! each of the 32 listed types once in its first block, an enum, both kinds of ids, a prototype
+//! each of the 34 listed types once in its first block, an enum, both kinds of ids, a prototype
 //! that is used twice and one that is not used at all.
 
 use generate::bytes::*;
@@ -66,12 +66,18 @@ fn garage() -> Vec<(u32, &'static str, Vec<u8>)> {
         ),
         (0x07, "gate", singles(&[3.0, 4.5])),
         (0x09, "camera", singles(&[1.0, -2.0, 0.125])),
+        (
+            0x0a,
+            "waypoints",
+            array(&[singles(&[0.0, -0.0, 12.0]), singles(&[3.5, 0.0, -7.0])]),
+        ),
         (0x11, "sector", whole(&[12, -7, 0])),
         (
             0x12,
             "sectors",
             array(&[whole(&[1, 2, 3]), whole(&[i32::MIN, 0, i32::MAX])]),
         ),
+        (0x17, "rotation", singles(&[0.5, 0.0, -1.0, -0.0])),
         (0x18, "turns", array(&[singles(&[1.0, 0.0, 0.5, -1.0])])),
         (0x19, "spot", spot(1.0, 1.0, middle)),
         (

@@ -5,7 +5,7 @@
 use generate::widening::{allowed_lists, broken_lists, text};
 
 fn main() {
-    let mut lists = allowed_lists(2, 200);
+    let mut lists = allowed_lists(4, 200);
     lists.extend(broken_lists(1));
     print!("{}", text(&lists));
 }

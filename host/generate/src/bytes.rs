@@ -58,6 +58,15 @@ pub fn floats(bits: &[u32]) -> Vec<u8> {
     bits.iter().flat_map(|bits| bits.to_le_bytes()).collect()
 }
 
+/// One block with the types of document 02, E3: an array of one three f32, and a single four f32.
+pub fn worked_vectors() -> Vec<u8> {
+    let fields = [definition(0x0a, b"v"), definition(0x17, b"r")];
+    let three = floats(&[0x3f00_0000, 0x3f80_0000, 0xc000_0000]);
+    let four = floats(&[0x3f80_0000, 0, 0, 0x8000_0000]);
+    let values = [array(&[three]), four].concat();
+    file(&[prototype(3, b"t", &fields), block(3, &values)])
+}
+
 pub fn named(words: &[u64]) -> Vec<u8> {
     let words_bytes = words.iter().flat_map(|word| word.to_le_bytes());
     [words.len() as u8].into_iter().chain(words_bytes).collect()

@@ -72,7 +72,7 @@ fn change_number(random: &mut Random, made: &mut Made) {
         1 => old.wrapping_sub(1),
         2 => random.below(0x40) as u32,
         3 => random.pick(&HUGE),
-        4 => random.pick(&valid::LISTED),
+        4 => valid::listed(random),
         _ => random.pick(&[0, 1, 2]),
     };
     bytes.copy_from_slice(&new.to_le_bytes());

@@ -12,7 +12,7 @@ pub mod widening;
 
 pub use random::Random;
 pub use short::Short;
-pub use valid::{worked_bytes, Made, LISTED};
+pub use valid::{worked_bytes, Made, ARRAYS, LISTED};
 
 /// File `index` of `seed` before any damage, with the places that a fault can be aimed at. It may have
 /// faults of its own.

@@ -1,5 +1,6 @@
 //! Short inputs, all of a kind.
 
+use crate::bytes::worked_vectors;
 use crate::valid::worked_bytes;
 use crate::{file, Random};
 
@@ -19,11 +20,12 @@ const VALUES: u64 = 1_555; // 6^0 + .. + 6^4
 const TYPES: u64 = 0x41;
 
 impl Short {
-    /// `count` base files of at most `longest` bytes from the generator, and 01's example.
+    /// `count` base files of at most `longest` bytes from the generator, and the worked examples.
     pub fn new(seed: u64, count: usize, longest: usize) -> Short {
-        let mut bases = vec![worked_bytes()];
+        let mut bases = vec![worked_bytes(), worked_vectors()];
+        let all = bases.len() + count;
         let mut random = Random::new(seed, 0);
-        while bases.len() <= count {
+        while bases.len() < all {
             let base = file(seed, random.number());
             if (30..=longest).contains(&base.len()) {
                 bases.push(base);

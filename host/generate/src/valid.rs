@@ -4,19 +4,24 @@ use crate::corners;
 use crate::Random;
 
 /// All listed types.
-pub const LISTED: [u32; 33] = [
-    0x01, 0x02, 0x03, 0x04, 0x05, 0x06, 0x07, 0x09, 0x11, 0x12, 0x18, 0x19, 0x1a, 0x25, 0x26, 0x27,
-    0x28, 0x2b, 0x2c, 0x2f, 0x31, 0x32, 0x33, 0x34, 0x35, 0x36, 0x37, 0x39, 0x3a, 0x3b, 0x3c, 0x3d,
-    0x37,
+pub const LISTED: [u32; 34] = [
+    0x01, 0x02, 0x03, 0x04, 0x05, 0x06, 0x07, 0x09, 0x0a, 0x11, 0x12, 0x17, 0x18, 0x19, 0x1a, 0x25,
+    0x26, 0x27, 0x28, 0x2b, 0x2c, 0x2f, 0x31, 0x32, 0x33, 0x34, 0x35, 0x36, 0x37, 0x39, 0x3a, 0x3b,
+    0x3c, 0x3d,
+];
+
+/// Of these, the arrays.
+pub const ARRAYS: [u32; 15] = [
+    0x02, 0x04, 0x06, 0x0a, 0x12, 0x18, 0x1a, 0x26, 0x28, 0x2c, 0x32, 0x34, 0x36, 0x3a, 0x3c,
 ];
 
 pub const UNLISTED: [u32; 16] = [
     0x08,
-    0x0a,
     0x0b,
+    0x0c,
     0x10,
     0x13,
-    0x17,
+    0x16,
     0x1b,
     0x24,
     0x29,
@@ -30,6 +35,12 @@ pub const UNLISTED: [u32; 16] = [
 ];
 
 pub const PROTOTYPE_IDS: [u32; 9] = [0, 1, 2, 3, 7, 0xff, 0x100, 0x0100_0000, 0xffff_ffff];
+
+/// A listed type; an enum, whose list has forms of its own, twice as often as another.
+pub fn listed(random: &mut Random) -> u32 {
+    let drawn = random.below(LISTED.len() + 1);
+    LISTED.get(drawn).copied().unwrap_or(0x37)
+}
 
 /// A file in the making.
 #[derive(Default)]
@@ -175,7 +186,7 @@ fn definition(random: &mut Random, made: &mut Made, kept: Option<u32>) -> Defini
     let type_id = match kept {
         Some(type_id) => type_id,
         None if random.chance(made.faults) => random.pick(&UNLISTED),
-        None => random.pick(&LISTED),
+        None => listed(random),
     };
     made.number(type_id);
     made.any_string(random);
@@ -225,23 +236,7 @@ fn id(random: &mut Random, made: &mut Made) {
 }
 
 fn value(random: &mut Random, made: &mut Made, field: &Definition) {
-    let is_array = matches!(
-        field.type_id,
-        0x02 | 0x04
-            | 0x06
-            | 0x12
-            | 0x18
-            | 0x1a
-            | 0x26
-            | 0x28
-            | 0x2c
-            | 0x32
-            | 0x34
-            | 0x36
-            | 0x3a
-            | 0x3c
-    );
-    if !is_array {
+    if !ARRAYS.contains(&field.type_id) {
         return single(random, made, field);
     }
     let count = random.below(5);
@@ -258,9 +253,9 @@ fn single(random: &mut Random, made: &mut Made, field: &Definition) {
         0x03 | 0x04 => made.word(random),
         0x05 | 0x06 => floats(random, made, 1),
         0x07 => floats(random, made, 2),
-        0x09 => floats(random, made, 3),
+        0x09 | 0x0a => floats(random, made, 3),
         0x11 | 0x12 => (0..3).for_each(|_| made.u32(corners::unsigned(random) as u32)),
-        0x18 => floats(random, made, 4),
+        0x17 | 0x18 => floats(random, made, 4),
         0x19 | 0x1a => placement(random, made),
         0x2b | 0x2c => {
             let number = corners::unsigned(random) as u16;
@@ -308,7 +303,7 @@ pub fn value_alone(random: &mut Random, made: &mut Made) -> u32 {
     let type_id = match unlisted {
         true if random.chance(20) => 0,
         true => random.pick(&UNLISTED),
-        false => random.pick(&LISTED),
+        false => listed(random),
     };
     let list = vec![0, 1, 0xffff_ffff];
     value(random, made, &Definition { type_id, list });

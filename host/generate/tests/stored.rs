@@ -26,7 +26,7 @@ fn are_read_whole() {
 
 #[test]
 fn are_made_again() {
-    let mut made = allowed_lists(2, 200);
+    let mut made = allowed_lists(4, 200);
     made.extend(broken_lists(1));
     assert!(
         made == stored(),

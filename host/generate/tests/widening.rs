@@ -121,8 +121,14 @@ fn block_words(record: usize, block: &Block, save: &Save) -> Vec<String> {
             "(iii) in front of a block",
         ),
     ]);
-    let types = of.fields.iter().map(|field| field.type_id);
-    words.extend(types.map(|type_id| format!("(iii) of type {type_id:#x}")));
+    let is_first = !save.carries(of.id);
+    for field in &of.fields {
+        let type_id = field.type_id;
+        words.push(format!("(iii) of type {type_id:#x}"));
+        if is_first && !field.inserted && !of.inserted {
+            words.push(format!("(iii) of type {type_id:#x}, old and unused"));
+        }
+    }
     words
 }
 
@@ -146,6 +152,7 @@ fn leave_nothing_out() {
             "(i) of type #, carried",
             "(i) of type #, unused",
             "(iii) of type #",
+            "(iii) of type #, old and unused",
         ] {
             let word = kind.replace('#', &format!("{type_id:#x}"));
             assert!(met.contains(&word), "{word}");

@@ -21,22 +21,32 @@ use calls::{
 pub struct Model {
     file: Vec<u8>,
     capacity: usize,
-    parsed: Option<Result<Parsed, Refusal>>,
+    parsed: Option<(Parsed, Option<Refusal>)>,
 }
 
 impl Model {
     /// The file's records, or its first fault, with room for `capacity` prototype ids.
     pub fn parsed(&mut self, file: &[u8], capacity: usize) -> Result<&Parsed, Refusal> {
+        match self.reading(file, capacity) {
+            (parsed, None) => Ok(parsed),
+            (_, Some(refusal)) => Err(*refusal),
+        }
+    }
+
+    /// What stands in front of the file's first fault; all of it if there is none. See
+    /// `Parsed::read`.
+    pub fn in_front_of_fault(&mut self, file: &[u8]) -> &Parsed {
+        &self.reading(file, usize::MAX).0
+    }
+
+    fn reading(&mut self, file: &[u8], capacity: usize) -> &(Parsed, Option<Refusal>) {
         if self.parsed.is_none() || self.capacity != capacity || self.file != file {
             self.parsed = Some(Parsed::read(file, capacity));
             self.capacity = capacity;
             self.file.clear();
             self.file.extend_from_slice(file);
         }
-        match self.parsed.as_ref().expect("set above") {
-            Ok(parsed) => Ok(parsed),
-            Err(refusal) => Err(*refusal),
-        }
+        self.parsed.as_ref().expect("set above")
     }
 
     /// The whole text, and the places in it that 01 excludes from the comparison with the Rust.

@@ -37,11 +37,20 @@ pub struct Parsed {
     pub next: usize,
     /// Every prototype's and field's name, replaced ones too: what a test asks for.
     pub names: Vec<Place>,
+    /// Every definition's type with its offset, replaced ones too.
+    pub types: Vec<(usize, u32)>,
 }
 
 impl Parsed {
-    /// Reads from front to back; `capacity` is the number of ids that the table holds.
-    pub fn read(file: &[u8], capacity: usize) -> Result<Parsed, Refusal> {
+    /// What is read from front to back, and the first fault, if there is one; `capacity` is the
+    /// number of ids that the table holds. Where a value has the fault, the last block ends with it.
+    pub fn read(file: &[u8], capacity: usize) -> (Parsed, Option<Refusal>) {
+        let mut parsed = Parsed::default();
+        let fault = parsed.records(file, capacity).err();
+        (parsed, fault)
+    }
+
+    fn records(&mut self, file: &[u8], capacity: usize) -> Result<(), Refusal> {
         if file.len() > LENGTH_LIMIT {
             return refuse(12, 0);
         }
@@ -52,10 +61,9 @@ impl Parsed {
         if cursor.u32()? == 1 {
             return refuse(2, 8);
         }
-        let mut parsed = Parsed::default();
-        while !parsed.record(&mut cursor, capacity)? {}
-        parsed.next = cursor.at;
-        Ok(parsed)
+        while !self.record(&mut cursor, capacity)? {}
+        self.next = cursor.at;
+        Ok(())
     }
 
     /// Reads one record; true if it is the end record.
@@ -70,10 +78,7 @@ impl Parsed {
                     _ => return refuse(15, mark),
                 }
             }
-            id => {
-                let block = self.block(cursor, start, id)?;
-                self.blocks.push(block);
-            }
+            id => self.block(cursor, start, id)?,
         }
         Ok(false)
     }
@@ -81,6 +86,9 @@ impl Parsed {
     fn define(&mut self, new: PrototypeRecord, start: usize, room: usize) -> Result<(), Refusal> {
         self.names.push(new.name);
         self.names.extend(new.fields.iter().map(|field| field.name));
+        // The type and the name's length stand in front of the name.
+        let types = new.fields.iter().map(|f| (f.name.offset - 8, f.type_id));
+        self.types.extend(types);
         let known = self.prototypes.iter().position(|old| old.id == new.id);
         match known {
             Some(position) => self.prototypes[position] = new,
@@ -91,30 +99,35 @@ impl Parsed {
     }
 
     fn block(
-        &self,
+        &mut self,
         cursor: &mut Cursor<'_>,
         start: usize,
         prototype: u32,
-    ) -> Result<BlockRecord, Refusal> {
-        let Some(in_force) = self.prototype(prototype) else {
+    ) -> Result<(), Refusal> {
+        let Some(in_force) = self.prototypes.iter().find(|old| old.id == prototype) else {
             return refuse(6, start);
         };
         let id = cursor.id()?;
-        let mut values = Vec::with_capacity(in_force.fields.len());
-        for field in &in_force.fields {
-            let type_id = field.type_id;
-            let offset = cursor.at;
-            value(cursor, type_id, |_| {})?;
-            let len = cursor.at - offset;
-            let place = Place { offset, len };
-            values.push(Value { type_id, place });
-        }
-        Ok(BlockRecord {
+        let mut block = BlockRecord {
             start,
             prototype,
             id,
-            values,
-        })
+            values: Vec::with_capacity(in_force.fields.len()),
+        };
+        let mut read = Ok(());
+        for field in &in_force.fields {
+            let type_id = field.type_id;
+            let offset = cursor.at;
+            read = value(cursor, type_id, |_| {}).map(|_| ());
+            let len = cursor.at - offset;
+            let place = Place { offset, len };
+            block.values.push(Value { type_id, place });
+            if read.is_err() {
+                break;
+            }
+        }
+        self.blocks.push(block);
+        read
     }
 
     pub fn prototype(&self, id: u32) -> Option<&PrototypeRecord> {

@@ -1,6 +1,6 @@
 //! Document 01's worked bytes, and offsets and lacking bytes that no other side gives.
 
-use calls::{Call, Element, Implementation, Lent, Text};
+use calls::{kind, Call, Element, Implementation, Lent, Text};
 use model::Model;
 
 fn text_in(file: &[u8], table: &mut [u32], out: &mut [u8]) -> Text {
@@ -175,6 +175,40 @@ fn worked_cuts() {
     assert_eq!(worked(SEVEN), "refused 3 at 72 lacking 3");
 }
 
+/// One block with an array of three f32 and a single four f32.
+const VECTORS: &str = "425349490200000000000000010300000001000000740a00000001000000761700000001\
+                       00000072000000000300000000010000000000003f0000803f000000c00000803f000000\
+                       0000000000000000800000000000";
+
+#[test]
+fn worked_vectors() {
+    let file = bytes(VECTORS);
+    let text =
+        "SiiNunit\n{\nt : null {\n  v: 1\n  v[0]: (&3f000000, 1, -2)\n  r: (1; 0, 0, -0)\n}\n}\n";
+    assert_eq!(text.len(), 79);
+    assert_eq!(text_of(&file), text);
+    let cut = |len: usize| text_of(&file[..len]);
+    assert_eq!(cut(60), "refused 3 at 57 lacking 1");
+    assert_eq!(cut(50), "refused 3 at 49 lacking 3");
+    assert_eq!(cut(67), "refused 3 at 65 lacking 2");
+    let [three, four] = [&file[49..65], &file[65..81]];
+    let parts = |type_id: u32, part: &[u8], index: u64| {
+        let found = element(type_id, part, index);
+        assert_eq!(found.number, 0);
+        (found.kind, found.parts)
+    };
+    let of_three = [0x3f00_0000, 0x3f80_0000, 0xc000_0000, 0, 0, 0, 0, 0];
+    assert_eq!(parts(0x0a, three, 0), (kind::THREE_F32, of_three));
+    assert_eq!(element(0x0a, three, 1), Element::refused(13, 0));
+    let of_four = [0x3f80_0000, 0, 0, 0x8000_0000, 0, 0, 0, 0];
+    assert_eq!(parts(0x17, four, 0), (kind::FOUR_F32, of_four));
+    assert_eq!(element(0x17, four, 1), Element::refused(13, 0));
+    for neighbour in [0x08, 0x0b, 0x0c, 0x16, 0x38] {
+        assert_eq!(shown(neighbour, four), "refused 7 at 40");
+        assert_eq!(element(neighbour, four, 0), Element::refused(7, 0));
+    }
+}
+
 /// Every mark but two; the byte itself decides, not what follows it.
 #[test]
 fn marks() {
@@ -258,16 +292,24 @@ fn needed_length_beyond_32_bits() {
     assert_eq!(text, expected);
 }
 
+fn element(type_id: u32, part: &[u8], index: u64) -> Element {
+    let call = Call::ElementOf {
+        type_id,
+        part,
+        index,
+    };
+    Model::default().answer(call, Lent::default()).element()
+}
+
+fn cut(offset: u64, lacking: u64) -> Element {
+    Element {
+        lacking,
+        ..Element::refused(3, offset)
+    }
+}
+
 #[test]
 fn elements() {
-    let element = |type_id: u32, part: &[u8], index: u64| -> Element {
-        let call = Call::ElementOf {
-            type_id,
-            part,
-            index,
-        };
-        Model::default().answer(call, Lent::default()).element()
-    };
     let two = b"\x02\0\0\0\x01\0\0\0a\x01\0\0\0b";
     let second = element(2, two, 1);
     assert_eq!(
@@ -275,10 +317,6 @@ fn elements() {
         (0, 13, 1)
     );
     assert_eq!(element(2, two, 2).number, 13);
-    let cut = |offset: u64, lacking: u64| Element {
-        lacking,
-        ..Element::refused(3, offset)
-    };
     assert_eq!(element(2, &two[..13], 0), cut(13, 1));
     assert_eq!(element(2, &two[..3], 0), cut(0, 1));
     assert_eq!(element(2, &two[..7], 0), cut(4, 1));
@@ -288,6 +326,11 @@ fn elements() {
     assert_eq!(element(0x39, &id, 0), cut(9, 3));
     let fours = [&[2, 0, 0, 0][..], &[0; 25]].concat();
     assert_eq!(element(0x18, &fours, 0), cut(28, 3));
+    // The second float of the second of two threes; the last of a single four, which has no count.
+    let threes = [&[2, 0, 0, 0][..], &[0; 17]].concat();
+    assert_eq!(element(0x0a, &threes, 0), cut(20, 3));
+    assert_eq!(element(0x17, &[0; 15], 0), cut(12, 1));
+    assert_eq!(element(0x17, &[], 0), cut(0, 4));
     assert_eq!(element(0, b"", 9), Element::refused(7, 0));
     assert_eq!(element(0x36, &[0; 4], 0), Element::refused(13, 0));
     assert_eq!(element(0x25, &[0xff; 4], 0).value, u64::MAX);

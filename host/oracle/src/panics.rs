@@ -8,12 +8,30 @@ use std::sync::Once;
 #[derive(Clone, Debug, PartialEq, Eq)]
 pub enum Fault {
     Number(u32),
+    /// The reader's `todo!` at a value of this type, which is reply 7 for an unlisted one.
+    Todo(u32),
     /// A panic that document 01 has no number for.
     Unknown(String),
 }
 
+impl Fault {
+    pub fn number(&self) -> Option<u32> {
+        match self {
+            Fault::Number(number) => Some(*number),
+            Fault::Todo(_) => Some(7),
+            Fault::Unknown(_) => None,
+        }
+    }
+}
+
+/// The reader's `todo!`: its function, and the message up to the type.
+const TODO: (&str, &str) = (
+    "value_parser",
+    "not yet implemented: Implement value parse for type_id ",
+);
+
 /// Function, start of the message, reply number.
-const SITES: [(&str, &str, u32); 8] = [
+const SITES: [(&str, &str, u32); 7] = [
     (
         "str_parser",
         "called `Result::unwrap()` on an `Err` value: Utf8Error",
@@ -26,7 +44,6 @@ const SITES: [(&str, &str, u32); 8] = [
         "called `Option::unwrap()` on a `None` value",
         6,
     ),
-    ("value_parser", "not yet implemented", 7),
     (
         "write_data_block",
         "assertion `left == right` failed: Data blocks",
@@ -79,9 +96,12 @@ fn fault_of(info: &PanicHookInfo<'_>) -> Fault {
     let site = SITES
         .iter()
         .find(|(name, start, _)| *name == function && message.starts_with(start));
-    match site {
-        Some((_, _, number)) => Fault::Number(*number),
-        None => Fault::Unknown(format!("{file}:{line} in {function}: {message}")),
+    let todo = message.strip_prefix(TODO.1).filter(|_| function == TODO.0);
+    let todo = todo.and_then(|digits| u32::from_str_radix(digits, 16).ok());
+    match (site, todo) {
+        (Some((_, _, number)), _) => Fault::Number(*number),
+        (None, Some(type_id)) => Fault::Todo(type_id),
+        (None, None) => Fault::Unknown(format!("{file}:{line} in {function}: {message}")),
     }
 }
 

@@ -36,8 +36,12 @@ fn panics_of_the_reader() {
     let word = b"\x01\x26\0\0\0\0\0\0\0";
     assert_eq!(reading(&[START, BLOCK, word]), Fault::Number(5));
     assert_eq!(reading(&[b"BSII\x02\0\0\0\x01\0\0\0"]), Fault::Number(6));
-    let unlisted = b"\x08\0\0\0\0\0\0\0";
-    assert_eq!(reading(&[START, unlisted, BLOCK, b"\0"]), Fault::Number(7));
+    for type_id in [0x08, 0x0a, 0x17, 0x100, u32::MAX] {
+        let todo = [type_id.to_le_bytes(), [0; 4]].concat();
+        let found = reading(&[START, &todo, BLOCK, b"\0"]);
+        assert_eq!(found, Fault::Todo(type_id));
+        assert_eq!(found.number(), Some(7));
+    }
 }
 
 #[test]

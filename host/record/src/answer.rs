@@ -1,7 +1,8 @@
-//! What the Rust says about a file.
+//! What the Rust says about a file; of types that its reader stops at, by a stand-in.
 
 use answers::{Answer, LookUp};
-use oracle::{BsiiFile, DataBlock, DataValue, Fault};
+use differential::stand_in::StandIn;
+use oracle::{BsiiFile, DataBlock, DataValue};
 
 /// The names that are looked up in one file.
 const NAMES: usize = 2;
@@ -11,14 +12,15 @@ const NAMES: usize = 2;
 pub fn answer(file: &[u8]) -> Option<Answer> {
     let short_header = file.starts_with(b"BSII") && file.len() < 8;
     let reserved = oracle::huge_requests();
-    let parsed = oracle::parse(file);
+    let stand_in = StandIn::of(file);
+    let parsed = stand_in.parse();
     if short_header || oracle::huge_requests() > reserved {
         return None;
     }
     let parsed = match parsed {
         Ok(parsed) => parsed,
         Err(fault) => {
-            return number(&fault).map(|reply| Answer {
+            return fault.number().map(|reply| Answer {
                 reading: reply,
                 reply,
                 ..Answer::default()
@@ -34,7 +36,7 @@ pub fn answer(file: &[u8]) -> Option<Answer> {
     }
     let (reply, text) = match oracle::to_siin(&parsed) {
         Ok(text) => (0, text),
-        Err(fault) => (number(&fault)?, String::new()),
+        Err(fault) => (fault.number()?, String::new()),
     };
     Some(Answer {
         reading: 0,
@@ -44,13 +46,6 @@ pub fn answer(file: &[u8]) -> Option<Answer> {
         text: text.into_bytes(),
         look_ups: look_ups(&parsed),
     })
-}
-
-fn number(fault: &Fault) -> Option<u32> {
-    match fault {
-        Fault::Number(number) => Some(*number),
-        Fault::Unknown(_) => None,
-    }
 }
 
 /// f1 and f3 of a value's placements.

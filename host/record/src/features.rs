@@ -1,13 +1,15 @@
 //! What a file shows: types carried, and forms of the text.
 
 use answers::Entry;
+use differential::stand_in::StandIn;
 use oracle::{DataValue, Id};
 use std::collections::BTreeSet;
 
 /// Of a file that is not refused.
 pub fn features(entry: &Entry) -> BTreeSet<String> {
     let mut found = BTreeSet::new();
-    let parsed = match oracle::parse(&entry.file) {
+    let stand_in = StandIn::of(&entry.file);
+    let parsed = match stand_in.parse() {
         Ok(parsed) if entry.answer.reply == 0 => parsed,
         _ => return found,
     };

@@ -22,11 +22,11 @@ pub enum DataValue<'a> {
     Float(f32),
     /// 0x07.
     FloatVec2((f32, f32)),
-    /// 0x09.
+    /// 0x09 and 0x0a.
     FloatVec3((f32, f32, f32)),
     /// 0x11 and 0x12.
     Int32Vec3((i32, i32, i32)),
-    /// 0x18.
+    /// 0x17 and 0x18.
     FloatVec4((f32, f32, f32, f32)),
     /// 0x19 and 0x1a.
     FloatVec8(Placement),
@@ -113,6 +113,7 @@ impl<'a> DataField<'a> {
             self.type_id,
             0x02 | 0x04
                 | 0x06
+                | 0x0a
                 | 0x12
                 | 0x18
                 | 0x1a
@@ -135,9 +136,9 @@ impl<'a> DataField<'a> {
             0x03 | 0x04 => "word",
             0x05 | 0x06 => "f32",
             0x07 => "two-f32",
-            0x09 => "three-f32",
+            0x09 | 0x0a => "three-f32",
             0x11 | 0x12 => "three-i32",
-            0x18 => "four-f32",
+            0x17 | 0x18 => "four-f32",
             0x19 | 0x1a => "placement",
             0x25 | 0x26 => "i32",
             0x27 | 0x28 | 0x2f => "u32",
@@ -188,18 +189,9 @@ impl<'a> Iterator for Elements<'a> {
 
     fn next(&mut self) -> Option<DataValue<'a>> {
         self.left = self.left.checked_sub(1)?;
-        let answer = match (self.array, self.type_id) {
-            (false, single) => library::element_of(single, self.rest, 0),
-            // Four floats have no type as a single value, so they are shown as an array of one.
-            (true, 0x18) => {
-                let mut array = [0; 20];
-                array[0] = 1;
-                array[4..].copy_from_slice(self.rest.get(..16)?);
-                library::element_of(0x18, &array, 0)
-            }
-            // An array's type is the single one's plus 1.
-            (true, array) => library::element_of(array - 1, self.rest, 0),
-        };
+        // An array's type is the single one's plus 1.
+        let single = self.type_id - u32::from(self.array);
+        let answer = library::element_of(single, self.rest, 0);
         answered(&answer).ok()?;
         let value = value_of(&answer, self.rest);
         self.rest = &self.rest[size_of(&answer)..];

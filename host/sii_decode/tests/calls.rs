@@ -181,6 +181,33 @@ fn a_text_that_no_memory_holds() {
     assert_eq!(refusal.to_string(), shown);
 }
 
+/// An array of three f32 and a single four f32, by field, element and text.
+#[test]
+fn vectors() {
+    let bytes = generate::bytes::worked_vectors();
+    let file = BsiiFile::parse(&bytes).unwrap();
+    let (threes, four) = (file.field(0, "v").unwrap(), file.field(0, "r").unwrap());
+    assert_eq!((threes.type_id, threes.part), (0x0a, &bytes[49..65]));
+    assert_eq!((four.type_id, four.part), (0x17, &bytes[65..81]));
+    assert!(threes.is_array() && !four.is_array());
+    assert_eq!(threes.kind_name(), "three-f32");
+    assert_eq!(four.kind_name(), "four-f32");
+    let three = DataValue::FloatVec3((0.5, 1.0, -2.0));
+    assert_eq!(threes.element(0), Ok(three.clone()));
+    assert_eq!(threes.elements().collect::<Vec<_>>(), [three]);
+    let shown: Vec<_> = four.elements().map(|value| value.to_string()).collect();
+    assert_eq!(shown, ["1 0 0 -0"]);
+    for field in [threes, four] {
+        assert_eq!(field.element(1), Err(refusal(13, 0)));
+        let part = &field.part[..15];
+        assert_eq!(DataField { part, ..field }.element(0), Err(cut(12, 1)));
+    }
+    let text =
+        "SiiNunit\n{\nt : null {\n  v: 1\n  v[0]: (&3f000000, 1, -2)\n  r: (1; 0, 0, -0)\n}\n}\n";
+    assert_eq!(to_siin(&bytes).unwrap(), text.as_bytes());
+    assert_eq!(to_siin(&bytes[..60]), Err(cut(57, 1)));
+}
+
 /// So many of the smallest prototypes: as many as their bytes allow.
 fn prototypes(count: u32) -> Vec<u8> {
     let mut bytes = b"BSII\x02\0\0\0".to_vec();
@@ -421,10 +448,40 @@ fn every_type_of_the_sample() {
     let bytes = garage();
     let file = BsiiFile::parse(&bytes).unwrap();
     let names = [
-        "label", "remarks", "city", "tags", "rating", "prices", "gate", "camera", "sector",
-        "sectors", "turns", "spot", "spots", "balance", "ledger", "slots", "loads", "level",
-        "days", "edition", "profit", "history", "serial", "keys", "open", "lights", "state",
-        "owner", "trucks", "depot", "drivers", "parent",
+        "label",
+        "remarks",
+        "city",
+        "tags",
+        "rating",
+        "prices",
+        "gate",
+        "camera",
+        "sector",
+        "sectors",
+        "turns",
+        "spot",
+        "spots",
+        "balance",
+        "ledger",
+        "slots",
+        "loads",
+        "level",
+        "days",
+        "edition",
+        "profit",
+        "history",
+        "serial",
+        "keys",
+        "open",
+        "lights",
+        "state",
+        "owner",
+        "trucks",
+        "depot",
+        "drivers",
+        "parent",
+        "waypoints",
+        "rotation",
     ];
     let mut types: Vec<_> = names
         .iter()
@@ -436,7 +493,5 @@ fn every_type_of_the_sample() {
         })
         .collect();
     types.sort();
-    let mut listed = generate::LISTED[..32].to_vec();
-    listed.sort();
-    assert_eq!(types, listed);
+    assert_eq!(types, generate::LISTED);
 }

@@ -50,7 +50,7 @@ fn name(random: &mut Random, save: &Save) -> Vec<u8> {
 }
 
 fn definition(random: &mut Random, save: &Save) -> Definition {
-    let type_id = random.pick(&LISTED);
+    let type_id = valid::listed(random);
     let mut list = Vec::new();
     if type_id == 0x37 {
         for _ in 0..random.below(5) {

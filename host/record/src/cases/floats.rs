@@ -20,6 +20,11 @@ pub fn floats(cases: &mut Cases) {
     }
     let vectors: Vec<_> = FLOATS.chunks(4).map(bytes_of).collect();
     cases.value("floats by four", 0x18, &array(&vectors));
+    for (i, four) in vectors.iter().enumerate() {
+        cases.value(format!("four floats, {i}"), 0x17, four);
+    }
+    let vectors: Vec<_> = FLOATS.chunks_exact(3).map(bytes_of).collect();
+    cases.value("floats by three", 0x0a, &array(&vectors));
 }
 
 /// f4 of placements: the worked cases, whole and other numbers around the steps of both sectors,

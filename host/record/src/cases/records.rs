@@ -1,7 +1,7 @@
 //! The worked bytes, headers, record numbers and marks.
 
 use super::Cases;
-use crate::bytes::{block, prototype};
+use crate::bytes::{block, prototype, worked_vectors};
 
 /// The worked file, with bytes after it, and cuts: none of the lengths whose answer depends on the
 /// Rust's build.
@@ -13,6 +13,12 @@ pub fn worked(cases: &mut Cases) {
     for len in (0..4).chain((8..whole.len()).step_by(3)) {
         let label = format!("worked bytes, first {len}");
         cases.add(label, whole[..len].to_vec());
+    }
+    let vectors = worked_vectors();
+    cases.add("worked vectors", vectors.clone());
+    for len in [49, 50, 60, 65, 80] {
+        let label = format!("worked vectors, first {len}");
+        cases.add(label, vectors[..len].to_vec());
     }
 }
 

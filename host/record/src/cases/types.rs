@@ -2,15 +2,7 @@
 
 use super::Cases;
 use crate::bytes::*;
-
-const TYPES: [u32; 32] = [
-    0x01, 0x02, 0x03, 0x04, 0x05, 0x06, 0x07, 0x09, 0x11, 0x12, 0x18, 0x19, 0x1a, 0x25, 0x26, 0x27,
-    0x28, 0x2b, 0x2c, 0x2f, 0x31, 0x32, 0x33, 0x34, 0x35, 0x36, 0x37, 0x39, 0x3a, 0x3b, 0x3c, 0x3d,
-];
-
-const ARRAYS: [u32; 14] = [
-    0x02, 0x04, 0x06, 0x12, 0x18, 0x1a, 0x26, 0x28, 0x2c, 0x32, 0x34, 0x36, 0x3a, 0x3c,
-];
+use generate::{ARRAYS, LISTED};
 
 /// The i-th of the plain elements of a type.
 fn element(type_id: u32, i: u32) -> Vec<u8> {
@@ -25,9 +17,9 @@ fn element(type_id: u32, i: u32) -> Vec<u8> {
         0x03 | 0x04 => word(&b"z_9"[..i as usize % 4]).to_le_bytes().to_vec(),
         0x05 | 0x06 => halves(1),
         0x07 => halves(2),
-        0x09 => halves(3),
+        0x09 | 0x0a => halves(3),
         0x11 | 0x12 => floats(&[i, i.wrapping_neg(), 0x7fff_ffff]),
-        0x18 => halves(4),
+        0x17 | 0x18 => halves(4),
         0x19 | 0x1a => halves(8),
         0x2b | 0x2c => (i as u16).wrapping_sub(1).to_le_bytes().to_vec(),
         0x31..=0x34 => (i as u64).wrapping_sub(1).to_le_bytes().to_vec(),
@@ -49,7 +41,7 @@ fn elements(type_id: u32, first: u32, count: u32) -> Vec<u8> {
 
 /// Every type: whole, and cut in its value; arrays of 0, 1 and 4 elements.
 pub fn types(cases: &mut Cases) {
-    for type_id in TYPES {
+    for type_id in LISTED {
         match ARRAYS.contains(&type_id) {
             true => array_type(cases, type_id),
             false => single_type(cases, type_id),
@@ -82,7 +74,7 @@ fn array_type(cases: &mut Cases, type_id: u32) {
 fn all_types(cases: &mut Cases) {
     let mut definitions = Vec::new();
     let mut values = Vec::new();
-    for type_id in TYPES {
+    for type_id in LISTED {
         let name = format!("t{type_id:x}");
         definitions.push(match type_id {
             0x37 => choice(name.as_bytes(), &[(7, b"seven")]),

@@ -6,18 +6,15 @@ use crate::bytes::{array, named, string};
 use crate::corners;
 use crate::save::{Definition, Save};
 use crate::widening::written::Written;
-use crate::Random;
+use crate::{Random, ARRAYS};
 
 /// What takes the place of a well-formed value, if that has what is needed for it.
 type Change = fn(&mut Random, &Definition, &[u8]) -> Option<Vec<u8>>;
 
 const NUMBERS: &[u32] = &[
-    0x05, 0x07, 0x09, 0x11, 0x19, 0x25, 0x27, 0x2b, 0x2f, 0x31, 0x33, 0x35,
+    0x05, 0x07, 0x09, 0x11, 0x17, 0x19, 0x25, 0x27, 0x2b, 0x2f, 0x31, 0x33, 0x35,
 ];
 const IDS: &[u32] = &[0x39, 0x3b, 0x3d];
-const ARRAYS: &[u32] = &[
-    0x02, 0x04, 0x06, 0x12, 0x18, 0x1a, 0x26, 0x28, 0x2c, 0x32, 0x34, 0x36, 0x3a, 0x3c,
-];
 
 const CHANGES: &[(&str, &[u32], Change)] = &[
     ("(i) without a value", &[], |_, _, _| Some(Vec::new())),
@@ -25,20 +22,20 @@ const CHANGES: &[(&str, &[u32], Change)] = &[
     ("(i) with a string cut short", &[0x01], cut),
     ("(i) with a word cut short", &[0x03], cut),
     ("(i) with an id cut short", IDS, cut),
-    ("(i) with an array cut short", ARRAYS, cut),
+    ("(i) with an array cut short", &ARRAYS, cut),
     ("(i) with a byte behind a number", NUMBERS, longer),
     ("(i) with a byte behind a string", &[0x01], longer),
     ("(i) with a byte behind a word", &[0x03], longer),
     ("(i) with a byte behind an id", IDS, longer),
-    ("(i) with a byte behind an array", ARRAYS, longer),
+    ("(i) with a byte behind an array", &ARRAYS, longer),
     (
         "(i) with a count above the elements",
-        ARRAYS,
+        &ARRAYS,
         |_, _, value| Some([&[value[0] + 1], &value[1..]].concat()),
     ),
     (
         "(i) with a count below the elements",
-        ARRAYS,
+        &ARRAYS,
         |_, _, value| Some([&[value[0].checked_sub(1)?], &value[1..]].concat()),
     ),
     ("(i) with a string not UTF-8", &[0x01], |random, _, _| {
@@ -82,8 +79,8 @@ const CHANGES: &[(&str, &[u32], Change)] = &[
 /// Types that 01 does not list, some of them beside listed ones.
 const UNLISTED: &[(&str, u32)] = &[
     ("(i) of the unlisted type 0x08, carried", 0x08),
-    ("(i) of the unlisted type 0x0a, carried", 0x0a),
-    ("(i) of the unlisted type 0x17, carried", 0x17),
+    ("(i) of the unlisted type 0x0b, carried", 0x0b),
+    ("(i) of the unlisted type 0x16, carried", 0x16),
     ("(i) of the unlisted type 0x38, carried", 0x38),
     ("(i) of the unlisted type 0x3e, carried", 0x3e),
     ("(i) of the unlisted type 0x105, carried", 0x105),
