@@ -42,7 +42,7 @@ extern "C" {
  */
 #define SII_VERSION_MAJOR 0
 #define SII_VERSION_MINOR 2
-#define SII_VERSION_PATCH 0
+#define SII_VERSION_PATCH 1
 
 /* The most bytes that a file may have, those behind its end record included. */
 #define SII_LENGTH_LIMIT 16777216
