@@ -58,7 +58,7 @@ pub record Listed : Type 0 where
 abbrev pub _is_ : ℕ → Shape → Listed
 t is x = record { typeId = t; shape = x }
 
--- 01's types in its order, and E3's: "0x0a, an array of three f32, and 0x17, a single four f32"
+-- 01's types and E3's, by number: "0x0a, an array of three f32, and 0x17, a single four f32"
 unfoldable pub typeTable : List Listed
 typeTable =
     0x01 is one string ∷

@@ -1,5 +1,5 @@
 -- What the calls answer for small files, found and refused: FORMAT.md, "A worked file", "A prototype id defined again" and "Calls". A case is a
--- line, its answer read off document 01; proofs/WorkedCalls.antt computes them.
+-- line, its answer read off documents 01 and 02; proofs/WorkedCalls.antt computes them.
 use Prim.Native.Nat.{ℕ}
 use mathlib.Core.Bool.{true, false}
 use mathlib.Core.List.{List, [], _∷_, _++_}
@@ -270,6 +270,9 @@ elements =
     elementCall 0x08 [] 0 says refusal unlistedType 0 ∷
     elementCall 0x0b triplesPart 0 says refusal unlistedType 0 ∷
     elementCall 0x16 quadruplePart 0 says refusal unlistedType 0 ∷
+    elementCall 0x30 (u32 1 ++ u32 5) 0 says refusal unlistedType 0 ∷
+    elementCall 0x38 (u32 1 ++ u32 5) 0 says refusal unlistedType 0 ∷
+    elementCall 0x3e (u32 1 ++ le 1 0) 0 says refusal unlistedType 0 ∷
     elementCall 0x01 (u32 3 ++ le 1 0xc0 ++ le 1 0x80) 0 says lacks 4 1 ∷
     elementCall 0x01 (u32 2 ++ le 1 0xc0 ++ le 1 0x80) 0 says refusal notUtf8 4 ∷
     elementCall 0x04 (u32 2 ++ u64 1 ++ u64 38) 0 says refusal zeroDigit 12 ∷

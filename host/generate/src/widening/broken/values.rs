@@ -76,7 +76,7 @@ const CHANGES: &[(&str, &[u32], Change)] = &[
     ),
 ];
 
-/// Types that 01 does not list, some of them beside listed ones.
+/// Unlisted types, some of them beside listed ones.
 const UNLISTED: &[(&str, u32)] = &[
     ("(i) of the unlisted type 0x08, carried", 0x08),
     ("(i) of the unlisted type 0x0b, carried", 0x0b),
