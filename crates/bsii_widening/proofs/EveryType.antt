@@ -14,7 +14,7 @@ use Rattle.bsii_widening.specs.Marks.{markRecords}
 use Rattle.bsii_widening.specs.Parts.{renumber}
 use Rattle.bsii_widening.specs.Claim.{Room, StillConverts, widened, newFile}
 use Rattle.bsii_widening.specs.Written.{madeAll}
-use Rattle.bsii_widening.specs.EveryType.{definitionBytes, elementBytes, shapeBytes, valueBytes, everyField, everyRecord}
+use Rattle.bsii_widening.specs.EveryType.{everyField, everyRecord}
 use Rattle.bsii_widening.specs.Example.{oldFile}
 use Rattle.bsii_widening.proofs.Computes.{computesAll}
 use Rattle.bsii_widening.proofs.Decided.{allowed-proves}
@@ -25,11 +25,11 @@ abbrev pub everyType : List Insertion
 everyType = madeAll (everyField ++ everyRecord) (markRecords (oldFile .records))
 
 pub every-type : AllAllowed everyType (markRecords (oldFile .records))
-unfolding computesAll definitionBytes elementBytes shapeBytes valueBytes everyField everyRecord
+unfolding computesAll
 every-type = allowed-proves everyType (markRecords (oldFile .records)) tt
 
 every-room : Room lengthLimit 6 oldFile [] (widened oldFile everyType)
-unfolding computesAll definitionBytes elementBytes shapeBytes valueBytes everyField everyRecord
+unfolding computesAll
 every-room = record { file = lit≤ tt; table = lit≤ tt }
 
 pub every-converts : StillConverts 768 workedFile (replicate 128 0) oldFile [] 73 6 (widened oldFile everyType)
@@ -37,9 +37,9 @@ every-converts = demand3 768 workedFile (replicate 128 0) oldFile 82 [] 73 old-s
 
 -- the inserted block stands in front of the old one, which is number 1 now
 pub every-number : renumber (widened oldFile everyType) 0 ≡ 1
-unfolding computesAll definitionBytes elementBytes shapeBytes valueBytes everyField everyRecord
+unfolding computesAll
 every-number = refl
 
 pub every-km : (b : FieldAnswer) × (fieldCall 6 (newFile oldFile [] (widened oldFile everyType)) 1 (ascii "km") ≡ gives b) × (b .typeId ≡ 0x27) × (b .bytes ≡ u32 300)
-unfolding computesAll definitionBytes elementBytes shapeBytes valueBytes everyField everyRecord
+unfolding computesAll
 every-km = (_, refl, refl, refl)

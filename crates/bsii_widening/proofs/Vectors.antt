@@ -5,7 +5,7 @@ use lib.ListN.{replicate}
 use lib.Dec.{lit≤}
 use Rattle.bsii_format.specs.File.{lengthLimit}
 use Rattle.bsii_format.specs.Text.{valueText}
-use Rattle.bsii_format.specs.WorkedCalls.{triplesPart, quadruplePart, vectorsFile, vectorsText}
+use Rattle.bsii_format.specs.WorkedCalls.{vectorsFile, vectorsText}
 use Rattle.bsii_widening.specs.Insertions.{AllAllowed}
 use Rattle.bsii_widening.specs.Marks.{markRecords}
 use Rattle.bsii_widening.specs.Claim.{OldSave, Room, StillConverts, newText, widened, newFile}
@@ -15,15 +15,15 @@ use Rattle.bsii_widening.proofs.Decided.{allowed-proves}
 use Rattle.bsii_widening.proofs.Demand3.{demand3}
 
 old-save : OldSave 3 definedFile (replicate 13 0) definedSave 49 [] 13
-unfolding computesAll triplesPart quadruplePart vectorsFile definedFile definedSave
+unfolding computesAll
 old-save = record { reads = refl; converts = refl; once = (tt, tt) }
 
 allowed : AllAllowed firstBlock (markRecords (definedSave .records))
-unfolding computesAll triplesPart quadruplePart vectorsFile definedFile definedSave firstBlock
+unfolding computesAll
 allowed = allowed-proves firstBlock (markRecords (definedSave .records)) tt
 
 room : Room lengthLimit 3 definedSave [] (widened definedSave firstBlock)
-unfolding computesAll triplesPart quadruplePart vectorsFile definedFile definedSave firstBlock
+unfolding computesAll
 room = record { file = lit≤ tt; table = lit≤ tt }
 
 pub vectors-convert : StillConverts 3 definedFile (replicate 13 0) definedSave [] 13 3 (widened definedSave firstBlock)
@@ -31,5 +31,5 @@ vectors-convert = demand3 3 definedFile (replicate 13 0) definedSave 49 [] 13 ol
 
 -- the new save is the worked one, and has its text
 pub vectors-added : (newFile definedSave [] (widened definedSave firstBlock) ≡ vectorsFile) × (newText valueText (widened definedSave firstBlock) ≡ vectorsText)
-unfolding computesAll triplesPart quadruplePart vectorsFile vectorsText definedFile definedSave firstBlock
+unfolding computesAll
 vectors-added = (refl, refl)
