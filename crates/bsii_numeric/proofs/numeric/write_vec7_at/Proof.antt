@@ -20,7 +20,9 @@ same-length c = search needs
 returns : tie.Need-returns
 returns c =
     let bits = c .before .before .before .before .before .bits7-at in
-    being (vec7-back (c .before .before .before .vec7-of .ensures) (bits .ensures) (omega arith) (omega arith) (omega arith) (omega arith) (omega arith) (omega arith) (omega arith)) (c .before .before .write-float-vec7 .ensures)
+    being (vec7-back (c .before .before .before .vec7-of .ensures) (bits .ensures)
+    (omega arith) (omega arith) (omega arith) (omega arith) (omega arith) (omega arith) (omega arith))
+    (c .before .before .write-float-vec7 .ensures)
 
 pub write-vec7-at-spec : {M : Type 1} → statement M
 write-vec7-at-spec =
