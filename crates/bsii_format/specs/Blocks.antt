@@ -37,7 +37,6 @@ unfoldable pub dataValue : ℕ → Consumed Value → DataValue
 dataValue t v = record { typeId = t; value = v .value; raw = v .raw }
 
 module _ (version : ℕ) where
-
   unfoldable pub dataValueParser : ℕ → Reader DataValue
   dataValueParser t = dataValue t <$> consumed (valueParser version t)
 

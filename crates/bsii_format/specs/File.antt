@@ -52,7 +52,6 @@ unfoldable pub blockStep : List ℕ → ℕ → Consumed Id → List DataValue �
 blockStep h n i l = more (block (record { head = h; prototypeId = n; id = i; values = l }))
 
 module _ (version : ℕ) where
-
   -- a block under the definition in force; 6: "block's prototype undefined so far", at the block, before its id is read
   unfoldable pub dataBlockParser : ℕ → List ℕ → ℕ → Option Prototype → Reader Step
   dataBlockParser start h n none at s = faultAt undefinedPrototype start
@@ -98,7 +97,6 @@ recordsThen rooms env start rest (more r) =
     cond (hasRoom rooms env r) (consRecord r <$> rest (define r env)) (λ at s. faultAt tableFull start)
 
 module _ (version rooms : ℕ) where
-
   -- The fuel is the number of bytes left, and a record has at least one: with none left the u32 that is due runs out.
   unfoldable pub recordsFrom : ℕ → List Prototype → Reader Records
   recordsFrom zero env at s = exhausted 4 at s
