@@ -24,9 +24,9 @@ use Rattle.bsii_widening.proofs.Example.{old-save}
 abbrev pub everyType : List Insertion
 everyType = madeAll 2 (everyField 2 ++ everyRecord 2) (markRecords (oldFile .records))
 
-pub every-type : AllAllowed 2 everyType (markRecords (oldFile .records))
+pub every-type : AllAllowed (oldFile .header .value) everyType (markRecords (oldFile .records))
 unfolding computesAll
-every-type = allowed-proves 2 everyType (markRecords (oldFile .records)) tt
+every-type = allowed-proves (oldFile .header .value) everyType (markRecords (oldFile .records)) tt
 
 every-room : Room lengthLimit 6 oldFile [] (widened oldFile everyType)
 unfolding computesAll

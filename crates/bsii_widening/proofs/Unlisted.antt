@@ -160,7 +160,7 @@ module _ (version : ℕ) (text : ValuePrototype → Value → Option (List ℕ))
       (ap (firstCarried n p (length (f .header .raw))) (sym q) ∙ e) (subst (λ z. distinctIds (defineAll z []) ≤ rooms) q o) in
       rw (append-assoc (f .header .raw) (recordsBytes (f .records) ++ f .end) r, consumed-fits h .reads 0 (recordsBytes (f .records) ++ f .end ++ r), zero-add)
       (map-fault (bsiiFile (f .header)) (recordsParser (f .header .value) rooms) (length (f .header .raw)) (recordsBytes (f .records) ++ f .end ++ r)
-      (subst (λ (x : ℕ). recordsParser x rooms (length (f .header .raw)) (recordsBytes (f .records) ++ f .end ++ r) ≡ _) (sym w) body))
+      (subst (λ (y : ℕ). recordsParser y rooms (length (f .header .raw)) (recordsBytes (f .records) ++ f .end ++ r) ≡ faultAt unlistedType x) (sym w) body))
 
 -- ---- no block of the id: nothing is asked of the values
 
