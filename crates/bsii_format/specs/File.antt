@@ -7,7 +7,7 @@ use lib.ListN.{length}
 use lib.Dec.{leb, eqb}
 use Rattle.bsii_format.specs.Ascii.{ascii}
 use Rattle.bsii_format.specs.Replies.{invalidHeader, undefinedPrototype, tableFull, inputLong, badMark}
-use Rattle.bsii_format.specs.Reader.{Result, faultAt, Reader, after, success, fail, exhausted, verify, tag, Consumed, consumed, _>>=_, _<$>_}
+use Rattle.bsii_format.specs.Reader.{Result, faultAt, Reader, after, success, exhausted, verify, tag, Consumed, consumed, _>>=_, _<$>_}
 use Rattle.bsii_format.specs.Numbers.{leU8, leU32}
 use Rattle.bsii_format.specs.Strings.{isSome, strParser, Id, idParser}
 use Rattle.bsii_format.specs.Prototypes.{ValuePrototype, Prototype, Fields, fieldsParser}
