@@ -22,8 +22,7 @@ pub fn message(
         let sentence = sentence(content, question, refusal, None);
         return format!("sii-decode: {name}: refused {number} at {offset}: {sentence}\n").into();
     }
-    // A fault of the first eight bytes lies in no record.
-    let place = walk::place_of(content, offset).filter(|_| number > 2);
+    let place = walk::place_of(content, offset);
     let sentence = sentence(content, question, refusal, place.as_ref());
     let first =
         format!("sii-decode: {name}: refused {number} at {offset} (0x{offset:08x}): {sentence}\n");
@@ -177,7 +176,15 @@ mod tests {
             _ => None,
         };
         let field = block.as_ref().and_then(|block| block.field);
-        let kind = field.map(|(_, type_id)| DataField { type_id, part: b"" }.kind_name());
+        let kind = field.map(|(_, type_id)| {
+            let (version, part) = (2, &[][..]);
+            let field = DataField {
+                version,
+                type_id,
+                part,
+            };
+            field.kind_name()
+        });
         match number {
             3 => assert!(is_told && refusal.lacking > 0),
             6 => assert!(block.unwrap().prototype.is_none()),
@@ -207,7 +214,7 @@ mod tests {
                 try_one(&bytes);
             }
         }
-        for number in [1, 2, 3, 4, 5, 6, 7, 9, 15] {
+        for number in [1, 3, 4, 5, 6, 7, 9, 15] {
             assert!(seen[number] > 0, "{number}: {seen:?}");
         }
     }
