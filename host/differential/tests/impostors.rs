@@ -246,13 +246,20 @@ impl Impostor {
 
     /// Of a value that runs out, the bytes that are lacking of all of it, if the rest are zeros.
     fn lacking_of_all(&mut self, call: Call<'_>, lacking: u64) -> u64 {
-        let Call::ElementOf { type_id, part, .. } = call else {
+        let Call::ElementOf {
+            version,
+            type_id,
+            part,
+            ..
+        } = call
+        else {
             return lacking;
         };
         let mut whole = part.to_vec();
         for more in 1..=64 {
             whole.push(0);
             let call = Call::ElementOf {
+                version,
                 type_id,
                 part: &whole,
                 index: 0,
@@ -320,6 +327,7 @@ impl Impostor {
 
     fn element(&mut self, whole: Element, call: Call<'_>) -> Element {
         let Call::ElementOf {
+            version,
             type_id,
             part,
             index,
@@ -332,6 +340,7 @@ impl Impostor {
                 let mut less = part.to_vec();
                 less[..4].copy_from_slice(&(index as u32).saturating_add(1).to_le_bytes());
                 let call = Call::ElementOf {
+                    version,
                     type_id,
                     part: &less,
                     index,

@@ -26,7 +26,10 @@ fn change(random: &mut Random, made: &mut Made) {
     match random.below(11) {
         0 if len > 0 => made.bytes[at] ^= 1 << random.below(8),
         1 if len > 0 => made.bytes[at] = random.pick(&[0, 1, 2, 0x37, 0x7f, 0x80, 0xfe, 0xff]),
-        2 | 3 => made.bytes.truncate(at),
+        2 => made.bytes.truncate(at),
+        3 if made.numbers.is_empty() => made.bytes.truncate(at),
+        // In front of a record, a length or a count: of a file without records, behind its header.
+        3 => made.bytes.truncate(random.pick(&made.numbers)),
         4 => splice(random, made, at),
         5 => insert(random, made, at),
         6 => delete(random, made, at),
