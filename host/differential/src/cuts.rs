@@ -149,6 +149,7 @@ impl<'a, 'b> Asked<'a, 'b> {
         self.same("a whole save", String::new, found, (0, 0, 0))?;
         self.counts.saves += 1;
         self.counts.bytes += file.len() as u64;
+        self.counts.version_1 += u64::from(whole.version == 1);
         match next <= EACH {
             true => (4..next).try_for_each(|kept| self.cut(whole, next, kept))?,
             false => {
