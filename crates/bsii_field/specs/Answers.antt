@@ -27,9 +27,9 @@ foundIs s (Value t at next) = some (record { typeId = t; part = record { offset 
 foundIs s NoValue = none
 
 -- the value of that index among those from `start` on
-pub record ValueAt (s : List ℕ) (fields start index : ℕ) (r : FoundValue) : Type 0 where
+pub record ValueAt (version : ℕ) (s : List ℕ) (fields start index : ℕ) (r : FoundValue) : Type 0 where
   pub answer : (l : Fields) (n : ℕ) (t : List ℕ) → fieldsParser fields (drop fields s) ≡ ok l n t
-      → (vs : List DataValue) (m : ℕ) (u : List ℕ) → dataValuesParser (l .fields) start (drop start s) ≡ ok vs m u
+      → (vs : List DataValue) (m : ℕ) (u : List ℕ) → dataValuesParser version (l .fields) start (drop start s) ≡ ok vs m u
       → foundIs s r ≡ Option·map fieldAnswer (getElem? (placed (λ (v : DataValue). length (v .raw)) start vs) index)
   -- for every input: a part lies in the file and is not empty
   pub inside : (t at next : ℕ) → r ≡ Value t at next → (at < next) × (next ≤ length s)

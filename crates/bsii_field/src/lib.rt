@@ -60,8 +60,8 @@ pub fn field_index(s: &[u8], fields: usize, name: &[u8]) -> Index
 }
 
 // The value at a position, of those from `start` on that stand under the definitions from `fields` on.
-pub fn value_at(s: &[u8], fields: usize, start: usize, index: usize) -> FoundValue
-    ensures { λ r. ⌜ ValueAt (now (s .entry)) fields start index r ⌝ }
+pub fn value_at(s: &[u8], version: u32, fields: usize, start: usize, index: usize) -> FoundValue
+    ensures { λ r. ⌜ ValueAt version (now (s .entry)) fields start index r ⌝ }
 {
     let mut field = fields;
     let mut at = start;
@@ -77,7 +77,7 @@ pub fn value_at(s: &[u8], fields: usize, start: usize, index: usize) -> FoundVal
         else {
             return FoundValue::NoValue;
         };
-        let value = skip_value(s, at, type_id);
+        let value = skip_value(s, at, version, type_id);
         let Parsed::Next(next) = value else {
             return FoundValue::NoValue;
         };

@@ -30,4 +30,4 @@ pub record LastPrototype (s t : List ℕ) (rows id : ℕ) (r : PrototypeReply) :
 
 -- of a block that the search found: what the block call answers for it
 pub record BlockAnswered (s : List ℕ) (b : Block) (r : BlockReply) : Type 0 where
-  pub answers : (last : List Prototype) (x : Placed DataBlock) → BlockIs s last b x → blockIs r ≡ gives (blockAnswer x)
+  pub answers : (version : ℕ) (last : List Prototype) (x : Placed DataBlock) → BlockIs version s last b x → blockIs r ≡ gives (blockAnswer x)

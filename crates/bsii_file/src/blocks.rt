@@ -56,7 +56,7 @@ fn read_block(file: &[u8], table: &mut [u32], k: usize) -> BlockReply
     match walked {
         Walked::Fault(f) => return BlockReply::Refused(f),
         Walked::Done(t) => {
-            let place = seek(file, 8, table, t.rows, true, file, k);
+            let place = seek(file, t.version, 8, table, t.rows, true, file, k);
             match place {
                 BlockAt::NoBlock => return BlockReply::Refused(refused(ABSENT, 0)),
                 BlockAt::Block(b) => return block_found(file, b),
@@ -81,7 +81,7 @@ fn read_named(file: &[u8], table: &mut [u32], name: &[u8], n: usize) -> NumberRe
     match walked {
         Walked::Fault(f) => return NumberReply::Refused(f),
         Walked::Done(t) => {
-            let place = seek(file, 8, table, t.rows, false, name, n);
+            let place = seek(file, t.version, 8, table, t.rows, false, name, n);
             match place {
                 BlockAt::NoBlock => return NumberReply::Refused(refused(ABSENT, 0)),
                 BlockAt::Block(b) => return NumberReply::Number(b.number),

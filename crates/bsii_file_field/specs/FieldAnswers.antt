@@ -22,13 +22,13 @@ pub record NextOf (end : Parsed) (r : ℕ) : Type 0 where
   pub is : (n : ℕ) → end ≡ Next n → r ≡ n
 
 -- of a block that the search found: the value under the name, or none; a value has a byte at least and lies in the file, for every input
-pub record FieldFound (s : List ℕ) (b : Block) (name : List ℕ) (r : FoundValue) : Type 0 where
-  pub answers : (last : List Prototype) (x : Placed DataBlock) → BlockIs s last b x → foundIs s r ≡ Option·map fieldAnswer (fieldUnder name x (getPrototype (x .it .prototypeId) last))
+pub record FieldFound (version : ℕ) (s : List ℕ) (b : Block) (name : List ℕ) (r : FoundValue) : Type 0 where
+  pub answers : (last : List Prototype) (x : Placed DataBlock) → BlockIs version s last b x → foundIs s r ≡ Option·map fieldAnswer (fieldUnder name x (getPrototype (x .it .prototypeId) last))
   pub inside : (t at next : ℕ) → r ≡ Value t at next → (at < next) × (next ≤ length s)
 
 -- the same as a reply
-pub record FieldPlaced (s : List ℕ) (b : Block) (name : List ℕ) (r : FieldReply) : Type 0 where
-  pub answers : (last : List Prototype) (x : Placed DataBlock) → BlockIs s last b x → fieldIs s r ≡ orAbsent (Option·map fieldAnswer (fieldUnder name x (getPrototype (x .it .prototypeId) last)))
+pub record FieldPlaced (version : ℕ) (s : List ℕ) (b : Block) (name : List ℕ) (r : FieldReply) : Type 0 where
+  pub answers : (last : List Prototype) (x : Placed DataBlock) → BlockIs version s last b x → fieldIs s r ≡ orAbsent (Option·map fieldAnswer (fieldUnder name x (getPrototype (x .it .prototypeId) last)))
   pub inside : (t at size : ℕ) → r ≡ Field t at size → at + size ≤ length s
 
 -- the call's answer, with the part inside the file

@@ -42,8 +42,8 @@ fn next_of(end: Parsed) -> usize
 }
 
 // The value of a block that was found. The name is looked for in the last definition, the value under the one in force.
-fn field_found(s: &[u8], b: Block, name: &[u8]) -> FoundValue
-    ensures { λ r. ⌜ FieldFound (now (s .entry)) b (now (name .entry)) r ⌝ }
+fn field_found(s: &[u8], version: u32, b: Block, name: &[u8]) -> FoundValue
+    ensures { λ r. ⌜ FieldFound version (now (s .entry)) b (now (name .entry)) r ⌝ }
 {
     let named = next_of(fields_at(s, b.last));
     let index = field_index(s, named, name);
@@ -52,15 +52,15 @@ fn field_found(s: &[u8], b: Block, name: &[u8]) -> FoundValue
         Index::At(position) => {
             let fields = next_of(fields_at(s, b.under));
             let start = next_of(skip_id(s, b.id));
-            value_at(s, fields, start, position)
+            value_at(s, version, fields, start, position)
         }
     }
 }
 
-fn placed(s: &[u8], b: Block, name: &[u8]) -> FieldReply
-    ensures { λ r. ⌜ FieldPlaced (now (s .entry)) b (now (name .entry)) r ⌝ }
+fn placed(s: &[u8], version: u32, b: Block, name: &[u8]) -> FieldReply
+    ensures { λ r. ⌜ FieldPlaced version (now (s .entry)) b (now (name .entry)) r ⌝ }
 {
-    let found = field_found(s, b, name);
+    let found = field_found(s, version, b, name);
     match found {
         FoundValue::NoValue => FieldReply::Refused(refused(ABSENT, 0)),
         FoundValue::Value { type_id, at, next } => FieldReply::Field {
@@ -79,10 +79,10 @@ fn read_field(file: &[u8], table: &mut [u32], k: usize, name: &[u8]) -> FieldRep
     match walked {
         Walked::Fault(f) => return FieldReply::Refused(f),
         Walked::Done(t) => {
-            let place = seek(file, 8, table, t.rows, true, name, k);
+            let place = seek(file, t.version, 8, table, t.rows, true, name, k);
             match place {
                 BlockAt::NoBlock => return FieldReply::Refused(refused(ABSENT, 0)),
-                BlockAt::Block(b) => return placed(file, b, name),
+                BlockAt::Block(b) => return placed(file, t.version, b, name),
             }
         }
     }

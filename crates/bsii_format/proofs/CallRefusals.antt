@@ -8,7 +8,7 @@ use mathlib.Core.List.{List, [], _∷_, _++_}
 use lib.ListN.{length, take, replicate, getElem?, length-replicate}
 use lib.Dec.{T, leb, eqb, leb→le}
 use Rattle.bsii_format.specs.Ascii.{ascii}
-use Rattle.bsii_format.specs.Replies.{Fault, refused, short, Reply, gives, refuses, refusal, invalidHeader, unsupportedVersion, notUtf8, zeroDigit, undefinedPrototype, unlistedType, fieldCount, enumValue, tableFull, outputShort, inputLong, absent, badMark}
+use Rattle.bsii_format.specs.Replies.{Fault, refused, short, Reply, gives, refuses, refusal, invalidHeader, notUtf8, zeroDigit, undefinedPrototype, unlistedType, fieldCount, enumValue, tableFull, outputShort, inputLong, absent, badMark}
 use Rattle.bsii_format.specs.Reader.{Result, ok, fault, faultAt, Consumed}
 use Rattle.bsii_format.specs.Prototypes.{ValuePrototype, Prototype}
 use Rattle.bsii_format.specs.Values.{Value, valueParser}
@@ -41,9 +41,9 @@ module _ (l : List ℕ) where
       go (ok f at r) t = unfold ofFile in k f at
       go (fault x) t = unfold ofFile in told-all l fileNumbers h x t
 
-element-within : (t : ℕ) (s : List ℕ) (i : ℕ) → Within elementNumbers (elementCall t s i)
+element-within : (version t : ℕ) (s : List ℕ) (i : ℕ) → Within elementNumbers (elementCall version t s i)
 unfolding elementCall
-element-within t s i = go (valueParser t 0 s) (value-only t .only 0 s)
+element-within version t s i = go (valueParser version t 0 s) (value-only version t .only 0 s)
   where
     go : (q : Result Value) → Told valueNumbers q → Within elementNumbers (ofValue i q)
     go (ok v at r) h = unfold ofValue in or-within elementNumbers _ _ tt (Option·map datum (getElem? (elementsOf v) i))
@@ -126,7 +126,6 @@ unfolding computes
 file-faults =
     faults 3 (long lengthLimit .0) (refused inputLong 0) (parse-long 3 (long lengthLimit .0) (long lengthLimit .1))
     also faults 3 (workedWith 0 0x58) (refused invalidHeader 0) refl
-    also faults 3 (workedWith 4 1) (refused unsupportedVersion 8) refl
     also faults 3 (take 70 workedFile) (short 69 3) refl
     also faults 3 (workedWith 33 0xff) (refused notUtf8 33) refl
     also faults 3 (workedWith 53 38) (refused zeroDigit 53) refl
@@ -185,17 +184,17 @@ pub field-refusals : GivesExactly {Q = ℕ × List ℕ × (ℕ × List ℕ)} loo
 unfolding computes
 field-refusals = lookup-refusals (λ x f. fieldOf (x .0) (x .1) f) (0, ascii "x") refl
 
--- type, slice and index
-pub element-refusals : GivesExactly {Q = ℕ × List ℕ × ℕ} elementNumbers (λ q. elementCall (q .0) (q .1) (q .2))
+-- version, type, slice and index
+pub element-refusals : GivesExactly {Q = ℕ × ℕ × List ℕ × ℕ} elementNumbers (λ q. elementCall (q .0) (q .1) (q .2) (q .3))
 unfolding computes
 element-refusals = record {
-  only = λ q. element-within (q .0) (q .1) (q .2);
+  only = λ q. element-within (q .0) (q .1) (q .2) (q .3);
   each =
-      given (0x27, [], 0) (short 0 4) refl
-      also given (0x01, u32 1 ++ le 1 0xff, 0) (refused notUtf8 4) refl
-      also given (0x03, u64 38, 0) (refused zeroDigit 0) refl
-      also given (0x08, [], 0) (refused unlistedType 0) refl
-      also given (0x27, u32 0, 1) (refused absent 0) refl
+      given (2, 0x27, [], 0) (short 0 4) refl
+      also given (2, 0x01, u32 1 ++ le 1 0xff, 0) (refused notUtf8 4) refl
+      also given (2, 0x03, u64 38, 0) (refused zeroDigit 0) refl
+      also given (2, 0x08, [], 0) (refused unlistedType 0) refl
+      also given (2, 0x27, u32 0, 1) (refused absent 0) refl
       also nothing;
   nonzero = refl;
 }

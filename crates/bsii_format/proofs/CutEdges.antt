@@ -44,13 +44,13 @@ unfolding computes
 final h = h 0 (ascii "SiiN") (refused invalidHeader 0) refl (λ e. omega (arith, e)) (omega arith) (9 ∷ []) (omega arith)
 
 -- a u32 of which nothing is there
-pub element-but-one : ElementLackingIsExact → elementCall 0x27 (9 ∷ 9 ∷ 9 ∷ []) 0 ≡ refuses (short 0 1)
+pub element-but-one : ElementLackingIsExact → elementCall 2 0x27 (9 ∷ 9 ∷ 9 ∷ []) 0 ≡ refuses (short 0 1)
 unfolding computes
-element-but-one h = h 0x27 0 [] 0 4 refl .fewer (9 ∷ 9 ∷ 9 ∷ []) (omega arith)
+element-but-one h = h 2 0x27 0 [] 0 4 refl .fewer (9 ∷ 9 ∷ 9 ∷ []) (omega arith)
 
-pub element-just : ElementLackingIsExact → (p k : ℕ) → elementCall 0x27 (9 ∷ 9 ∷ 9 ∷ 9 ∷ []) 0 ≡ refuses (short p k) → 1 ≤ p
+pub element-just : ElementLackingIsExact → (p k : ℕ) → elementCall 2 0x27 (9 ∷ 9 ∷ 9 ∷ 9 ∷ []) 0 ≡ refuses (short p k) → 1 ≤ p
 unfolding computes
-element-just h = h 0x27 0 [] 0 4 refl .enough (9 ∷ 9 ∷ 9 ∷ 9 ∷ []) (omega arith)
+element-just h = h 2 0x27 0 [] 0 4 refl .enough (9 ∷ 9 ∷ 9 ∷ 9 ∷ []) (omega arith)
 
 -- what a reading call's refusal has lacking
 module _ (words : ℕ) (s : List ℕ) (f : Fault) (e : readingCall words s ≡ refuses f) where

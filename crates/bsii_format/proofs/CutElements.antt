@@ -20,20 +20,20 @@ unfolding orRefuse
 not-absent none e = absurd (omega (arith, ap (λ (x : Fault). x .number) (refuses-inj e)))
 not-absent (some d) e = refuses≢gives (sym e)
 
-ran-out : (t i : ℕ) (s : List ℕ) {at m : ℕ} → elementCall t s i ≡ refuses (short at m) → valueParser t 0 s ≡ fault (short at m)
+ran-out : (version t i : ℕ) (s : List ℕ) {at m : ℕ} → elementCall version t s i ≡ refuses (short at m) → valueParser version t 0 s ≡ fault (short at m)
 unfolding elementCall
-ran-out t i s {at} {m} e = go (valueParser t 0 s) refl e
+ran-out version t i s {at} {m} e = go (valueParser version t 0 s) refl e
   where
-    go : (q : Result Value) → valueParser t 0 s ≡ q → ofValue i q ≡ refuses (short at m) → valueParser t 0 s ≡ fault (short at m)
+    go : (q : Result Value) → valueParser version t 0 s ≡ q → ofValue i q ≡ refuses (short at m) → valueParser version t 0 s ≡ fault (short at m)
     go (ok v n r) h e = unfold ofValue in not-absent (Option·map datum (getElem? (elementsOf v) i)) e
     go (fault x) h e = unfold ofValue in h ∙ ap fault (refuses-inj e)
 
 pub element-lacking-is-exact : ElementLackingIsExact
 unfolding elementCall ofValue
-element-lacking-is-exact t i s at m e =
-    let cut : (u : List ℕ) → Cut Value u (short at m) (valueParser t 0 (s ++ u)) =
-    λ u. subst (λ q. Extended u q (valueParser t 0 (s ++ u))) (ran-out t i s e) (value-extends t .extended 0 s u) in
+element-lacking-is-exact version t i s at m e =
+    let cut : (u : List ℕ) → Cut Value u (short at m) (valueParser version t 0 (s ++ u)) =
+    λ u. subst (λ q. Extended u q (valueParser version t 0 (s ++ u))) (ran-out version t i s e) (value-extends version t .extended 0 s u) in
     record {
       fewer = λ u l. rw (cut u .fewer refl l);
-      enough = λ u l p k h. subst (From (suc at)) (ran-out t i (s ++ u) h) (cut u .enough refl l) refl;
+      enough = λ u l p k h. subst (From (suc at)) (ran-out version t i (s ++ u) h) (cut u .enough refl l) refl;
     }

@@ -10,7 +10,7 @@ use lib.ListN.{length, take, drop}
 use lib.Seq.{take-append-le, drop-append-le}
 use lib.Dec.{leb, eqb}
 use Rattle.bsii_format.specs.Ascii.{ascii}
-use Rattle.bsii_format.specs.Replies.{invalidHeader, unsupportedVersion, notUtf8, zeroDigit, undefinedPrototype, unlistedType, tableFull, badMark}
+use Rattle.bsii_format.specs.Replies.{invalidHeader, notUtf8, zeroDigit, undefinedPrototype, unlistedType, tableFull, badMark}
 use Rattle.bsii_format.specs.Reader.{fault, faultAt, Reader, after, _>>=_, success, fail, exhausted, _<$>_, bytes, Consumed, with, consumed, same, tag}
 use Rattle.bsii_format.specs.Numbers.{littleEndian, number, leU32}
 use Rattle.bsii_format.specs.Utf8.{utf8}
@@ -56,16 +56,16 @@ shape-extends none = fail-extends Value unlistedType tt
 shape-extends (some (one k)) = map-extends single (consumed-extends (element-exact k) (element-extends k))
 shape-extends (some (many k)) = map-extends array (bind-extends _ (number-extends 4) (λ n. repeat-extends n (consumed-extends (element-exact k) (element-extends k))))
 
-pub value-extends : (t : ℕ) → Extends Value (valueParser t)
+pub value-extends : (version t : ℕ) → Extends Value (valueParser version t)
 unfolding valueParser
-value-extends t = shape-extends (shapeOf t)
+value-extends version t = shape-extends (shapeOf version t)
 
-values-extends : (fs : List (Consumed ValuePrototype)) → Extends (List DataValue) (dataValuesParser fs)
+values-extends : (version : ℕ) (fs : List (Consumed ValuePrototype)) → Extends (List DataValue) (dataValuesParser version fs)
 unfolding dataValuesParser dataValueParser
-values-extends [] = success-extends []
-values-extends (f ∷ fs) =
+values-extends version [] = success-extends []
+values-extends version (f ∷ fs) =
     let t = f .value .typeId in
-    bind-extends _ (map-extends (dataValue t) (consumed-extends (value-exact t) (value-extends t))) (λ v. bind-extends _ (values-extends fs) (λ l. success-extends (v ∷ l)))
+    bind-extends _ (map-extends (dataValue t) (consumed-extends (value-exact version t) (value-extends version t))) (λ v. bind-extends _ (values-extends version fs) (λ l. success-extends (v ∷ l)))
 
 -- ---- field definitions
 
@@ -126,23 +126,23 @@ head-extends =
     bind-extends _ (number-extends 4)
     (λ n. cond-extends (eqb n 0) (bind-extends markParser (verify-extends (λ m. leb m 1) badMark tt (number-extends 1)) mark-extends) (success-extends (carrying n)))
 
-block-extends : (start : ℕ) (hd : List ℕ) (n : ℕ) (o : Option Prototype) → Extends Step (dataBlockParser start hd n o)
+block-extends : (version start : ℕ) (hd : List ℕ) (n : ℕ) (o : Option Prototype) → Extends Step (dataBlockParser version start hd n o)
 unfolding dataBlockParser
-block-extends start hd n none = refusal-extends Step undefinedPrototype start tt
-block-extends start hd n (some p) = bind-extends (λ i. blockStep hd n i <$> dataValuesParser (p .fields)) (consumed-extends id-exact id-extends)
-    (λ i. map-extends (blockStep hd n i) (values-extends (p .fields)))
+block-extends version start hd n none = refusal-extends Step undefinedPrototype start tt
+block-extends version start hd n (some p) = bind-extends (λ i. blockStep hd n i <$> dataValuesParser version (p .fields)) (consumed-extends id-exact id-extends)
+    (λ i. map-extends (blockStep hd n i) (values-extends version (p .fields)))
 
-step-extends : (env : List Prototype) (start : ℕ) (hd : List ℕ) (h : Head) → Extends Step (stepParser env start hd h)
+step-extends : (version : ℕ) (env : List Prototype) (start : ℕ) (hd : List ℕ) (h : Head) → Extends Step (stepParser version env start hd h)
 unfolding stepParser
-step-extends env start hd ending = success-extends (end hd)
-step-extends env start hd (defining n name) = map-extends (prototypeStep hd n name) fields-extends
-step-extends env start hd (carrying n) = block-extends start hd n (getPrototype n env)
+step-extends version env start hd ending = success-extends (end hd)
+step-extends version env start hd (defining n name) = map-extends (prototypeStep hd n name) fields-extends
+step-extends version env start hd (carrying n) = block-extends version start hd n (getPrototype n env)
 
-record-extends : (env : List Prototype) → Extends Step (recordParser env)
+record-extends : (version : ℕ) (env : List Prototype) → Extends Step (recordParser version env)
 unfolding recordParser
-record-extends env =
-    after-extends (λ start h. stepParser env start (h .raw) (h .value)) (consumed-extends head-exact head-extends)
-    (λ start h. step-extends env start (h .raw) (h .value))
+record-extends version env =
+    after-extends (λ start h. stepParser version env start (h .raw) (h .value)) (consumed-extends head-exact head-extends)
+    (λ start h. step-extends version env start (h .raw) (h .value))
 
 module _ (rooms : ℕ) (env : List Prototype) (start : ℕ) where
   next-from : (M : List Prototype → Reader Records) → Onward M → Onward (recordsThen rooms env start M)
@@ -165,23 +165,23 @@ module _ (rooms : ℕ) (env : List Prototype) (start : ℕ) where
       go true = map-extended (consRecord r) (M (define r env)) (N (define r env)) at s t (h (define r env))
       go false = refusal-extends Records tableFull start tt .extended at s t
 
-records-loop : (rooms : ℕ) → Loop (List Prototype) Step Records (recordsFrom rooms) recordParser (recordsThen rooms)
+records-loop : (version rooms : ℕ) → Loop (List Prototype) Step Records (recordsFrom version rooms) (recordParser version) (recordsThen rooms)
 unfolding recordsFrom exhausted
-records-loop rooms = record {
+records-loop version rooms = record {
   stop = λ env at s. refl;
-  due = record-empty;
+  due = record-empty version;
   step = λ n env at s. refl;
-  extends = record-extends;
-  less = λ env. shorter (record-exact env) (record-empty env 0);
+  extends = record-extends version;
+  less = λ env. shorter (record-exact version env) (record-empty version env 0);
   onward = next-from rooms;
   extended = next-extended rooms;
 }
 
-records-extends : (rooms : ℕ) → Extends Records (recordsParser rooms)
+records-extends : (version rooms : ℕ) → Extends Records (recordsParser version rooms)
 unfolding recordsParser
-records-extends rooms = record {
-  from = λ at s. loop-from (records-loop rooms) (length s) [] at s;
-  extended = λ at s t. loop-extended (records-loop rooms) (length s) (length (s ++ t)) [] at s t (omega arith) (omega arith);
+records-extends version rooms = record {
+  from = λ at s. loop-from (records-loop version rooms) (length s) [] at s;
+  extended = λ at s t. loop-extended (records-loop version rooms) (length s) (length (s ++ t)) [] at s t (omega arith) (omega arith);
 }
 
 -- ---- the file
@@ -197,10 +197,7 @@ unfolding headerParser _>>=_
 header-extended at s t h =
     after-extended t (tag (ascii "BSII") invalidHeader at s) (tag (ascii "BSII") invalidHeader at (s ++ t)) _ _
     (tag-extended (ascii "BSII") invalidHeader tt at s t h)
-    (λ u n r e. version .extended n r t) (λ u. version .from)
-  where
-    version : Extends ℕ (leU32 >>= (λ v. cond (eqb v 1) (fail unsupportedVersion) (success v)))
-    version = bind-extends _ (number-extends 4) (λ v. cond-extends (eqb v 1) (fail-extends ℕ unsupportedVersion tt) (success-extends v))
+    (λ u n r e. number-extends 4 .extended n r t) (λ u. number-extends 4 .from)
 
 pub file-extended : (rooms : ℕ) (s t : List ℕ) → 4 ≤ length s → Extended t (bsiiParser rooms 0 s) (bsiiParser rooms 0 (s ++ t))
 unfolding bsiiParser _>>=_
@@ -208,5 +205,5 @@ file-extended rooms s t h =
     after-extended t (consumed headerParser 0 s) (consumed headerParser 0 (s ++ t)) _ _ (consumed-extended header-exact 0 s t (header-extended 0 s t h))
     (λ v n r e. rest v .extended n r t) (λ v. rest v .from)
   where
-    rest : (v : Consumed ℕ) → Extends BsiiFile (bsiiFile v <$> recordsParser rooms)
-    rest v = map-extends (bsiiFile v) (records-extends rooms)
+    rest : (v : Consumed ℕ) → Extends BsiiFile (bsiiFile v <$> recordsParser (v .value) rooms)
+    rest v = map-extends (bsiiFile v) (records-extends (v .value) rooms)

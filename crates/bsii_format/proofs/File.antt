@@ -17,7 +17,7 @@ use Rattle.bsii_format.proofs.Records.{GoodRecords, records-fits, recor
 
 pub record GoodFile (rooms : ℕ) (f : BsiiFile) : Type 0 where
   pub header : Fits ℕ headerParser (f .header .value) (f .header .raw)
-  pub records : GoodRecords [] (f .records)
+  pub records : GoodRecords (f .header .value) [] (f .records)
   pub roomed : distinctIds (defineAll (f .records) []) ≤ rooms
   pub last : Fits Head headParser ending (f .end)
 
@@ -25,7 +25,7 @@ pub record GoodFile (rooms : ℕ) (f : BsiiFile) : Type 0 where
 pub file-fits : (rooms : ℕ) (f : BsiiFile) → GoodFile rooms f → Fits BsiiFile (bsiiParser rooms) f (fileBytes f)
 unfolding bsiiParser bsiiFile fileBytes
 file-fits rooms f g =
-    bind-fits (λ h. bsiiFile h <$> recordsParser rooms) (consumed-fits (g .header))
+    bind-fits (λ h. bsiiFile h <$> recordsParser (h .value) rooms) (consumed-fits (g .header))
     (map-fits (bsiiFile (f .header)) (records-fits rooms (g .records) (g .roomed) (g .last)))
 
 -- A: what is read is well-formed, and the bytes are its bytes and a rest
@@ -37,10 +37,10 @@ pub record FileTaken (rooms : ℕ) (f : BsiiFile) (s : List ℕ) (at : ℕ) (r :
 pub file-good : (rooms : ℕ) (s : List ℕ) (f : BsiiFile) (at : ℕ) (r : List ℕ) → bsiiParser rooms 0 s ≡ ok f at r → FileTaken rooms f s at r
 unfolding bsiiParser bsiiFile fileBytes _>>=_ recordsParser distinctIds
 file-good rooms s f at r e =
-    let w = after-ok (consumed headerParser 0 s) (λ h. bsiiFile h <$> recordsParser rooms) e in
+    let w = after-ok (consumed headerParser 0 s) (λ h. bsiiFile h <$> recordsParser (h .value) rooms) e in
     let x = consumed-took header-exact 0 s (w .0) (w .1) (w .2) (w .3) in
-    let m = map-ok (bsiiFile (w .0)) (recordsParser rooms) (w .1) (w .2) (w .4) in
-    let l = records-good rooms (length (w .2)) [] (w .1) (w .2) (m .0) at r (m .2) in
+    let m = map-ok (bsiiFile (w .0)) (recordsParser (w .0 .value) rooms) (w .1) (w .2) (w .4) in
+    let l = records-good (w .0 .value) rooms (length (w .2)) [] (w .1) (w .2) (m .0) at r (m .2) in
     subst (λ f. FileTaken rooms f s at r) (m .1) (record {
       good = record { header = x .fit; records = l .good; roomed = l .roomed (omega arith); last = l .last };
       front = x .front ∙ ap (λ (k : List ℕ). w .0 .raw ++ k) (l .front) ∙ simp append-assoc;

@@ -4,7 +4,7 @@ use mathlib.Core.Option.{Option, none, some}
 use mathlib.Core.List.{List, [], _∷_}
 use lib.Dec.{leb, eqb}
 use Rattle.bsii_format.specs.Reader.{Reader, bytes, Consumed}
-use Rattle.bsii_format.specs.Replies.{notUtf8, zeroDigit, unsupportedVersion, unlistedType, badMark, invalidHeader}
+use Rattle.bsii_format.specs.Replies.{notUtf8, zeroDigit, unlistedType, badMark, invalidHeader}
 use Rattle.bsii_format.specs.Ascii.{ascii}
 use Rattle.bsii_format.specs.Numbers.{littleEndian, number}
 use Rattle.bsii_format.specs.Utf8.{utf8}
@@ -47,13 +47,13 @@ shape-exact none = fail-exact Value unlistedType
 shape-exact (some (one k)) = map-exact single (consumed-exact (element-exact k))
 shape-exact (some (many k)) = map-exact array (bind-exact _ (number-exact 4) (λ n. repeat-exact n (consumed-exact (element-exact k))))
 
-pub value-exact : (t : ℕ) → Exact Value (valueParser t)
+pub value-exact : (version t : ℕ) → Exact Value (valueParser version t)
 unfolding valueParser
-value-exact t = shape-exact (shapeOf t)
+value-exact version t = shape-exact (shapeOf version t)
 
-pub dataValue-exact : (t : ℕ) → Exact DataValue (dataValueParser t)
+pub dataValue-exact : (version t : ℕ) → Exact DataValue (dataValueParser version t)
 unfolding dataValueParser
-dataValue-exact t = map-exact (dataValue t) (consumed-exact (value-exact t))
+dataValue-exact version t = map-exact (dataValue t) (consumed-exact (value-exact version t))
 
 pub enumValue-exact : Exact EnumValue enumValueParser
 unfolding enumValueParser
@@ -84,4 +84,4 @@ pub header-exact : Exact ℕ headerParser
 unfolding headerParser
 header-exact =
     bind-exact _ (tag-exact (ascii "BSII") invalidHeader)
-    (λ u. bind-exact _ (number-exact 4) (λ v. cond-exact (eqb v 1) (fail-exact ℕ unsupportedVersion) (success-exact v)))
+    (λ u. number-exact 4)

@@ -98,52 +98,55 @@ fields-good (suc n) at s l at′ r e =
 
 -- ---- a block's values
 
-pub record GoodValue (f : Consumed ValuePrototype) (v : DataValue) : Type 0 where
+pub record GoodValue (version : ℕ) (f : Consumed ValuePrototype) (v : DataValue) : Type 0 where
   pub typed : v .typeId ≡ f .value .typeId
-  pub fit : Fits Value (valueParser (f .value .typeId)) (v .value) (v .raw)
+  pub fit : Fits Value (valueParser version (f .value .typeId)) (v .value) (v .raw)
 
-pub data GoodValues : List (Consumed ValuePrototype) → List DataValue → Type 0 where
-  nil : GoodValues [] []
-  cons : {f : Consumed ValuePrototype} {fs : List (Consumed ValuePrototype)} {v : DataValue} {l : List DataValue} → GoodValue f v → GoodValues fs l → GoodValues (f ∷ fs) (v ∷ l)
+pub data GoodValues (version : ℕ) : List (Consumed ValuePrototype) → List DataValue → Type 0 where
+  nil : GoodValues version [] []
+  cons : {f : Consumed ValuePrototype} {fs : List (Consumed ValuePrototype)} {v : DataValue} {l : List DataValue}
+      → GoodValue version f v → GoodValues version fs l → GoodValues version (f ∷ fs) (v ∷ l)
 
-pub values-length : {fs : List (Consumed ValuePrototype)} {l : List DataValue} → GoodValues fs l → length fs ≡ length l
+pub values-length : {version : ℕ} {fs : List (Consumed ValuePrototype)} {l : List DataValue} → GoodValues version fs l → length fs ≡ length l
 values-length nil = refl
 values-length (cons g h) = ap suc (values-length h)
 
-pub value-fits : {f : Consumed ValuePrototype} {v : DataValue} → GoodValue f v → Fits DataValue (dataValueParser (f .value .typeId)) v (v .raw)
+pub value-fits : {version : ℕ} {f : Consumed ValuePrototype} {v : DataValue} → GoodValue version f v → Fits DataValue (dataValueParser version (f .value .typeId)) v (v .raw)
 unfolding dataValueParser dataValue
-value-fits {f} {v} g =
-    subst (λ (t : ℕ). Fits DataValue (dataValueParser (f .value .typeId)) (record { typeId = t; value = v .value; raw = v .raw }) (v .raw)) (sym (g .typed))
+value-fits {version} {f} {v} g =
+    subst (λ (t : ℕ). Fits DataValue (dataValueParser version (f .value .typeId)) (record { typeId = t; value = v .value; raw = v .raw }) (v .raw)) (sym (g .typed))
     (map-fits (dataValue (f .value .typeId)) (consumed-fits (g .fit)))
 
-pub value-good : (f : Consumed ValuePrototype) (at : ℕ) (s : List ℕ) (v : DataValue) (at′ : ℕ) (r : List ℕ) → dataValueParser (f .value .typeId) at s ≡ ok v at′ r
-    → GoodValue f v × (s ≡ v .raw ++ r) × (at′ ≡ at + length (v .raw))
+pub value-good : {version : ℕ} (f : Consumed ValuePrototype) (at : ℕ) (s : List ℕ) (v : DataValue) (at′ : ℕ) (r : List ℕ)
+    → dataValueParser version (f .value .typeId) at s ≡ ok v at′ r → GoodValue version f v × (s ≡ v .raw ++ r) × (at′ ≡ at + length (v .raw))
 unfolding dataValueParser dataValue
-value-good f at s v at′ r e =
-    let m = map-ok (dataValue (f .value .typeId)) (consumed (valueParser (f .value .typeId))) at s e in
-    let x = consumed-took (value-exact (f .value .typeId)) at s (m .0) at′ r (m .2) in
-    subst (λ v. GoodValue f v × (s ≡ v .raw ++ r) × (at′ ≡ at + length (v .raw))) (m .1) (record { typed = refl; fit = x .fit }, x .front, x .place)
+value-good {version} f at s v at′ r e =
+    let m = map-ok (dataValue (f .value .typeId)) (consumed (valueParser version (f .value .typeId))) at s e in
+    let x = consumed-took (value-exact version (f .value .typeId)) at s (m .0) at′ r (m .2) in
+    subst (λ v. GoodValue version f v × (s ≡ v .raw ++ r) × (at′ ≡ at + length (v .raw))) (m .1) (record { typed = refl; fit = x .fit }, x .front, x .place)
 
-pub values-fits : {fs : List (Consumed ValuePrototype)} {l : List DataValue} → GoodValues fs l → Fits (List DataValue) (dataValuesParser fs) l (valuesBytes l)
+pub values-fits : {version : ℕ} {fs : List (Consumed ValuePrototype)} {l : List DataValue} → GoodValues version fs l
+    → Fits (List DataValue) (dataValuesParser version fs) l (valuesBytes l)
 unfolding dataValuesParser valuesBytes _<$>_
 values-fits nil = success-fits []
-values-fits (cons {f = f} {fs = fs} {v = v} {l = l} g k) =
-    bind-fits (λ v. (λ l. v ∷ l) <$> dataValuesParser fs) (value-fits g) (map-fits (λ l. v ∷ l) (values-fits k))
+values-fits {version} (cons {f = f} {fs = fs} {v = v} {l = l} g k) =
+    bind-fits (λ v. (λ l. v ∷ l) <$> dataValuesParser version fs) (value-fits g) (map-fits (λ l. v ∷ l) (values-fits k))
 
-pub record GoodRow (fs : List (Consumed ValuePrototype)) (l : List DataValue) (at : ℕ) (s : List ℕ) (at′ : ℕ) (r : List ℕ) : Type 0 where
-  pub good : GoodValues fs l
+pub record GoodRow (version : ℕ) (fs : List (Consumed ValuePrototype)) (l : List DataValue) (at : ℕ) (s : List ℕ) (at′ : ℕ) (r : List ℕ) : Type 0 where
+  pub good : GoodValues version fs l
   pub front : s ≡ valuesBytes l ++ r
   pub place : at′ ≡ at + length (valuesBytes l)
 
-pub values-good : (fs : List (Consumed ValuePrototype)) (at : ℕ) (s : List ℕ) (l : List DataValue) (at′ : ℕ) (r : List ℕ) → dataValuesParser fs at s ≡ ok l at′ r → GoodRow fs l at s at′ r
+pub values-good : {version : ℕ} (fs : List (Consumed ValuePrototype)) (at : ℕ) (s : List ℕ) (l : List DataValue) (at′ : ℕ) (r : List ℕ)
+    → dataValuesParser version fs at s ≡ ok l at′ r → GoodRow version fs l at s at′ r
 unfolding dataValuesParser _>>=_ success valuesBytes
-values-good [] at s l at′ r e = ok-move (λ l at′ r. GoodRow [] l at s at′ r) e (record { good = nil; front = refl; place = sym (add-zero at) })
-values-good (f ∷ fs) at s l at′ r e =
-    let q = after-ok (dataValueParser (f .value .typeId) at s) _ e in
+values-good {version} [] at s l at′ r e = ok-move (λ l at′ r. GoodRow version [] l at s at′ r) e (record { good = nil; front = refl; place = sym (add-zero at) })
+values-good {version} (f ∷ fs) at s l at′ r e =
+    let q = after-ok (dataValueParser version (f .value .typeId) at s) _ e in
     let x = value-good f at s (q .0) (q .1) (q .2) (q .3) in
-    let m = after-ok (dataValuesParser fs (q .1) (q .2)) _ (q .4) in
+    let m = after-ok (dataValuesParser version fs (q .1) (q .2)) _ (q .4) in
     let i = values-good fs (q .1) (q .2) (m .0) (m .1) (m .2) (m .3) in
-    ok-move (λ l at′ r. GoodRow (f ∷ fs) l at s at′ r) (m .4) (record {
+    ok-move (λ l at′ r. GoodRow version (f ∷ fs) l at s at′ r) (m .4) (record {
       good = cons (x .0) (i .good);
       front = x .1 ∙ ap (λ (z : List ℕ). q .0 .raw ++ z) (i .front) ∙ sym (append-assoc (q .0 .raw) (valuesBytes (m .0)) (m .2));
       place = rw length-append (omega (arith, i .place, x .2));
@@ -157,91 +160,92 @@ pub record GoodPrototype (p : Prototype) : Type 0 where
   pub last : GoodEnd (p .terminator)
 
 -- `by` is the definition in force
-pub record GoodBlock (env : List Prototype) (b : DataBlock) : Type 0 where
+pub record GoodBlock (version : ℕ) (env : List Prototype) (b : DataBlock) : Type 0 where
   pub head : Fits Head headParser (carrying (b .prototypeId)) (b .head)
   pub id : Fits Id idParser (b .id .value) (b .id .raw)
   pub by : Prototype
   pub found : getPrototype (b .prototypeId) env ≡ some by
-  pub values : GoodValues (by .fields) (b .values)
+  pub values : GoodValues version (by .fields) (b .values)
 
-abbrev pub GoodRecord : List Prototype → Record → Type 0
-GoodRecord env (prototype p) = GoodPrototype p
-GoodRecord env (block b) = GoodBlock env b
+abbrev pub GoodRecord : ℕ → List Prototype → Record → Type 0
+GoodRecord version env (prototype p) = GoodPrototype p
+GoodRecord version env (block b) = GoodBlock version env b
 
-abbrev pub GoodStep : List Prototype → Step → Type 0
-GoodStep env (end l) = Fits Head headParser ending l
-GoodStep env (more r) = GoodRecord env r
+abbrev pub GoodStep : ℕ → List Prototype → Step → Type 0
+GoodStep version env (end l) = Fits Head headParser ending l
+GoodStep version env (more r) = GoodRecord version env r
 
 unfoldable pub stepBytes : Step → List ℕ
 stepBytes (end l) = l
 stepBytes (more r) = recordBytes r
 
-headed : (env : List Prototype) {h : Head} {hd : List ℕ} {q : Step} {c : List ℕ} → Fits Head headParser h hd → ((start : ℕ) → Fits Step (stepParser env start hd h) q c)
-    → Fits Step (recordParser env) q (hd ++ c)
+headed : (version : ℕ) (env : List Prototype) {h : Head} {hd : List ℕ} {q : Step} {c : List ℕ} → Fits Head headParser h hd
+    → ((start : ℕ) → Fits Step (stepParser version env start hd h) q c) → Fits Step (recordParser version env) q (hd ++ c)
 unfolding recordParser after
-headed env {h} {hd} {q} {c} f g = record {
+headed version env {h} {hd} {q} {c} f g = record {
   reads = λ b t.
       rw (append-assoc, consumed-fits f .reads b (c ++ t), g b .reads (b + length hd) t, length-append, add-assoc);
 }
 
-pub record-fits : (env : List Prototype) (q : Step) → GoodStep env q → Fits Step (recordParser env) q (stepBytes q)
+pub record-fits : (version : ℕ) (env : List Prototype) (q : Step) → GoodStep version env q → Fits Step (recordParser version env) q (stepBytes q)
 unfolding stepBytes recordBytes stepParser prototypeStep blockStep dataBlockParser
-record-fits env (end l) g = subst (λ (c : List ℕ). Fits Step (recordParser env) (end l) c) (append-nil l) (headed env g (λ start. success-fits (end l)))
-record-fits env (more (prototype p)) g =
-    headed env (g .head) (λ start. map-fits (prototypeStep (p .head) (p .id) (p .name)) (fields-fits (g .fields) (g .last)))
-record-fits env (more (block b)) g =
-    headed env (g .head) (λ start. rw (g .found)
-    (bind-fits (λ i. blockStep (b .head) (b .prototypeId) i <$> dataValuesParser (g .by .fields)) (consumed-fits (g .id))
+record-fits version env (end l) g = subst (λ (c : List ℕ). Fits Step (recordParser version env) (end l) c) (append-nil l) (headed version env g (λ start. success-fits (end l)))
+record-fits version env (more (prototype p)) g =
+    headed version env (g .head) (λ start. map-fits (prototypeStep (p .head) (p .id) (p .name)) (fields-fits (g .fields) (g .last)))
+record-fits version env (more (block b)) g =
+    headed version env (g .head) (λ start. rw (g .found)
+    (bind-fits (λ i. blockStep (b .head) (b .prototypeId) i <$> dataValuesParser version (g .by .fields)) (consumed-fits (g .id))
     (map-fits (blockStep (b .head) (b .prototypeId) (b .id)) (values-fits (g .values)))))
 
-pub record GoodTaken (env : List Prototype) (q : Step) (at : ℕ) (s : List ℕ) (at′ : ℕ) (r : List ℕ) : Type 0 where
-  pub good : GoodStep env q
+pub record GoodTaken (version : ℕ) (env : List Prototype) (q : Step) (at : ℕ) (s : List ℕ) (at′ : ℕ) (r : List ℕ) : Type 0 where
+  pub good : GoodStep version env q
   pub front : s ≡ stepBytes q ++ r
   pub place : at′ ≡ at + length (stepBytes q)
 
-block-good : {env : List Prototype} {at : ℕ} {s : List ℕ} {n : ℕ} {hd : List ℕ} {at₁ : ℕ} (s₁ : List ℕ) {o : Option Prototype} → getPrototype n env ≡ o
+block-good : {version : ℕ} {env : List Prototype} {at : ℕ} {s : List ℕ} {n : ℕ} {hd : List ℕ} {at₁ : ℕ} (s₁ : List ℕ) {o : Option Prototype} → getPrototype n env ≡ o
     → Fits Head headParser (carrying n) hd → s ≡ hd ++ s₁ → at₁ ≡ at + length hd
-    → {q : Step} {at′ : ℕ} {r : List ℕ} → dataBlockParser at hd n o at₁ s₁ ≡ ok q at′ r → GoodTaken env q at s at′ r
+    → {q : Step} {at′ : ℕ} {r : List ℕ} → dataBlockParser version at hd n o at₁ s₁ ≡ ok q at′ r → GoodTaken version env q at s at′ r
 unfolding dataBlockParser _>>=_ blockStep stepBytes recordBytes
 block-good s₁ {o = none} k f p l e = fault≢ok e
-block-good {env} {at} {s} {n} {hd} {at₁} s₁ {o = some y} k f p l {at′ = at′} {r} e =
-    let w = after-ok (consumed idParser at₁ s₁) (λ i. blockStep hd n i <$> dataValuesParser (y .fields)) e in
+block-good {version} {env} {at} {s} {n} {hd} {at₁} s₁ {o = some y} k f p l {at′ = at′} {r} e =
+    let w = after-ok (consumed idParser at₁ s₁) (λ i. blockStep hd n i <$> dataValuesParser version (y .fields)) e in
     let x = consumed-took id-exact at₁ s₁ (w .0) (w .1) (w .2) (w .3) in
-    let m = map-ok (blockStep hd n (w .0)) (dataValuesParser (y .fields)) (w .1) (w .2) (w .4) in
+    let m = map-ok (blockStep hd n (w .0)) (dataValuesParser version (y .fields)) (w .1) (w .2) (w .4) in
     let c = values-good (y .fields) (w .1) (w .2) (m .0) at′ r (m .2) in
-    subst (λ q. GoodTaken env q at s at′ r) (m .1) (record {
+    subst (λ q. GoodTaken version env q at s at′ r) (m .1) (record {
       good = record { head = f; id = x .fit; by = y; found = k; values = c .good };
       front = p ∙ ap (λ (z : List ℕ). hd ++ z) (x .front ∙ ap (λ (z : List ℕ). w .0 .raw ++ z) (c .front)) ∙ simp append-assoc;
       place = rw (length-append, length-append) (omega (arith, x .place, c .place));
     })
 
-step-good : {env : List Prototype} {at : ℕ} {s : List ℕ} {h : Head} {hd : List ℕ} {at₁ : ℕ} (s₁ : List ℕ)
+step-good : {version : ℕ} {env : List Prototype} {at : ℕ} {s : List ℕ} {h : Head} {hd : List ℕ} {at₁ : ℕ} (s₁ : List ℕ)
     → Fits Head headParser h hd → s ≡ hd ++ s₁ → at₁ ≡ at + length hd
-    → {q : Step} {at′ : ℕ} {r : List ℕ} → stepParser env at hd h at₁ s₁ ≡ ok q at′ r → GoodTaken env q at s at′ r
+    → {q : Step} {at′ : ℕ} {r : List ℕ} → stepParser version env at hd h at₁ s₁ ≡ ok q at′ r → GoodTaken version env q at s at′ r
 unfolding stepParser success stepBytes recordBytes prototypeStep fieldsParser
-step-good {env} {at} {s} {h = ending} s₁ f p l e = ok-move (λ q at′ r. GoodTaken env q at s at′ r) e (record { good = f; front = p; place = l })
-step-good {env} {at} {s} {h = defining n m} {hd} {at₁} s₁ f p l {at′ = at′} {r} e =
+step-good {version} {env} {at} {s} {h = ending} s₁ f p l e = ok-move (λ q at′ r. GoodTaken version env q at s at′ r) e (record { good = f; front = p; place = l })
+step-good {version} {env} {at} {s} {h = defining n m} {hd} {at₁} s₁ f p l {at′ = at′} {r} e =
     let w = map-ok (prototypeStep hd n m) fieldsParser at₁ s₁ e in
     let d = fields-good (length s₁) at₁ s₁ (w .0) at′ r (w .2) in
-    subst (λ q. GoodTaken env q at s at′ r) (w .1) (record {
+    subst (λ q. GoodTaken version env q at s at′ r) (w .1) (record {
       good = record { head = f; fields = d .good; last = d .last };
       front = p ∙ ap (λ (z : List ℕ). hd ++ z) (d .front) ∙ simp append-assoc;
       place = rw length-append (omega (arith, d .place));
     })
 step-good {h = carrying n} s₁ f p l e = block-good s₁ refl f p l e
 
-pub record-good : (env : List Prototype) (at : ℕ) (s : List ℕ) (q : Step) (at′ : ℕ) (r : List ℕ) → recordParser env at s ≡ ok q at′ r → GoodTaken env q at s at′ r
+pub record-good : {version : ℕ} (env : List Prototype) (at : ℕ) (s : List ℕ) (q : Step) (at′ : ℕ) (r : List ℕ)
+    → recordParser version env at s ≡ ok q at′ r → GoodTaken version env q at s at′ r
 unfolding recordParser
-record-good env at s q at′ r e =
-    let w = after-ok (consumed headParser at s) (λ h. stepParser env at (h .raw) (h .value)) e in
+record-good {version} env at s q at′ r e =
+    let w = after-ok (consumed headParser at s) (λ h. stepParser version env at (h .raw) (h .value)) e in
     let x = consumed-took head-exact at s (w .0) (w .1) (w .2) (w .3) in
     step-good (w .2) (x .fit) (x .front) (x .place) (w .4)
 
 -- ---- lists of records
 
-pub data GoodRecords : List Prototype → List Record → Type 0 where
-  nil : {env : List Prototype} → GoodRecords env []
-  cons : {env : List Prototype} {i : Record} {l : List Record} → GoodRecord env i → GoodRecords (define i env) l → GoodRecords env (i ∷ l)
+pub data GoodRecords (version : ℕ) : List Prototype → List Record → Type 0 where
+  nil : {env : List Prototype} → GoodRecords version env []
+  cons : {env : List Prototype} {i : Record} {l : List Record} → GoodRecord version env i → GoodRecords version (define i env) l → GoodRecords version env (i ∷ l)
 
 -- more definitions, no fewer ids
 cond-more : (b : Bool) (n : ℕ) → n ≤ cond b n (suc n)
@@ -270,53 +274,53 @@ room-had rooms (block b) env h k = k
 
 -- ---- a record takes a byte at least
 
-pub record-exact : (env : List Prototype) → Exact Step (recordParser env)
-record-exact env = record {
+pub record-exact : (version : ℕ) (env : List Prototype) → Exact Step (recordParser version env)
+record-exact version env = record {
   took = λ at s v at′ r e.
       let g = record-good env at s v at′ r e in
-      (stepBytes v, record { front = g .front; place = g .place; fits = record-fits env v (g .good) });
+      (stepBytes v, record { front = g .front; place = g .place; fits = record-fits version env v (g .good) });
 }
 
 -- with no byte left its number runs out
-pub record-empty : (env : List Prototype) (at : ℕ) → recordParser env at [] ≡ shortAt at 4
+pub record-empty : (version : ℕ) (env : List Prototype) (at : ℕ) → recordParser version env at [] ≡ shortAt at 4
 unfolding recordParser after consumed headParser _>>=_ number _<$>_ bytes
-record-empty env at = refl
+record-empty version env at = refl
 
 pub head-takes : {h : Head} {c : List ℕ} → Fits Head headParser h c → 1 ≤ length c
 unfolding headParser _>>=_ after number _<$>_ bytes
 head-takes h = takes headParser h refl
 
-record-takes : (env : List Prototype) (i : Record) → GoodRecord env i → 1 ≤ length (recordBytes i)
+record-takes : (version : ℕ) (env : List Prototype) (i : Record) → GoodRecord version env i → 1 ≤ length (recordBytes i)
 unfolding recordBytes
-record-takes env (prototype p) g = rw length-append (omega (arith, head-takes (g .head)))
-record-takes env (block b) g = rw length-append (omega (arith, head-takes (g .head)))
+record-takes version env (prototype p) g = rw length-append (omega (arith, head-takes (g .head)))
+record-takes version env (block b) g = rw length-append (omega (arith, head-takes (g .head)))
 
-pub records-long : {env : List Prototype} {l : List Record} → GoodRecords env l → length l ≤ length (recordsBytes l)
+pub records-long : {version : ℕ} {env : List Prototype} {l : List Record} → GoodRecords version env l → length l ≤ length (recordsBytes l)
 unfolding recordsBytes
 records-long nil = omega arith
-records-long (cons {env = env} {i = i} g k) = rw length-append (omega (arith, record-takes env i g, records-long k))
+records-long {version} (cons {env = env} {i = i} g k) = rw length-append (omega (arith, record-takes version env i g, records-long k))
 
 -- a good record at the front is read, and then the rest
-pub records-step : (rooms n : ℕ) (env : List Prototype) (i : Record) → GoodRecord env i → T (hasRoom rooms env i) → (b : ℕ) (t : List ℕ)
-    → recordsFrom rooms (suc n) env b (recordBytes i ++ t) ≡ (consRecord i <$> recordsFrom rooms n (define i env)) (b + length (recordBytes i)) t
+pub records-step : (version rooms n : ℕ) (env : List Prototype) (i : Record) → GoodRecord version env i → T (hasRoom rooms env i) → (b : ℕ) (t : List ℕ)
+    → recordsFrom version rooms (suc n) env b (recordBytes i ++ t) ≡ (consRecord i <$> recordsFrom version rooms n (define i env)) (b + length (recordBytes i)) t
 unfolding recordsFrom after stepBytes recordsThen
-records-step rooms n env i g o b t = rw (record-fits env (more i) g .reads b t, is-true (hasRoom rooms env i) o)
+records-step version rooms n env i g o b t = rw (record-fits version env (more i) g .reads b t, is-true (hasRoom rooms env i) o)
 
-recordsFrom-fits : (rooms n : ℕ) {env : List Prototype} {l : List Record} {fin : List ℕ} → GoodRecords env l → distinctIds (defineAll l env) ≤ rooms → Fits Head headParser ending fin
-    → length l < n → Fits Records (recordsFrom rooms n env) (record { records = l; end = fin }) (recordsBytes l ++ fin)
+recordsFrom-fits : {version : ℕ} (rooms n : ℕ) {env : List Prototype} {l : List Record} {fin : List ℕ} → GoodRecords version env l → distinctIds (defineAll l env) ≤ rooms
+    → Fits Head headParser ending fin → length l < n → Fits Records (recordsFrom version rooms n env) (record { records = l; end = fin }) (recordsBytes l ++ fin)
 unfolding recordsBytes consRecord recordsFrom after stepBytes recordsThen defineAll success
 recordsFrom-fits rooms zero g o h l = absurd (omega arith)
-recordsFrom-fits rooms (suc n) {env} {fin = fin} nil o h l = record { reads = λ b t. rw (record-fits env (end fin) h .reads b t) }
-recordsFrom-fits rooms (suc n) {fin = fin} (cons {env = env} {i = i} {l = l} g k) o h q = record {
+recordsFrom-fits {version} rooms (suc n) {env} {fin = fin} nil o h l = record { reads = λ b t. rw (record-fits version env (end fin) h .reads b t) }
+recordsFrom-fits {version} rooms (suc n) {fin = fin} (cons {env = env} {i = i} {l = l} g k) o h q = record {
   reads = λ b t.
-      ap (recordsFrom rooms (suc n) env b) (simp append-assoc)
-      ∙ records-step rooms n env i g (room-for rooms i env (omega (arith, ids-defineAll l (define i env)))) b (recordsBytes l ++ fin ++ t)
+      ap (recordsFrom version rooms (suc n) env b) (simp append-assoc)
+      ∙ records-step version rooms n env i g (room-for rooms i env (omega (arith, ids-defineAll l (define i env)))) b (recordsBytes l ++ fin ++ t)
       ∙ map-fits (consRecord i) (recordsFrom-fits rooms n k o h (omega arith)) .reads (b + length (recordBytes i)) t
       ∙ ap (λ (j : ℕ). ok (record { records = i ∷ l; end = fin }) j t) (rw (append-assoc, length-append (recordBytes i) (recordsBytes l ++ fin)) (omega arith));
 }
 
-pub records-fits : (rooms : ℕ) {l : List Record} {fin : List ℕ} → GoodRecords [] l → distinctIds (defineAll l []) ≤ rooms → Fits Head headParser ending fin
-    → Fits Records (recordsParser rooms) (record { records = l; end = fin }) (recordsBytes l ++ fin)
+pub records-fits : {version : ℕ} (rooms : ℕ) {l : List Record} {fin : List ℕ} → GoodRecords version [] l → distinctIds (defineAll l []) ≤ rooms
+    → Fits Head headParser ending fin → Fits Records (recordsParser version rooms) (record { records = l; end = fin }) (recordsBytes l ++ fin)
 unfolding recordsParser
 records-fits rooms {l} {fin} g o h = record {
   reads = λ b t.
@@ -325,8 +329,8 @@ records-fits rooms {l} {fin} g o h = record {
 }
 
 -- what the reader accepts is good records and an end
-pub record GoodWhole (rooms : ℕ) (env : List Prototype) (q : Records) (at : ℕ) (s : List ℕ) (at′ : ℕ) (r : List ℕ) : Type 0 where
-  pub good : GoodRecords env (q .records)
+pub record GoodWhole (version rooms : ℕ) (env : List Prototype) (q : Records) (at : ℕ) (s : List ℕ) (at′ : ℕ) (r : List ℕ) : Type 0 where
+  pub good : GoodRecords version env (q .records)
   pub roomed : distinctIds env ≤ rooms → distinctIds (defineAll (q .records) env) ≤ rooms
   pub last : Fits Head headParser ending (q .end)
   pub front : s ≡ recordsBytes (q .records) ++ q .end ++ r
@@ -337,18 +341,18 @@ cond-reader : {A : Type 0} (b : Bool) (R : Reader A) (f : Fault) (at : ℕ) (s :
 cond-reader true R f at s e = (tt, e)
 cond-reader false R f at s e = fault≢ok e
 
-whole-step : {rooms : ℕ} {env : List Prototype} (K : List Prototype → Reader Records)
-    → ((env : List Prototype) (at : ℕ) (s : List ℕ) (q : Records) (at′ : ℕ) (r : List ℕ) → K env at s ≡ ok q at′ r → GoodWhole rooms env q at s at′ r)
-    → {at : ℕ} {s : List ℕ} {at₁ : ℕ} {s₁ : List ℕ} {z : Step} → GoodTaken env z at s at₁ s₁
-    → {q : Records} {at′ : ℕ} {r : List ℕ} → recordsThen rooms env at K z at₁ s₁ ≡ ok q at′ r → GoodWhole rooms env q at s at′ r
+whole-step : {version rooms : ℕ} {env : List Prototype} (K : List Prototype → Reader Records)
+    → ((env : List Prototype) (at : ℕ) (s : List ℕ) (q : Records) (at′ : ℕ) (r : List ℕ) → K env at s ≡ ok q at′ r → GoodWhole version rooms env q at s at′ r)
+    → {at : ℕ} {s : List ℕ} {at₁ : ℕ} {s₁ : List ℕ} {z : Step} → GoodTaken version env z at s at₁ s₁
+    → {q : Records} {at′ : ℕ} {r : List ℕ} → recordsThen rooms env at K z at₁ s₁ ≡ ok q at′ r → GoodWhole version rooms env q at s at′ r
 unfolding recordsThen recordsBytes stepBytes consRecord defineAll success
-whole-step {rooms} {env} K ih {at} {s} {z = end l} x e =
-    ok-move (λ q at′ r. GoodWhole rooms env q at s at′ r) e (record { good = nil; roomed = λ h. h; last = x .good; front = x .front; place = x .place })
-whole-step {rooms} {env} K ih {at} {s} {at₁} {s₁} {z = more i} x {at′ = at′} {r} e =
+whole-step {version} {rooms} {env} K ih {at} {s} {z = end l} x e =
+    ok-move (λ q at′ r. GoodWhole version rooms env q at s at′ r) e (record { good = nil; roomed = λ h. h; last = x .good; front = x .front; place = x .place })
+whole-step {version} {rooms} {env} K ih {at} {s} {at₁} {s₁} {z = more i} x {at′ = at′} {r} e =
     let w = cond-reader (hasRoom rooms env i) (consRecord i <$> K (define i env)) _ at₁ s₁ e in
     let m = map-ok (consRecord i) (K (define i env)) at₁ s₁ (w .1) in
     let j = ih (define i env) at₁ s₁ (m .0) at′ r (m .2) in
-    subst (λ q. GoodWhole rooms env q at s at′ r) (m .1) (record {
+    subst (λ q. GoodWhole version rooms env q at s at′ r) (m .1) (record {
       good = cons (x .good) (j .good);
       roomed = λ h. j .roomed (room-had rooms i env (w .0) h);
       last = j .last;
@@ -356,10 +360,10 @@ whole-step {rooms} {env} K ih {at} {s} {at₁} {s₁} {z = more i} x {at′ = at
       place = rw (append-assoc, length-append (recordBytes i)) (omega (arith, x .place, j .place));
     })
 
-pub records-good : (rooms n : ℕ) (env : List Prototype) (at : ℕ) (s : List ℕ) (q : Records) (at′ : ℕ) (r : List ℕ)
-    → recordsFrom rooms n env at s ≡ ok q at′ r → GoodWhole rooms env q at s at′ r
+pub records-good : (version rooms n : ℕ) (env : List Prototype) (at : ℕ) (s : List ℕ) (q : Records) (at′ : ℕ) (r : List ℕ)
+    → recordsFrom version rooms n env at s ≡ ok q at′ r → GoodWhole version rooms env q at s at′ r
 unfolding recordsFrom exhausted
-records-good rooms zero env at s q at′ r e = fault≢ok e
-records-good rooms (suc n) env at s q at′ r e =
-    let w = after-ok (recordParser env at s) (recordsThen rooms env at (λ e. recordsFrom rooms n e)) e in
-    whole-step (λ e. recordsFrom rooms n e) (records-good rooms n) (record-good env at s (w .0) (w .1) (w .2) (w .3)) (w .4)
+records-good version rooms zero env at s q at′ r e = fault≢ok e
+records-good version rooms (suc n) env at s q at′ r e =
+    let w = after-ok (recordParser version env at s) (recordsThen rooms env at (λ e. recordsFrom version rooms n e)) e in
+    whole-step (λ e. recordsFrom version rooms n e) (records-good version rooms n) (record-good env at s (w .0) (w .1) (w .2) (w .3)) (w .4)

@@ -142,9 +142,9 @@ shape-only none = fail-only _ tt
 shape-only (some (one k)) = map-only single (consumed-only (element-only k))
 shape-only (some (many k)) = map-only array (bind-only _ (number-only 4 tt) (λ n. repeat-only n (consumed-only (element-only k))))
 
-pub value-only : (t : ℕ) → Only valueNumbers Value (valueParser t)
+pub value-only : (version t : ℕ) → Only valueNumbers Value (valueParser version t)
 unfolding valueParser
-value-only t = shape-only (shapeOf t)
+value-only version t = shape-only (shapeOf version t)
 
 -- ---- the file
 
@@ -186,12 +186,12 @@ fields-only : Only fileNumbers Fields fieldsParser
 unfolding fieldsParser
 fields-only = record { only = λ at s. fieldsFrom-only (length s) .only at s }
 
-values-only : (fs : List (Consumed ValuePrototype)) → Only fileNumbers (List DataValue) (dataValuesParser fs)
+values-only : (version : ℕ) (fs : List (Consumed ValuePrototype)) → Only fileNumbers (List DataValue) (dataValuesParser version fs)
 unfolding dataValuesParser dataValueParser
-values-only [] = success-only []
-values-only (f ∷ fs) =
-    bind-only _ (map-only (dataValue (f .value .typeId)) (consumed-only (in-file (value-only (f .value .typeId)))))
-    (λ v. bind-only _ (values-only fs) (λ l. success-only (v ∷ l)))
+values-only version [] = success-only []
+values-only version (f ∷ fs) =
+    bind-only _ (map-only (dataValue (f .value .typeId)) (consumed-only (in-file (value-only version (f .value .typeId)))))
+    (λ v. bind-only _ (values-only version fs) (λ l. success-only (v ∷ l)))
 
 mark-only : (m : ℕ) → Only fileNumbers Head (markParser m)
 unfolding markParser
@@ -204,23 +204,23 @@ head-only =
     bind-only _ u32-only
     (λ n. cond-only (eqb n 0) (bind-only markParser (verify-only _ _ tt (number-only 1 tt)) mark-only) (success-only (carrying n)))
 
-block-only : (start : ℕ) (hd : List ℕ) (c : ℕ) (o : Option Prototype) → Only fileNumbers Step (dataBlockParser start hd c o)
+block-only : (version start : ℕ) (hd : List ℕ) (c : ℕ) (o : Option Prototype) → Only fileNumbers Step (dataBlockParser version start hd c o)
 unfolding dataBlockParser
-block-only start hd c none = record { only = λ at s. tt }
-block-only start hd c (some p) = record {
-  only = bind-only (λ i. blockStep hd c i <$> dataValuesParser (p .fields)) (consumed-only (in-file id-only)) (λ i. map-only (blockStep hd c i) (values-only (p .fields))) .only;
+block-only version start hd c none = record { only = λ at s. tt }
+block-only version start hd c (some p) = record {
+  only = bind-only (λ i. blockStep hd c i <$> dataValuesParser version (p .fields)) (consumed-only (in-file id-only)) (λ i. map-only (blockStep hd c i) (values-only version (p .fields))) .only;
 }
 
-step-only : (env : List Prototype) (start : ℕ) (hd : List ℕ) (h : Head) → Only fileNumbers Step (stepParser env start hd h)
+step-only : (version : ℕ) (env : List Prototype) (start : ℕ) (hd : List ℕ) (h : Head) → Only fileNumbers Step (stepParser version env start hd h)
 unfolding stepParser
-step-only env start hd ending = success-only (end hd)
-step-only env start hd (defining c name) = map-only (prototypeStep hd c name) fields-only
-step-only env start hd (carrying c) = block-only start hd c (getPrototype c env)
+step-only version env start hd ending = success-only (end hd)
+step-only version env start hd (defining c name) = map-only (prototypeStep hd c name) fields-only
+step-only version env start hd (carrying c) = block-only version start hd c (getPrototype c env)
 
-record-only : (env : List Prototype) → Only fileNumbers Step (recordParser env)
+record-only : (version : ℕ) (env : List Prototype) → Only fileNumbers Step (recordParser version env)
 unfolding recordParser
-record-only env = record {
-  only = λ at s. after-only (consumed headParser at s) _ (consumed-only head-only .only at s) (λ h. step-only env at (h .raw) (h .value));
+record-only version env = record {
+  only = λ at s. after-only (consumed headParser at s) _ (consumed-only head-only .only at s) (λ h. step-only version env at (h .raw) (h .value));
 }
 
 recordsThen-only : (rooms : ℕ) (env : List Prototype) (start : ℕ) (rest : List Prototype → Reader Records) → ((env : List Prototype) → Only fileNumbers Records (rest env))
@@ -229,24 +229,26 @@ unfolding recordsThen
 recordsThen-only rooms env start rest h (end l) = success-only _
 recordsThen-only rooms env start rest h (more r) = cond-only (hasRoom rooms env r) (map-only (consRecord r) (h (define r env))) (record { only = λ at s. tt })
 
-records-only : (rooms n : ℕ) (env : List Prototype) → Only fileNumbers Records (recordsFrom rooms n env)
+records-only : (version rooms n : ℕ) (env : List Prototype) → Only fileNumbers Records (recordsFrom version rooms n env)
 unfolding recordsFrom
-records-only rooms zero env = exhausted-only _ tt (omega arith)
-records-only rooms (suc n) env = record {
-  only = λ at s. after-only (recordParser env at s) _ (record-only env .only at s) (recordsThen-only rooms env at (λ e. recordsFrom rooms n e) (records-only rooms n));
+records-only version rooms zero env = exhausted-only _ tt (omega arith)
+records-only version rooms (suc n) env = record {
+  only = λ at s.
+      after-only (recordParser version env at s) _ (record-only version env .only at s)
+      (recordsThen-only rooms env at (λ e. recordsFrom version rooms n e) (records-only version rooms n));
 }
 
 header-only : Only fileNumbers ℕ headerParser
 unfolding headerParser tag
 header-only =
     bind-only _ (record { only = λ at s. cond-told fileNumbers (same (take 4 s) (ascii "BSII")) _ _ tt tt })
-    (λ u. bind-only _ u32-only (λ v. cond-only (eqb v 1) (fail-only _ tt) (success-only v)))
+    (λ u. u32-only)
 
 file-only : (rooms : ℕ) → Only fileNumbers BsiiFile (bsiiParser rooms)
 unfolding bsiiParser recordsParser
 file-only rooms =
-    bind-only (λ h. bsiiFile h <$> recordsParser rooms) (consumed-only header-only)
-    (λ h. map-only (bsiiFile h) (record { only = λ at s. records-only rooms (length s) [] .only at s }))
+    bind-only (λ h. bsiiFile h <$> recordsParser (h .value) rooms) (consumed-only header-only)
+    (λ h. map-only (bsiiFile h) (record { only = λ at s. records-only (h .value) rooms (length s) [] .only at s }))
 
 pub parse-told : (words : ℕ) (s : List ℕ) → Told fileNumbers (parse words s)
 unfolding parse

@@ -9,7 +9,7 @@ use Rattle.bsii_format.specs.Replies.{Fault, refuses, absent}
 use Rattle.bsii_format.specs.Reader.{Result, ok, fault, after, _>>=_, fail, _<$>_, bytes, verify, consumed, repeat}
 use Rattle.bsii_format.specs.Numbers.{number}
 use Rattle.bsii_format.specs.Strings.{strParser, encodedStrParser, idParser}
-use Rattle.bsii_format.specs.Types.{float, floatVec2, floatVec3, floatVec4, floatVec8, int32, int32Vec3, uint32, uint16, int64, uint64, bool, enum, width, arity, numbers, string, encodedString, id, Shape, one, many, shapeOf}
+use Rattle.bsii_format.specs.Types.{float, floatVec2, floatVec3, floatVec4, floatVec7, floatVec8, int32, int32Vec3, uint32, uint16, int64, uint64, bool, enum, width, arity, numbers, string, encodedString, id, Shape, one, many, shapeOf}
 use Rattle.bsii_format.specs.Values.{Value, elementParser, shapeParser, valueParser}
 use Rattle.bsii_format.specs.Prototypes.{Prototype}
 use Rattle.bsii_format.specs.Blocks.{DataValue, DataBlock, getPrototype}
@@ -29,6 +29,7 @@ shape-empty (some (one (numbers float))) = (_, refl)
 shape-empty (some (one (numbers floatVec2))) = (_, refl)
 shape-empty (some (one (numbers floatVec3))) = (_, refl)
 shape-empty (some (one (numbers floatVec4))) = (_, refl)
+shape-empty (some (one (numbers floatVec7))) = (_, refl)
 shape-empty (some (one (numbers floatVec8))) = (_, refl)
 shape-empty (some (one (numbers int32))) = (_, refl)
 shape-empty (some (one (numbers int32Vec3))) = (_, refl)
@@ -43,9 +44,9 @@ shape-empty (some (one encodedString)) = (_, refl)
 shape-empty (some (one id)) = (_, refl)
 shape-empty (some (many k)) = (_, refl)
 
-pub value-takes : (t : ℕ) {v : Value} {c : List ℕ} → Fits Value (valueParser t) v c → 1 ≤ length c
+pub value-takes : (version t : ℕ) {v : Value} {c : List ℕ} → Fits Value (valueParser version t) v c → 1 ≤ length c
 unfolding valueParser
-value-takes t h = let e = shape-empty (shapeOf t) in takes (shapeParser (shapeOf t)) h (e .1)
+value-takes version t h = let e = shape-empty (shapeOf version t) in takes (shapeParser (shapeOf version t)) h (e .1)
 
 -- every value of every block
 abbrev Long : List DataValue → Type 0
@@ -57,12 +58,12 @@ none≢some {A} {P} e = let z : _≡_ {A = ℕ} 0 1 = cc in let f : ⊥ = omega 
 some-is : {A : Type 0} {a b : A} → _≡_ {A = Option A} (some a) (some b) → a ≡ b
 some-is e = cc
 
-values-long : {fs : List _} {l : List DataValue} → GoodValues fs l → Long l
+values-long : {version : ℕ} {fs : List _} {l : List DataValue} → GoodValues version fs l → Long l
 values-long nil i v e = none≢some e
-values-long (cons {f = f} {v = x} g h) zero v e = subst (λ (z : DataValue). 1 ≤ length (z .raw)) (some-is e) (value-takes (f .value .typeId) (g .fit))
+values-long {version} (cons {f = f} {v = x} g h) zero v e = subst (λ (z : DataValue). 1 ≤ length (z .raw)) (some-is e) (value-takes version (f .value .typeId) (g .fit))
 values-long (cons g h) (suc i) v e = values-long h i v e
 
-blocks-long : {env : List Prototype} {l : List Record} (at : ℕ) → GoodRecords env l → (k : ℕ) (b : Placed DataBlock)
+blocks-long : {version : ℕ} {env : List Prototype} {l : List Record} (at : ℕ) → GoodRecords version env l → (k : ℕ) (b : Placed DataBlock)
     → getElem? (blocksIn (placed (λ r. length (recordBytes r)) at l)) k ≡ some b → Long (b .it .values)
 unfolding blocksIn placed consBlock
 blocks-long at nil k b e = none≢some e
@@ -87,7 +88,7 @@ under-long name b (some p) x h e = go (fieldIndex name (p .fields)) e
     go none e = unfold atIndex in none≢some e
     go (some i) e = unfold atIndex in h i (x .it) (placed-is _ _ (b .it .values) i x e)
 
-field-long : (f : BsiiFile) → GoodRecords [] (f .records) → (k : ℕ) (name : List ℕ) (a : FieldAnswer) → fieldOf k name f ≡ some a → 1 ≤ length (a .bytes)
+field-long : (f : BsiiFile) → GoodRecords (f .header .value) [] (f .records) → (k : ℕ) (name : List ℕ) (a : FieldAnswer) → fieldOf k name f ≡ some a → 1 ≤ length (a .bytes)
 unfolding fieldOf blocksOf placedRecords
 field-long f g k name a e = go (getElem? (blocksIn (placed (λ r. length (recordBytes r)) (length (f .header .raw)) (f .records))) k) refl e
   where
@@ -106,7 +107,7 @@ pub part-empty : (words : ℕ) (s : List ℕ) (k : ℕ) (name : List ℕ) → pa
 unfolding fieldCall
 part-empty words s k name e = go (parse words s) refl e
   where
-    found : (f : BsiiFile) → GoodRecords [] (f .records) → (o : Option FieldAnswer) → fieldOf k name f ≡ o → partOf (orRefuse absent 0 o) ≡ [] → (x : Fault) × (orRefuse absent 0 o ≡ refuses x)
+    found : (f : BsiiFile) → GoodRecords (f .header .value) [] (f .records) → (o : Option FieldAnswer) → fieldOf k name f ≡ o → partOf (orRefuse absent 0 o) ≡ [] → (x : Fault) × (orRefuse absent 0 o ≡ refuses x)
     found f g none h e = unfold orRefuse in (_, refl)
     found f g (some a) h e = unfold orRefuse partOf in absurd (omega (arith, field-long f g k name a h, ap length e))
 

@@ -36,12 +36,13 @@ getPrototype = findBy (λ (p : Prototype). p .id)
 unfoldable pub dataValue : ℕ → Consumed Value → DataValue
 dataValue t v = record { typeId = t; value = v .value; raw = v .raw }
 
-unfoldable pub dataValueParser : ℕ → Reader DataValue
-dataValueParser t = dataValue t <$> consumed (valueParser t)
+module _ (version : ℕ) where
+  unfoldable pub dataValueParser : ℕ → Reader DataValue
+  dataValueParser t = dataValue t <$> consumed (valueParser version t)
 
-unfoldable pub dataValuesParser : List (Consumed ValuePrototype) → Reader (List DataValue)
-dataValuesParser [] = success []
-dataValuesParser (f ∷ fs) = do
-  v ← dataValueParser (f .value .typeId)
-  l ← dataValuesParser fs
-  success (v ∷ l)
+  unfoldable pub dataValuesParser : List (Consumed ValuePrototype) → Reader (List DataValue)
+  dataValuesParser [] = success []
+  dataValuesParser (f ∷ fs) = do
+    v ← dataValueParser (f .value .typeId)
+    l ← dataValuesParser fs
+    success (v ∷ l)

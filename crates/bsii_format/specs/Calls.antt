@@ -12,7 +12,7 @@ use Rattle.bsii_format.specs.Ascii.{ascii}
 use Rattle.bsii_format.specs.Replies.{Reply, gives, refuses, refusal, outputShort, inputLong, absent}
 use Rattle.bsii_format.specs.Reader.{Result, ok, fault, same, Consumed}
 use Rattle.bsii_format.specs.Numbers.{signed}
-use Rattle.bsii_format.specs.Types.{Numeric, float, floatVec2, floatVec3, floatVec4, floatVec8, int32, int32Vec3, uint32, uint16, int64, uint64, bool, enum}
+use Rattle.bsii_format.specs.Types.{Numeric, float, floatVec2, floatVec3, floatVec4, floatVec7, floatVec8, int32, int32Vec3, uint32, uint16, int64, uint64, bool, enum}
 use Rattle.bsii_format.specs.Values.{Element, nums, str, word, ident, Value, single, array, valueParser}
 use Rattle.bsii_format.specs.Prototypes.{ValuePrototype, Prototype}
 use Rattle.bsii_format.specs.Blocks.{DataValue, DataBlock, findBy, getPrototype}
@@ -184,7 +184,7 @@ unfoldable pub partOf : Reply FieldAnswer → List ℕ
 partOf (gives a) = a .bytes
 partOf (refuses f) = []
 
--- ---- "Element (no table): type, a slice, an index"
+-- ---- "Element (no table): type, a slice, an index"; E12: and the version
 
 -- "one case for each kind of value, floats kept as floats; strings and ids as a place in the slice (a string's without its u32 length), an
 -- encoded word as its low 63 bits"
@@ -195,6 +195,7 @@ pub data Datum : Type 0 where
   dFloatVec2 : Float → Float → Datum
   dFloatVec3 : Float → Float → Float → Datum
   dFloatVec4 : Float → Float → Float → Float → Datum
+  dFloatVec7 : Float → Float → Float → Float → Float → Float → Float → Datum
   dFloatVec8 : Float → Float → Float → Float → Float → Float → Float → Float → Datum
   dInt32 : ℤ → Datum
   dInt32Vec3 : ℤ → ℤ → ℤ → Datum
@@ -222,6 +223,7 @@ numericDatum float l = dFloat (floatAt l 0)
 numericDatum floatVec2 l = dFloatVec2 (floatAt l 0) (floatAt l 1)
 numericDatum floatVec3 l = dFloatVec3 (floatAt l 0) (floatAt l 1) (floatAt l 2)
 numericDatum floatVec4 l = dFloatVec4 (floatAt l 0) (floatAt l 1) (floatAt l 2) (floatAt l 3)
+numericDatum floatVec7 l = dFloatVec7 (floatAt l 0) (floatAt l 1) (floatAt l 2) (floatAt l 3) (floatAt l 4) (floatAt l 5) (floatAt l 6)
 numericDatum floatVec8 l = dFloatVec8 (floatAt l 0) (floatAt l 1) (floatAt l 2) (floatAt l 3) (floatAt l 4) (floatAt l 5) (floatAt l 6) (floatAt l 7)
 numericDatum int32 l = dInt32 (int32At l 0)
 numericDatum int32Vec3 l = dInt32Vec3 (int32At l 0) (int32At l 1) (int32At l 2)
@@ -251,9 +253,10 @@ unfoldable pub ofValue : ℕ → Result Value → Reply Datum
 ofValue i (ok v at r) = orAbsent (Option·map datum (getElem? (elementsOf v) i))
 ofValue i (fault f) = refuses f
 
--- "the whole value is read from the slice's start, bytes after it are ignored"; "The element call gives 3, 4, 5, 7, 13 only."
-unfoldable pub elementCall : ℕ → List ℕ → ℕ → Reply Datum
-elementCall t s i = ofValue i (valueParser t 0 s)
+-- "the whole value is read from the slice's start, bytes after it are ignored"; "The element call gives 3, 4, 5, 7, 13 only."; the version: "the element
+-- call is given it"
+unfoldable pub elementCall : ℕ → ℕ → List ℕ → ℕ → Reply Datum
+elementCall version t s i = ofValue i (valueParser version t 0 s)
 
 -- ---- text
 

@@ -29,10 +29,10 @@ abbrev pub CutsAreShort : Type 0
 CutsAreShort = (words : ℕ) (s : List ℕ) (a : Reading) → readingCall words s ≡ gives a → (room : ℕ) → 3 * a .prototypes ≤ room
     → (k : ℕ) → 4 ≤ k → k < a .next → (at : ℕ) × (m : ℕ) × (readingCall room (take k s) ≡ refuses (short at m)) × (k + m ≤ a .next)
 
--- The element call of a type and an index, in the same way: a slice has no limit.
-pub record ElementLacks (t i : ℕ) (s : List ℕ) (at m : ℕ) : Type 0 where
-  pub fewer : (u : List ℕ) → length u < m → elementCall t (s ++ u) i ≡ refuses (short at (m - length u))
-  pub enough : (u : List ℕ) → m ≤ length u → (p k : ℕ) → elementCall t (s ++ u) i ≡ refuses (short p k) → at < p
+-- The element call of a version, a type and an index, in the same way: a slice has no limit.
+pub record ElementLacks (version t i : ℕ) (s : List ℕ) (at m : ℕ) : Type 0 where
+  pub fewer : (u : List ℕ) → length u < m → elementCall version t (s ++ u) i ≡ refuses (short at (m - length u))
+  pub enough : (u : List ℕ) → m ≤ length u → (p k : ℕ) → elementCall version t (s ++ u) i ≡ refuses (short p k) → at < p
 
 abbrev pub ElementLackingIsExact : Type 0
-ElementLackingIsExact = (t i : ℕ) (s : List ℕ) (at m : ℕ) → elementCall t s i ≡ refuses (short at m) → ElementLacks t i s at m
+ElementLackingIsExact = (version t i : ℕ) (s : List ℕ) (at m : ℕ) → elementCall version t s i ≡ refuses (short at m) → ElementLacks version t i s at m

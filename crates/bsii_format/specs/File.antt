@@ -1,4 +1,4 @@
--- Records and the whole file: document 01, "src/bsii_parse.rs"; document 02, E2; FORMAT.md, "The file".
+-- Records and the whole file: document 01, "src/bsii_parse.rs"; document 02, E2 and E12; FORMAT.md, "The file".
 use Prim.Native.Nat.{ℕ, zero, suc, _/_}
 use mathlib.Core.Bool.{Bool, true, cond}
 use mathlib.Core.Option.{Option, none, some}
@@ -6,8 +6,8 @@ use mathlib.Core.List.{List, [], _∷_, _++_}
 use lib.ListN.{length}
 use lib.Dec.{leb, eqb}
 use Rattle.bsii_format.specs.Ascii.{ascii}
-use Rattle.bsii_format.specs.Replies.{invalidHeader, unsupportedVersion, undefinedPrototype, tableFull, inputLong, badMark}
-use Rattle.bsii_format.specs.Reader.{Result, faultAt, Reader, after, success, fail, exhausted, verify, tag, Consumed, consumed, _>>=_, _<$>_}
+use Rattle.bsii_format.specs.Replies.{invalidHeader, undefinedPrototype, tableFull, inputLong, badMark}
+use Rattle.bsii_format.specs.Reader.{Result, faultAt, Reader, after, success, exhausted, verify, tag, Consumed, consumed, _>>=_, _<$>_}
 use Rattle.bsii_format.specs.Numbers.{leU8, leU32}
 use Rattle.bsii_format.specs.Strings.{isSome, strParser, Id, idParser}
 use Rattle.bsii_format.specs.Prototypes.{ValuePrototype, Prototype, Fields, fieldsParser}
@@ -51,19 +51,20 @@ prototypeStep h n name l = more (prototype (record { head = h; id = n; name = na
 unfoldable pub blockStep : List ℕ → ℕ → Consumed Id → List DataValue → Step
 blockStep h n i l = more (block (record { head = h; prototypeId = n; id = i; values = l }))
 
--- a block under the definition in force; 6: "block's prototype undefined so far", at the block, before its id is read
-unfoldable pub dataBlockParser : ℕ → List ℕ → ℕ → Option Prototype → Reader Step
-dataBlockParser start h n none at s = faultAt undefinedPrototype start
-dataBlockParser start h n (some p) at s = (consumed idParser >>= (λ i. blockStep h n i <$> dataValuesParser (p .fields))) at s
+module _ (version : ℕ) where
+  -- a block under the definition in force; 6: "block's prototype undefined so far", at the block, before its id is read
+  unfoldable pub dataBlockParser : ℕ → List ℕ → ℕ → Option Prototype → Reader Step
+  dataBlockParser start h n none at s = faultAt undefinedPrototype start
+  dataBlockParser start h n (some p) at s = (consumed idParser >>= (λ i. blockStep h n i <$> dataValuesParser version (p .fields))) at s
 
--- env: the definitions so far, the last one first; start: the record's offset; h: the bytes of its head
-unfoldable pub stepParser : List Prototype → ℕ → List ℕ → Head → Reader Step
-stepParser env start h ending = success (end h)
-stepParser env start h (defining n name) = prototypeStep h n name <$> fieldsParser
-stepParser env start h (carrying n) = dataBlockParser start h n (getPrototype n env)
+  -- env: the definitions so far, the last one first; start: the record's offset; h: the bytes of its head
+  unfoldable pub stepParser : List Prototype → ℕ → List ℕ → Head → Reader Step
+  stepParser env start h ending = success (end h)
+  stepParser env start h (defining n name) = prototypeStep h n name <$> fieldsParser
+  stepParser env start h (carrying n) = dataBlockParser start h n (getPrototype n env)
 
-unfoldable pub recordParser : List Prototype → Reader Step
-recordParser env at s = after (consumed headParser at s) (λ h. stepParser env at (h .raw) (h .value))
+  unfoldable pub recordParser : List Prototype → Reader Step
+  recordParser env at s = after (consumed headParser at s) (λ h. stepParser env at (h .raw) (h .value))
 
 -- ---- the definitions so far, and the table's room
 
@@ -95,22 +96,22 @@ recordsThen rooms env start rest (end l) = success (record { records = []; end =
 recordsThen rooms env start rest (more r) =
     cond (hasRoom rooms env r) (consRecord r <$> rest (define r env)) (λ at s. faultAt tableFull start)
 
--- The fuel is the number of bytes left, and a record has at least one: with none left the u32 that is due runs out.
-unfoldable pub recordsFrom : ℕ → ℕ → List Prototype → Reader Records
-recordsFrom rooms zero env at s = exhausted 4 at s
-recordsFrom rooms (suc n) env at s = after (recordParser env at s) (recordsThen rooms env at (λ e. recordsFrom rooms n e))
+module _ (version rooms : ℕ) where
+  -- The fuel is the number of bytes left, and a record has at least one: with none left the u32 that is due runs out.
+  unfoldable pub recordsFrom : ℕ → List Prototype → Reader Records
+  recordsFrom zero env at s = exhausted 4 at s
+  recordsFrom (suc n) env at s = after (recordParser version env at s) (recordsThen rooms env at (λ e. recordsFrom n e))
 
-unfoldable pub recordsParser : ℕ → Reader Records
-recordsParser rooms at s = recordsFrom rooms (length s) [] at s
+  unfoldable pub recordsParser : Reader Records
+  recordsParser at s = recordsFrom (length s) [] at s
 
 -- ---- the file
 
--- "BSII", u32 version; 2: "version 1", at 8
+-- "BSII", u32 version: any, "Reply 2 is retired and never occurs"
 unfoldable pub headerParser : Reader ℕ
 headerParser = do
   u ← tag (ascii "BSII") invalidHeader
-  v ← leU32
-  cond (eqb v 1) (fail unsupportedVersion) (success v)
+  leU32
 
 -- the version with the header's bytes, the records in order, and the end record's bytes; "Bytes after it are ignored"
 pub record BsiiFile : Type 0 where
@@ -122,7 +123,7 @@ unfoldable pub bsiiFile : Consumed ℕ → Records → BsiiFile
 bsiiFile h l = record { header = h; records = l .records; end = l .end }
 
 unfoldable pub bsiiParser : ℕ → Reader BsiiFile
-bsiiParser rooms = consumed headerParser >>= (λ h. bsiiFile h <$> recordsParser rooms)
+bsiiParser rooms = consumed headerParser >>= (λ h. bsiiFile h <$> recordsParser (h .value) rooms)
 
 -- 12: "input above 16,777,216 bytes"
 abbrev pub lengthLimit : ℕ

@@ -1,4 +1,4 @@
--- Floats and placements in the text, over IEEE 754 as lib.Ieee has it: document 01, "f32:" and "Placement"; FORMAT.md, "Floats" and
+-- Floats and placements in the text, over IEEE 754 as lib.Ieee has it: document 01, "f32:" and "Placement"; document 02, E12; FORMAT.md, "Floats" and
 -- "Placements". A float is given by its 32 bits.
 use Prim.Native.Nat.{ℕ, suc, _+_, _-_, _*_, _/_, _%_}
 use mathlib.Core.Bool.{Bool, true, false, cond, _&&_}
@@ -71,3 +71,9 @@ placementText l =
     let c = coefficient (getD l 3 0) in
     vec3Text (floatText (sectorSum (getD l 0 0) (floorMod c 4096))) (floatText (getD l 1 0)) (floatText (sectorSum (getD l 2 0) (floorMod (floorDiv c 4096) 4096)))
     ++ ascii " " ++ vec4Text (floatText (getD l 4 0)) (floatText (getD l 5 0)) (floatText (getD l 6 0)) (floatText (getD l 7 0))
+
+-- in version 1 "seven f32, printed `(a, b, c) (d; e, f, g)` with no sum made", of the bits of the seven
+unfoldable pub vec7Text : List ℕ → List ℕ
+vec7Text l =
+    vec3Text (floatText (getD l 0 0)) (floatText (getD l 1 0)) (floatText (getD l 2 0))
+    ++ ascii " " ++ vec4Text (floatText (getD l 3 0)) (floatText (getD l 4 0)) (floatText (getD l 5 0)) (floatText (getD l 6 0))

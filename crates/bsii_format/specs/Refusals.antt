@@ -1,11 +1,11 @@
--- Which refusals each call gives: document 01, "Replies in number order"; document 02, E2; FORMAT.md, "Calls". "Order: 12; then the file from front to back, first
+-- Which refusals each call gives: document 01, "Replies in number order"; document 02, E2 and E12; FORMAT.md, "Calls". "Order: 12; then the file from front to back, first
 -- fault met (10 once that prototype is read whole); then 13, or for text 8 and 9 in text order, then 11. The element call gives 3, 4, 5, 7, 13 only."
 use Prim.Native.Nat.{ℕ}
 use mathlib.Core.Path.{_≡_}
 use mathlib.Core.Bool.{Bool, false, cond, _&&_, _||_}
 use mathlib.Core.List.{List, [], _∷_, _++_}
 use lib.Dec.{T, eqb, ltb}
-use Rattle.bsii_format.specs.Replies.{invalidHeader, unsupportedVersion, malformed, notUtf8, zeroDigit, undefinedPrototype, unlistedType, fieldCount, enumValue, tableFull, outputShort, inputLong, absent, badMark, Fault, Reply, gives, refuses}
+use Rattle.bsii_format.specs.Replies.{invalidHeader, malformed, notUtf8, zeroDigit, undefinedPrototype, unlistedType, fieldCount, enumValue, tableFull, outputShort, inputLong, absent, badMark, Fault, Reply, gives, refuses}
 
 -- ---- the numbers
 
@@ -13,10 +13,9 @@ use Rattle.bsii_format.specs.Replies.{invalidHeader, unsupportedVersion,
 abbrev pub valueNumbers : List ℕ
 valueNumbers = malformed ∷ notUtf8 ∷ zeroDigit ∷ unlistedType ∷ []
 
--- of a file, and so of every call that takes one: 1 to 7, 10, 12, 15
+-- of a file, and so of every call that takes one: 1, 3 to 7, 10, 12, 15. "Reply 2 is retired and never occurs"
 abbrev pub fileNumbers : List ℕ
-fileNumbers =
-    inputLong ∷ invalidHeader ∷ unsupportedVersion ∷ malformed ∷ notUtf8 ∷ zeroDigit ∷ undefinedPrototype ∷ unlistedType ∷ tableFull ∷ badMark ∷ []
+fileNumbers = inputLong ∷ invalidHeader ∷ malformed ∷ notUtf8 ∷ zeroDigit ∷ undefinedPrototype ∷ unlistedType ∷ tableFull ∷ badMark ∷ []
 
 abbrev pub readingNumbers : List ℕ
 readingNumbers = fileNumbers
@@ -29,7 +28,7 @@ lookupNumbers = fileNumbers ++ (absent ∷ [])
 abbrev pub elementNumbers : List ℕ
 elementNumbers = valueNumbers ++ (absent ∷ [])
 
--- 1 to 12, 15
+-- 1, 3 to 12, 15
 abbrev pub textNumbers : List ℕ
 textNumbers = fileNumbers ++ (fieldCount ∷ enumValue ∷ outputShort ∷ [])
 

@@ -1,12 +1,10 @@
--- Refusals: document 01, "Replies in number order"; document 02, E2; FORMAT.md, "Replies".
+-- Refusals: document 01, "Replies in number order"; document 02, E2 and E12; FORMAT.md, "Replies".
 use Prim.Native.Nat.{ℕ}
 
--- The numbers, each with its trade word. Where a refusal is given, and its offset, is said where it is used.
+-- The numbers, each with its trade word. Where a refusal is given, and its offset, is said where it is used. 2 has no name: "Reply 2 is retired and never
+-- occurs; its number isn't used again".
 abbrev pub invalidHeader : ℕ  -- header
 invalidHeader = 1
-
-abbrev pub unsupportedVersion : ℕ  -- version
-unsupportedVersion = 2
 
 -- 02, E2: "Reply 3 shall mean only that bytes ran out"
 abbrev pub malformed : ℕ  -- malformed

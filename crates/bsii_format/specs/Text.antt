@@ -10,11 +10,11 @@ use Rattle.bsii_format.specs.Reader.{Consumed}
 use Rattle.bsii_format.specs.Numbers.{signed}
 use Rattle.bsii_format.specs.Utf8.{_to_, within}
 use Rattle.bsii_format.specs.Strings.{characters, Id, nameless, named}
-use Rattle.bsii_format.specs.Types.{Numeric, float, floatVec2, floatVec3, floatVec4, floatVec8, int32, int32Vec3, uint32, uint16, int64, uint64, bool, enum}
+use Rattle.bsii_format.specs.Types.{Numeric, float, floatVec2, floatVec3, floatVec4, floatVec7, floatVec8, int32, int32Vec3, uint32, uint16, int64, uint64, bool, enum}
 use Rattle.bsii_format.specs.Values.{Element, nums, str, word, ident, Value, single, array}
 use Rattle.bsii_format.specs.Prototypes.{EnumValue, ValuePrototype}
 use Rattle.bsii_format.specs.Digits.{decimal, hexadecimal, hexPadded, decimalInt}
-use Rattle.bsii_format.specs.Floats.{floatText, vec2Text, vec3Text, vec4Text, placementText}
+use Rattle.bsii_format.specs.Floats.{floatText, vec2Text, vec3Text, vec4Text, placementText, vec7Text}
 
 -- ---- strings, words, ids
 
@@ -88,6 +88,7 @@ numericText enums float l = some (floatText (getD l 0 0))
 numericText enums floatVec2 l = some (vec2Text (floatText (getD l 0 0)) (floatText (getD l 1 0)))
 numericText enums floatVec3 l = some (vec3Text (floatText (getD l 0 0)) (floatText (getD l 1 0)) (floatText (getD l 2 0)))
 numericText enums floatVec4 l = some (vec4Text (floatText (getD l 0 0)) (floatText (getD l 1 0)) (floatText (getD l 2 0)) (floatText (getD l 3 0)))
+numericText enums floatVec7 l = some (vec7Text l)
 numericText enums floatVec8 l = some (placementText l)
 numericText enums int32 l = some (int32Text (getD l 0 0))
 numericText enums int32Vec3 l = some (vec3Text (int32Text (getD l 0 0)) (int32Text (getD l 1 0)) (int32Text (getD l 2 0)))

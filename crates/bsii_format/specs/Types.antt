@@ -1,13 +1,13 @@
--- The table of types, as data: document 01, "Types (hexadecimal; an array is a u32 count, then elements)"; document 02, E3; FORMAT.md, "Types".
+-- The table of types, as data: document 01, "Types (hexadecimal; an array is a u32 count, then elements)"; document 02, E3 and E12; FORMAT.md, "Types".
 use Prim.Native.Nat.{ℕ}
 use mathlib.Core.Bool.{cond}
 use mathlib.Core.Option.{Option, none, some}
 use mathlib.Core.List.{List, [], _∷_}
 use lib.Dec.{eqb}
 
--- values that are one or more numbers of one width; the names are those of the Rust's `DataValue`
+-- values that are one or more numbers of one width; the names are those of the Rust's `DataValue`, and `floatVec7` is a placement of version 1
 pub data Numeric : Type 0 where
-  float floatVec2 floatVec3 floatVec4 floatVec8 int32 int32Vec3 uint32 uint16 int64 uint64 bool enum : Numeric
+  float floatVec2 floatVec3 floatVec4 floatVec7 floatVec8 int32 int32Vec3 uint32 uint16 int64 uint64 bool enum : Numeric
 
 -- how many bytes each number has
 unfoldable pub width : Numeric → ℕ
@@ -15,6 +15,7 @@ width float = 4
 width floatVec2 = 4
 width floatVec3 = 4
 width floatVec4 = 4
+width floatVec7 = 4
 width floatVec8 = 4
 width int32 = 4
 width int32Vec3 = 4
@@ -31,6 +32,7 @@ arity float = 1
 arity floatVec2 = 2
 arity floatVec3 = 3
 arity floatVec4 = 4
+arity floatVec7 = 7
 arity floatVec8 = 8
 arity int32 = 1
 arity int32Vec3 = 3
@@ -58,9 +60,13 @@ pub record Listed : Type 0 where
 abbrev pub _is_ : ℕ → Shape → Listed
 t is x = record { typeId = t; shape = x }
 
--- 01's types and E3's, by number: "0x0a, an array of three f32, and 0x17, a single four f32"
-unfoldable pub typeTable : List Listed
-typeTable =
+-- "Version 1 differs in 0x19 and 0x1a only: a placement has seven f32"; in every other version it has eight
+unfoldable pub placementIn : ℕ → Numeric
+placementIn version = cond (eqb version 1) floatVec7 floatVec8
+
+-- the types of a version, by number: 01's, and E3's "0x0a, an array of three f32, and 0x17, a single four f32"
+unfoldable pub typeTable : ℕ → List Listed
+typeTable version =
     0x01 is one string ∷
     0x02 is many string ∷
     0x03 is one encodedString ∷
@@ -74,8 +80,8 @@ typeTable =
     0x12 is many (numbers int32Vec3) ∷
     0x17 is one (numbers floatVec4) ∷
     0x18 is many (numbers floatVec4) ∷
-    0x19 is one (numbers floatVec8) ∷
-    0x1a is many (numbers floatVec8) ∷
+    0x19 is one (numbers (placementIn version)) ∷
+    0x1a is many (numbers (placementIn version)) ∷
     0x25 is one (numbers int32) ∷
     0x26 is many (numbers int32) ∷
     0x27 is one (numbers uint32) ∷
@@ -101,5 +107,5 @@ shapeIn [] t = none
 shapeIn (r ∷ l) t = cond (eqb t (r .typeId)) (some (r .shape)) (shapeIn l t)
 
 -- "All other types are unlisted": none
-unfoldable pub shapeOf : ℕ → Option Shape
-shapeOf = shapeIn typeTable
+unfoldable pub shapeOf : ℕ → ℕ → Option Shape
+shapeOf version = shapeIn (typeTable version)

@@ -1,4 +1,4 @@
--- Values by type: document 01, "Types"; FORMAT.md, "Values".
+-- Values by version and type: document 01, "Types"; document 02, E12; FORMAT.md, "Values".
 use Prim.Native.Nat.{ℕ}
 use mathlib.Core.Option.{Option, none, some}
 use mathlib.Core.List.{List}
@@ -31,5 +31,6 @@ shapeParser none = fail unlistedType
 shapeParser (some (one k)) = single <$> consumed (elementParser k)
 shapeParser (some (many k)) = array <$> (leU32 >>= (λ n. repeat n (consumed (elementParser k))))
 
-unfoldable pub valueParser : ℕ → Reader Value
-valueParser t = shapeParser (shapeOf t)
+-- "The version therefore travels with the reader's position through every value call"
+unfoldable pub valueParser : ℕ → ℕ → Reader Value
+valueParser version t = shapeParser (shapeOf version t)

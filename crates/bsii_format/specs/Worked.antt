@@ -51,7 +51,7 @@ Hold l = map (λ f. f .asked) l ≡ map (λ f. f .says) l
 
 -- ---- the cases marked *
 
--- the text of a single value, whose enum list is empty
+-- the text of a single value of version 2, whose enum list is empty
 unfoldable pub singleText : Result Value → Reply (List ℕ)
 singleText (ok (single e) at r) = orRefuse enumValue 0 (elementText [] (e .value))
 singleText (ok (array l) at r) = refusal absent 0
@@ -59,7 +59,7 @@ singleText (fault f) = refuses f
 
 infix 75 _of_
 abbrev pub _of_ : ℕ → List ℕ → Reply (List ℕ)
-t of l = singleText (valueParser t 0 l)
+t of l = singleText (valueParser 2 t 0 l)
 
 -- the bits of 1, and a placement with f1 = f3 = 1, this f4 and zeros
 abbrev pub placementWith : ℕ → List ℕ

@@ -8,7 +8,7 @@ use lib.IntN.{pos, negsuc}
 use lib.Ieee.{Float, nan, fin}
 use Rattle.bsii_format.specs.Ascii.{ascii}
 use Rattle.bsii_format.specs.Replies.{Reply, gives, refuses, short, refusal, invalidHeader, notUtf8, zeroDigit, undefinedPrototype, unlistedType, fieldCount, enumValue, tableFull, outputShort, absent, badMark}
-use Rattle.bsii_format.specs.Calls.{Place, Reading, readingCall, PrototypeAnswer, prototypeCall, BlockAnswer, blockCall, namedBlockCall, FieldAnswer, fieldCall, partOf, Datum, dString, dEncodedString, dFloat, dFloatVec2, dFloatVec3, dFloatVec4, dFloatVec8, dInt32, dInt32Vec3, dUInt32, dUInt16, dInt64, dUInt64, dBool, dEnum, dId, elementCall, TextAnswer, textCall}
+use Rattle.bsii_format.specs.Calls.{Place, Reading, readingCall, PrototypeAnswer, prototypeCall, BlockAnswer, blockCall, namedBlockCall, FieldAnswer, fieldCall, partOf, Datum, dString, dEncodedString, dFloat, dFloatVec2, dFloatVec3, dFloatVec4, dFloatVec7, dFloatVec8, dInt32, dInt32Vec3, dUInt32, dUInt16, dInt64, dUInt64, dBool, dEnum, dId, elementCall, TextAnswer, textCall}
 use Rattle.bsii_format.specs.Worked.{le, u32, u64, workedFile, workedText, Fact, _says_}
 
 -- ---- files
@@ -22,8 +22,11 @@ definition t name = u32 t ++ string name
 abbrev pub prototypeRecord : ℕ → List ℕ → List ℕ → List ℕ
 prototypeRecord n name definitions = u32 0 ++ le 1 1 ++ u32 n ++ string name ++ definitions ++ u32 0
 
+abbrev pub fileOf : ℕ → List ℕ → List ℕ
+fileOf version records = ascii "BSII" ++ u32 version ++ records ++ u32 0 ++ le 1 0
+
 abbrev pub fileWith : List ℕ → List ℕ
-fileWith records = ascii "BSII" ++ u32 2 ++ records ++ u32 0 ++ le 1 0
+fileWith = fileOf 2
 
 -- the worked file with another byte at one offset
 abbrev pub workedWith : ℕ → ℕ → List ℕ
@@ -91,6 +94,28 @@ vectorsFile =
 unfoldable pub vectorsText : List ℕ
 vectorsText = ascii "SiiNunit\n{\nt : null {\n  v: 1\n  v[0]: (&3f000000, 1, -2)\n  r: (1; 0, 0, -0)\n}\n}\n"
 
+-- a placement of version 1: the bits of 1, -0, -0, a NaN, 0, 1.5, -2
+unfoldable pub sevenPart : List ℕ
+sevenPart =
+    u32 0x3f80_0000 ++ u32 0x8000_0000 ++ u32 0x8000_0000 ++ u32 0x7f80_0002 ++ u32 0 ++ u32 0x3fc0_0000 ++ u32 0xc000_0000
+
+-- 73 bytes: prototype 2, `j` with a placement `w`; its block `null` at 35, with seven f32 at 40. With eight the last one is the end record's u32 at 68
+unfoldable pub sevenFile : ℕ → List ℕ
+sevenFile version = fileOf version (prototypeRecord 2 (ascii "j") (definition 0x19 (ascii "w")) ++ u32 2 ++ le 1 0 ++ sevenPart)
+
+-- minus zeros stay, and the NaN keeps its bits
+unfoldable pub sevenText : List ℕ
+sevenText = ascii "SiiNunit\n{\nj : null {\n  w: (1, -0, -0) (&7f800002; 0, &3fc00000, -2)\n}\n}\n"
+
+-- an array of two
+unfoldable pub sevensPart : List ℕ
+sevensPart = u32 2 ++ sevenPart ++ sevenPart
+
+-- 115 bytes: a block of prototype 2 at 44, with the array at 49 and a bool `b` behind it at 109
+unfoldable pub sevensFile : List ℕ
+sevensFile =
+    fileOf 1 (prototypeRecord 2 (ascii "j") (definition 0x1a (ascii "w") ++ definition 0x35 (ascii "b")) ++ u32 2 ++ le 1 0 ++ sevensPart ++ le 1 1)
+
 -- prototype 1 with the definitions `first`; a block of it with the u32 5; prototype 1 again, with the definitions `last`
 abbrev pub againFile : List ℕ → List ℕ → List ℕ
 againFile first last = fileWith (prototypeRecord 1 (ascii "p") first ++ u32 1 ++ le 1 0 ++ u32 5 ++ prototypeRecord 1 (ascii "p") last)
@@ -127,6 +152,7 @@ readings =
     readingCall 3 workedFile says reads 1 1 82 ∷
     readingCall 3 redefinedFile says reads 1 1 76 ∷
     readingCall 3 vectorsFile says reads 1 1 86 ∷
+    readingCall 3 (sevenFile 1) says reads 1 1 73 ∷
     readingCall 9 twinFile says reads 3 2 127 ∷
     readingCall 8 twinFile says refusal tableFull 83 ∷
     readingCall 0 (fileWith []) says reads 0 0 13 ∷
@@ -138,7 +164,8 @@ readings =
 
 -- Files that were cut, in the order of the cuts: a part of `BSII`, `BSII` alone, in the version, in a record number, in front of a mark, in a string, in
 -- the file above in front of a definition's type, in its first value and in front of the end record's mark. Then the whole of it, and a mark that is none,
--- which is not a cut; a cut in the second number of a triple in an array, and one in the first of a quadruple, which has no count in front
+-- which is not a cut; a cut in the second number of a triple in an array, and one in the first of a quadruple, which has no count in front. A version of 1
+-- alone; a placement of seven that is cut in its last number; and one that every other version reads as eight, so that the end record's mark is read as a number
 unfoldable pub cutReadings : List (Fact (Reply Reading))
 cutReadings =
     readingCall 3 (take 3 smallFile) says refusal invalidHeader 0 ∷
@@ -153,7 +180,13 @@ cutReadings =
     readingCall 3 smallFile says reads 1 2 62 ∷
     readingCall 3 (ascii "BSII" ++ u32 2 ++ u32 0 ++ le 1 3) says refusal badMark 12 ∷
     readingCall 3 (take 60 vectorsFile) says lacks 57 1 ∷
-    readingCall 3 (take 66 vectorsFile) says lacks 65 3 ∷ []
+    readingCall 3 (take 66 vectorsFile) says lacks 65 3 ∷
+    readingCall 3 (take 8 (sevenFile 1)) says lacks 8 4 ∷
+    readingCall 3 (take 67 (sevenFile 1)) says lacks 64 1 ∷
+    readingCall 3 (sevenFile 0) says lacks 72 3 ∷
+    readingCall 3 (sevenFile 2) says lacks 72 3 ∷
+    readingCall 3 (sevenFile 3) says lacks 72 3 ∷
+    readingCall 3 (sevenFile 257) says lacks 72 3 ∷ []
 
 abbrev pub defines : Place → ℕ → Reply PrototypeAnswer
 defines name fields = gives (record { name = name; fields = fields })
@@ -209,6 +242,9 @@ fields =
     fieldCall 3 enumFile 0 (ascii "e") says carries 0x37 67 (u32 5) ∷
     fieldCall 3 vectorsFile 0 (ascii "v") says carries 0x0a 49 triplesPart ∷
     fieldCall 3 vectorsFile 0 (ascii "r") says carries 0x17 65 quadruplePart ∷
+    fieldCall 3 (sevenFile 1) 0 (ascii "w") says carries 0x19 40 sevenPart ∷
+    fieldCall 3 sevensFile 0 (ascii "w") says carries 0x1a 49 sevensPart ∷
+    fieldCall 3 sevensFile 0 (ascii "b") says carries 0x35 109 (le 1 1) ∷
     fieldCall 3 (workedWith 25 0x08) 0 (ascii "w") says refusal unlistedType 61 ∷
     fieldCall 3 (take 70 workedFile) 0 (ascii "km") says lacks 69 3 ∷ []
 
@@ -242,58 +278,68 @@ minusZero = fin true 0 (pos 0)
 abbrev pub fourBits : List ℕ
 fourBits = u32 0x3f80_0000 ++ u32 0x3fc0_0000 ++ u32 0xc000_0000 ++ u32 0x8000_0000
 
--- each kind once at least, single or in an array; then what is refused, also behind the element that was asked for
+-- each kind once at least, single or in an array, of version 2, and placements of version 1; then what is refused, also behind the element that was asked for
 unfoldable pub elements : List (Fact (Reply Datum))
 elements =
-    elementCall 0x02 (u32 2 ++ string (ascii "a") ++ string (ascii "hi")) 1 says gives (dString (place 13 2)) ∷
-    elementCall 0x03 (u64 0x8000_0000_0000_0057) 0 says gives (dEncodedString 0x57) ∷
-    elementCall 0x06 workedPart 1 says gives (dFloat minusTwo) ∷
-    elementCall 0x05 (u32 0x7f80_0001) 0 says gives (dFloat nan) ∷
-    elementCall 0x07 fourBits 0 says gives (dFloatVec2 one oneAndHalf) ∷
-    elementCall 0x09 fourBits 0 says gives (dFloatVec3 one oneAndHalf minusTwo) ∷
-    elementCall 0x0a triplesPart 0 says gives (dFloatVec3 half one minusTwo) ∷
-    elementCall 0x17 quadruplePart 0 says gives (dFloatVec4 one zero zero minusZero) ∷
-    elementCall 0x18 (u32 1 ++ fourBits) 0 says gives (dFloatVec4 one oneAndHalf minusTwo minusZero) ∷
-    elementCall 0x19 (fourBits ++ fourBits) 0 says gives (dFloatVec8 one oneAndHalf minusTwo minusZero one oneAndHalf minusTwo minusZero) ∷
-    elementCall 0x25 (u32 0xffff_fffe) 0 says gives (dInt32 (negsuc 1)) ∷
-    elementCall 0x11 (u32 1 ++ u32 0xffff_ffff ++ u32 0x8000_0000) 0 says gives (dInt32Vec3 (pos 1) (negsuc 0) (negsuc 0x7fff_ffff)) ∷
-    elementCall 0x28 (u32 2 ++ u32 300 ++ u32 0xffff_ffff) 1 says gives (dUInt32 0xffff_ffff) ∷
-    elementCall 0x2f (u32 300) 0 says gives (dUInt32 300) ∷
-    elementCall 0x2b (le 2 0xffff) 0 says gives (dUInt16 0xffff) ∷
-    elementCall 0x31 (u64 0x8000_0000_0000_0000) 0 says gives (dInt64 (negsuc 0x7fff_ffff_ffff_ffff)) ∷
-    elementCall 0x33 (u64 0xffff_ffff_ffff_ffff) 0 says gives (dUInt64 0xffff_ffff_ffff_ffff) ∷
-    elementCall 0x36 (u32 2 ++ le 1 0 ++ le 1 2) 0 says gives (dBool false) ∷
-    elementCall 0x36 (u32 2 ++ le 1 0 ++ le 1 2) 1 says gives (dBool true) ∷
-    elementCall 0x37 (u32 5) 0 says gives (dEnum 5) ∷
-    elementCall 0x3a (u32 2 ++ le 1 1 ++ u64 0x57 ++ le 1 0) 1 says gives (dId (place 13 1)) ∷
-    elementCall 0x3d (le 1 0xff ++ u64 38) 0 says gives (dId (place 0 9)) ∷
-    elementCall 0x08 [] 0 says refusal unlistedType 0 ∷
-    elementCall 0x0b triplesPart 0 says refusal unlistedType 0 ∷
-    elementCall 0x16 quadruplePart 0 says refusal unlistedType 0 ∷
-    elementCall 0x30 (u32 1 ++ u32 5) 0 says refusal unlistedType 0 ∷
-    elementCall 0x38 (u32 1 ++ u32 5) 0 says refusal unlistedType 0 ∷
-    elementCall 0x3e (u32 1 ++ le 1 0) 0 says refusal unlistedType 0 ∷
-    elementCall 0x01 (u32 3 ++ le 1 0xc0 ++ le 1 0x80) 0 says lacks 4 1 ∷
-    elementCall 0x01 (u32 2 ++ le 1 0xc0 ++ le 1 0x80) 0 says refusal notUtf8 4 ∷
-    elementCall 0x04 (u32 2 ++ u64 1 ++ u64 38) 0 says refusal zeroDigit 12 ∷
-    elementCall 0x06 (u32 2 ++ u32 0) 0 says lacks 8 4 ∷
-    elementCall 0x06 (u32 0) 0 says refusal absent 0 ∷
-    elementCall 0x0a triplesPart 1 says refusal absent 0 ∷
-    elementCall 0x17 quadruplePart 1 says refusal absent 0 ∷
-    elementCall 0x27 (u32 300) 1 says refusal absent 0 ∷ []
+    elementCall 2 0x02 (u32 2 ++ string (ascii "a") ++ string (ascii "hi")) 1 says gives (dString (place 13 2)) ∷
+    elementCall 2 0x03 (u64 0x8000_0000_0000_0057) 0 says gives (dEncodedString 0x57) ∷
+    elementCall 2 0x06 workedPart 1 says gives (dFloat minusTwo) ∷
+    elementCall 2 0x05 (u32 0x7f80_0001) 0 says gives (dFloat nan) ∷
+    elementCall 2 0x07 fourBits 0 says gives (dFloatVec2 one oneAndHalf) ∷
+    elementCall 2 0x09 fourBits 0 says gives (dFloatVec3 one oneAndHalf minusTwo) ∷
+    elementCall 2 0x0a triplesPart 0 says gives (dFloatVec3 half one minusTwo) ∷
+    elementCall 2 0x17 quadruplePart 0 says gives (dFloatVec4 one zero zero minusZero) ∷
+    elementCall 2 0x18 (u32 1 ++ fourBits) 0 says gives (dFloatVec4 one oneAndHalf minusTwo minusZero) ∷
+    elementCall 2 0x19 (fourBits ++ fourBits) 0 says gives (dFloatVec8 one oneAndHalf minusTwo minusZero one oneAndHalf minusTwo minusZero) ∷
+    elementCall 1 0x19 sevenPart 0 says gives (dFloatVec7 one minusZero minusZero nan zero oneAndHalf minusTwo) ∷
+    elementCall 1 0x1a sevensPart 1 says gives (dFloatVec7 one minusZero minusZero nan zero oneAndHalf minusTwo) ∷
+    elementCall 1 0x18 (u32 1 ++ fourBits) 0 says gives (dFloatVec4 one oneAndHalf minusTwo minusZero) ∷
+    elementCall 2 0x25 (u32 0xffff_fffe) 0 says gives (dInt32 (negsuc 1)) ∷
+    elementCall 2 0x11 (u32 1 ++ u32 0xffff_ffff ++ u32 0x8000_0000) 0 says gives (dInt32Vec3 (pos 1) (negsuc 0) (negsuc 0x7fff_ffff)) ∷
+    elementCall 2 0x28 (u32 2 ++ u32 300 ++ u32 0xffff_ffff) 1 says gives (dUInt32 0xffff_ffff) ∷
+    elementCall 2 0x2f (u32 300) 0 says gives (dUInt32 300) ∷
+    elementCall 2 0x2b (le 2 0xffff) 0 says gives (dUInt16 0xffff) ∷
+    elementCall 2 0x31 (u64 0x8000_0000_0000_0000) 0 says gives (dInt64 (negsuc 0x7fff_ffff_ffff_ffff)) ∷
+    elementCall 2 0x33 (u64 0xffff_ffff_ffff_ffff) 0 says gives (dUInt64 0xffff_ffff_ffff_ffff) ∷
+    elementCall 2 0x36 (u32 2 ++ le 1 0 ++ le 1 2) 0 says gives (dBool false) ∷
+    elementCall 2 0x36 (u32 2 ++ le 1 0 ++ le 1 2) 1 says gives (dBool true) ∷
+    elementCall 2 0x37 (u32 5) 0 says gives (dEnum 5) ∷
+    elementCall 2 0x3a (u32 2 ++ le 1 1 ++ u64 0x57 ++ le 1 0) 1 says gives (dId (place 13 1)) ∷
+    elementCall 2 0x3d (le 1 0xff ++ u64 38) 0 says gives (dId (place 0 9)) ∷
+    elementCall 2 0x08 [] 0 says refusal unlistedType 0 ∷
+    elementCall 2 0x0b triplesPart 0 says refusal unlistedType 0 ∷
+    elementCall 2 0x16 quadruplePart 0 says refusal unlistedType 0 ∷
+    elementCall 2 0x30 (u32 1 ++ u32 5) 0 says refusal unlistedType 0 ∷
+    elementCall 2 0x38 (u32 1 ++ u32 5) 0 says refusal unlistedType 0 ∷
+    elementCall 2 0x3e (u32 1 ++ le 1 0) 0 says refusal unlistedType 0 ∷
+    elementCall 2 0x01 (u32 3 ++ le 1 0xc0 ++ le 1 0x80) 0 says lacks 4 1 ∷
+    elementCall 2 0x01 (u32 2 ++ le 1 0xc0 ++ le 1 0x80) 0 says refusal notUtf8 4 ∷
+    elementCall 2 0x04 (u32 2 ++ u64 1 ++ u64 38) 0 says refusal zeroDigit 12 ∷
+    elementCall 2 0x06 (u32 2 ++ u32 0) 0 says lacks 8 4 ∷
+    elementCall 2 0x06 (u32 0) 0 says refusal absent 0 ∷
+    elementCall 2 0x0a triplesPart 1 says refusal absent 0 ∷
+    elementCall 2 0x17 quadruplePart 1 says refusal absent 0 ∷
+    elementCall 2 0x27 (u32 300) 1 says refusal absent 0 ∷
+    elementCall 1 0x19 sevenPart 1 says refusal absent 0 ∷
+    elementCall 1 0x1a sevensPart 2 says refusal absent 0 ∷ []
 
 -- cut in an i64; in a triple's second number, at that number and without the third; in a placement; in the last element of an array; in a string of
--- 2^32 - 1 bytes; in front of an id's byte, in its number and in its second word
+-- 2^32 - 1 bytes; in front of an id's byte, in its number and in its second word. Placements of seven: cut in the last number, and read as eight
 unfoldable pub cutElements : List (Fact (Reply Datum))
 cutElements =
-    elementCall 0x31 (u32 0 ++ le 1 0) 0 says lacks 0 3 ∷
-    elementCall 0x09 (u32 0 ++ le 2 0) 0 says lacks 4 2 ∷
-    elementCall 0x19 (fourBits ++ le 3 0) 0 says lacks 16 1 ∷
-    elementCall 0x2c (u32 3 ++ u32 0 ++ le 1 0) 0 says lacks 8 1 ∷
-    elementCall 0x01 (u32 0xffff_ffff) 0 says lacks 4 0xffff_ffff ∷
-    elementCall 0x39 [] 0 says lacks 0 1 ∷
-    elementCall 0x39 (le 1 0xff ++ u32 0) 0 says lacks 1 4 ∷
-    elementCall 0x39 (le 1 2 ++ u64 1 ++ u32 0) 0 says lacks 9 4 ∷ []
+    elementCall 2 0x31 (u32 0 ++ le 1 0) 0 says lacks 0 3 ∷
+    elementCall 2 0x09 (u32 0 ++ le 2 0) 0 says lacks 4 2 ∷
+    elementCall 2 0x19 (fourBits ++ le 3 0) 0 says lacks 16 1 ∷
+    elementCall 2 0x2c (u32 3 ++ u32 0 ++ le 1 0) 0 says lacks 8 1 ∷
+    elementCall 2 0x01 (u32 0xffff_ffff) 0 says lacks 4 0xffff_ffff ∷
+    elementCall 2 0x39 [] 0 says lacks 0 1 ∷
+    elementCall 2 0x39 (le 1 0xff ++ u32 0) 0 says lacks 1 4 ∷
+    elementCall 2 0x39 (le 1 2 ++ u64 1 ++ u32 0) 0 says lacks 9 4 ∷
+    elementCall 1 0x19 (take 27 sevenPart) 0 says lacks 24 1 ∷
+    elementCall 2 0x19 sevenPart 0 says lacks 28 4 ∷
+    elementCall 0 0x19 sevenPart 0 says lacks 28 4 ∷
+    elementCall 257 0x19 sevenPart 0 says lacks 28 4 ∷
+    elementCall 2 0x1a sevensPart 0 says lacks 60 4 ∷ []
 
 -- ---- texts: in an output of ones, which shows what is written
 
@@ -312,6 +358,7 @@ texts =
     textCall 3 redefinedFile (replicate 33 1) says written (ascii "SiiNunit\n{\nq : null {\n  g: 9\n}\n}\n") [] ∷
     textCall 3 enumFile (replicate 36 1) says written (ascii "SiiNunit\n{\np : null {\n  e: high\n}\n}\n") [] ∷
     textCall 3 vectorsFile (replicate 80 1) says written vectorsText (1 ∷ []) ∷
+    textCall 3 (sevenFile 1) (replicate 74 1) says written sevenText (1 ∷ []) ∷
     textCall 3 recountedFile [] says unwritten fieldCount 44 0 [] ∷
     textCall 3 unlistedEnumFile [] says unwritten enumValue 65 0 [] ∷
     textCall 3 (againFile fiveField (definition 0x37 (ascii "e") ++ u32 0 ++ plainField)) [] says unwritten fieldCount 51 0 [] ∷

@@ -42,8 +42,8 @@ header-takes = record {
 file-takes : (rooms : ℕ) → Takes BsiiFile (bsiiParser rooms) (λ f n. (m : ℕ) × Row Record FineRecord (f .records) m × (m ≤ n))
 unfolding bsiiParser bsiiFile recordsParser
 file-takes rooms =
-    bind-takes (λ h. bsiiFile h <$> recordsParser rooms) (consumed-takes header-takes)
-    (λ h n l p. map-takes {R = recordsParser rooms} (bsiiFile h) (record { taken = λ at s. recordsFrom-takes rooms (length s) [] .taken at s })
+    bind-takes (λ h. bsiiFile h <$> recordsParser (h .value) rooms) (consumed-takes header-takes)
+    (λ h n l p. map-takes {R = recordsParser (h .value) rooms} (bsiiFile h) (record { taken = λ at s. recordsFrom-takes (h .value) rooms (length s) [] .taken at s })
     (λ q k z g. (g .size, g .row, omega (arith, g .within))))
 
 records-size : (last : List Prototype) → Every Prototype ShortPrototype last → (at : ℕ) {l : List Record} {n : ℕ} → Row Record FineRecord l n

@@ -16,9 +16,9 @@ use Rattle.bsii_format.specs.Numbers.{signed}
 use Rattle.bsii_format.specs.Replies.{zeroDigit}
 use Rattle.bsii_format.specs.Utf8.{_to_, within}
 use Rattle.bsii_format.specs.Digits.{decimal, hexPadded, decimalInt}
-use Rattle.bsii_format.specs.Floats.{bitsText, minusIf, floatTextOf, floatText, vec2Text, vec3Text, vec4Text, floorMod, floorDiv, coefficient, sectorOffset, quieted, sectorSum, placementText}
+use Rattle.bsii_format.specs.Floats.{bitsText, minusIf, floatTextOf, floatText, vec2Text, vec3Text, vec4Text, floorMod, floorDiv, coefficient, sectorOffset, quieted, sectorSum, placementText, vec7Text}
 use Rattle.bsii_format.specs.Strings.{low63, spelled, encodedStrParser, characters, Id, nameless, named, idParser}
-use Rattle.bsii_format.specs.Types.{Numeric, float, floatVec2, floatVec3, floatVec4, floatVec8, int32, int32Vec3, uint32, uint16, int64, uint64, bool, enum, width, arity, Kind, numbers, string, encodedString, id}
+use Rattle.bsii_format.specs.Types.{Numeric, float, floatVec2, floatVec3, floatVec4, floatVec7, floatVec8, int32, int32Vec3, uint32, uint16, int64, uint64, bool, enum, width, arity, Kind, numbers, string, encodedString, id}
 use Rattle.bsii_format.specs.Values.{Element, nums, str, word, ident, elementParser}
 use Rattle.bsii_format.specs.Prototypes.{EnumValue}
 use Rattle.bsii_format.specs.Text.{allBare, escaped, stringText, orEmpty, encodedStringText, dotted, idText, orNil, boolText, firstSome, enumString, numericText, elementText}
@@ -175,12 +175,18 @@ module _ (l : List ℕ) (h : (i : ℕ) → getD l i 0 < 2 ^ 64) where
       let c = coefficient (getD l 3 0) in
       simp (length-append, vec3-length, vec4-length) (omega (arith, sum-length 0 (floorMod c 4096), float-at 1, sum-length 2 (floorMod (floorDiv c 4096) 4096), float-at 4, float-at 5, float-at 6, float-at 7))
 
+  vec7-length : length (vec7Text l) ≤ 500
+  unfolding vec7Text
+  vec7-length =
+      simp (length-append, vec3-length, vec4-length) (omega (arith, float-at 0, float-at 1, float-at 2, float-at 3, float-at 4, float-at 5, float-at 6))
+
   numeric-size : (k : Numeric) {enums : List EnumValue} → ShortEnums enums → size (numericText enums k l) ≤ elementBound
   unfolding numericText
   numeric-size float e = omega (arith, float-at 0)
   numeric-size floatVec2 e = rw vec2-length (omega (arith, float-at 0, float-at 1))
   numeric-size floatVec3 e = rw vec3-length (omega (arith, float-at 0, float-at 1, float-at 2))
   numeric-size floatVec4 e = rw vec4-length (omega (arith, float-at 0, float-at 1, float-at 2, float-at 3))
+  numeric-size floatVec7 e = omega (arith, vec7-length)
   numeric-size floatVec8 e = omega (arith, placement-length)
   numeric-size int32 e = omega (arith, int-at 0x8000_0000 0 (omega arith))
   numeric-size int32Vec3 e = rw vec3-length (omega (arith, int-at 0x8000_0000 0 (omega arith), int-at 0x8000_0000 1 (omega arith), int-at 0x8000_0000 2 (omega arith)))
@@ -207,6 +213,7 @@ widths float = omega arith
 widths floatVec2 = omega arith
 widths floatVec3 = omega arith
 widths floatVec4 = omega arith
+widths floatVec7 = omega arith
 widths floatVec8 = omega arith
 widths int32 = omega arith
 widths int32Vec3 = omega arith

@@ -89,12 +89,12 @@ shape-takes (some (many k)) =
           );
     })
 
-pub values-takes : (fs : List (Consumed ValuePrototype)) → Takes (List DataValue) (dataValuesParser fs) (Row DataValue (λ v n. FineValue (v .value) n))
+pub values-takes : (version : ℕ) (fs : List (Consumed ValuePrototype)) → Takes (List DataValue) (dataValuesParser version fs) (Row DataValue (λ v n. FineValue (v .value) n))
 unfolding dataValuesParser dataValueParser dataValue valueParser _<$>_
-values-takes [] = success-takes [] nil
-values-takes (f ∷ fs) =
-    bind-takes _ (map-takes (dataValue (f .value .typeId)) (consumed-takes (shape-takes (shapeOf (f .value .typeId)))) (λ v n l p. p))
-    (λ v n l p. map-takes (λ l. v ∷ l) (values-takes fs) (λ l m z q. cons p q))
+values-takes version [] = success-takes [] nil
+values-takes version (f ∷ fs) =
+    bind-takes _ (map-takes (dataValue (f .value .typeId)) (consumed-takes (shape-takes (shapeOf version (f .value .typeId)))) (λ v n l p. p))
+    (λ v n l p. map-takes (λ l. v ∷ l) (values-takes version fs) (λ l m z q. cons p q))
 
 -- ---- the text of a block
 

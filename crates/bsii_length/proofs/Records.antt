@@ -89,28 +89,28 @@ abbrev FineStep : Step → ℕ → Type 0
 FineStep (end l) n = Unit {0}
 FineStep (more r) n = FineRecord r n
 
-block-takes : (start : ℕ) (hd : List ℕ) (c : ℕ) (o : Option Prototype) (n : ℕ) → 1 ≤ n → Takes Step (dataBlockParser start hd c o) (λ q m. FineStep q (n + m))
+block-takes : (version start : ℕ) (hd : List ℕ) (c : ℕ) (o : Option Prototype) (n : ℕ) → 1 ≤ n → Takes Step (dataBlockParser version start hd c o) (λ q m. FineStep q (n + m))
 unfolding dataBlockParser blockStep
-block-takes start hd c none n h = record { taken = λ at s v at′ r i e. fault≢ok e }
-block-takes start hd c (some y) n h = record {
+block-takes version start hd c none n h = record { taken = λ at s v at′ r i e. fault≢ok e }
+block-takes version start hd c (some y) n h = record {
   taken =
-      bind-takes {Q = λ q m. FineStep q (n + m)} (λ i. blockStep hd c i <$> dataValuesParser (y .fields)) (consumed-takes id-takes)
-      (λ i m l p. map-takes (blockStep hd c i) (values-takes (y .fields))
+      bind-takes {Q = λ q m. FineStep q (n + m)} (λ i. blockStep hd c i <$> dataValuesParser version (y .fields)) (consumed-takes id-takes)
+      (λ i m l p. map-takes (blockStep hd c i) (values-takes version (y .fields))
       (λ v k z q. record { text = λ at w g. omega (arith, block-size at w (record { head = hd; prototypeId = c; id = i; values = v }) m k g p q) }))
       .taken;
 }
 
-step-takes : (env : List Prototype) (start : ℕ) (hd : List ℕ) (h : Head) (n : ℕ) → ShortHead h → 1 ≤ n → Takes Step (stepParser env start hd h) (λ q m. FineStep q (n + m))
+step-takes : (version : ℕ) (env : List Prototype) (start : ℕ) (hd : List ℕ) (h : Head) (n : ℕ) → ShortHead h → 1 ≤ n → Takes Step (stepParser version env start hd h) (λ q m. FineStep q (n + m))
 unfolding stepParser prototypeStep
-step-takes env start hd ending n h l = success-takes (end hd) tt
-step-takes env start hd (defining c name) n h l = map-takes (prototypeStep hd c name) fields-takes (λ v m z q. record { name = h; fields = q })
-step-takes env start hd (carrying c) n h l = block-takes start hd c (getPrototype c env) n l
+step-takes version env start hd ending n h l = success-takes (end hd) tt
+step-takes version env start hd (defining c name) n h l = map-takes (prototypeStep hd c name) fields-takes (λ v m z q. record { name = h; fields = q })
+step-takes version env start hd (carrying c) n h l = block-takes version start hd c (getPrototype c env) n l
 
-record-takes : (env : List Prototype) → Takes Step (recordParser env) FineStep
+record-takes : (version : ℕ) (env : List Prototype) → Takes Step (recordParser version env) FineStep
 unfolding recordParser
-record-takes env = record {
+record-takes version env = record {
   taken = λ at s.
-      after-taken (λ h. stepParser env at (h .raw) (h .value)) (consumed-takes head-takes) at s (λ h n l p. step-takes env at (h .raw) (h .value) n (p .0) (p .1));
+      after-taken (λ h. stepParser version env at (h .raw) (h .value)) (consumed-takes head-takes) at s (λ h n l p. step-takes version env at (h .raw) (h .value) n (p .0) (p .1));
 }
 
 -- ---- all records
@@ -130,13 +130,13 @@ recordsThen-takes rooms env start rest h (more r) n p =
     (map-takes (consRecord r) (h (define r env)) (λ q m z k. record { size = n + k .size; row = cons p (k .row); within = omega (arith, k .within) }))
     (record { taken = λ at s v at′ r i e. fault≢ok e })
 
-pub recordsFrom-takes : (rooms n : ℕ) (env : List Prototype) → Takes Records (recordsFrom rooms n env) FineRecords
+pub recordsFrom-takes : (version rooms n : ℕ) (env : List Prototype) → Takes Records (recordsFrom version rooms n env) FineRecords
 unfolding recordsFrom
-recordsFrom-takes rooms zero env = exhausted-takes 4
-recordsFrom-takes rooms (suc n) env = record {
+recordsFrom-takes version rooms zero env = exhausted-takes 4
+recordsFrom-takes version rooms (suc n) env = record {
   taken = λ at s.
-      after-taken (recordsThen rooms env at (λ e. recordsFrom rooms n e)) (record-takes env) at s
-      (λ z k l p. recordsThen-takes rooms env at (λ e. recordsFrom rooms n e) (recordsFrom-takes rooms n) z k p);
+      after-taken (recordsThen rooms env at (λ e. recordsFrom version rooms n e)) (record-takes version env) at s
+      (λ z k l p. recordsThen-takes rooms env at (λ e. recordsFrom version rooms n e) (recordsFrom-takes version rooms n) z k p);
 }
 
 -- ---- the definitions

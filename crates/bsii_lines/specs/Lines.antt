@@ -73,6 +73,6 @@ pub record ArrayWritten (s : List ℕ) (at : ℕ) (k : Kind) (d : Definition) (o
   pub size : length new ≡ length old
 
 -- a whole value
-pub record FieldWritten (s : List ℕ) (at typeId : ℕ) (d : Definition) (old : List ℕ) (to : ℕ) (r : Lines) (new : List ℕ) : Type 0 where
-  pub writes : (v : Value) (n : ℕ) → valueParser typeId at (drop at s) ≡ ok v n (drop n s) → (f : ValuePrototype) → Describes s d f → LinesAre old to (valueText f v) n r new
+pub record FieldWritten (version : ℕ) (s : List ℕ) (at typeId : ℕ) (d : Definition) (old : List ℕ) (to : ℕ) (r : Lines) (new : List ℕ) : Type 0 where
+  pub writes : (v : Value) (n : ℕ) → valueParser version typeId at (drop at s) ≡ ok v n (drop n s) → (f : ValuePrototype) → Describes s d f → LinesAre old to (valueText f v) n r new
   pub size : length new ≡ length old

@@ -153,13 +153,14 @@ pub fn write_field(
     to: usize,
     s: &[u8],
     at: usize,
+    version: u32,
     type_id: u32,
     d: Definition,
 ) -> Lines
     requires { ⌜ InFile (now s) d ⌝ }
-    ensures { λ r. ⌜ FieldWritten (now (s .entry)) at «type_id» d (now (out .entry)) to r (now (out .exit)) ⌝ }
+    ensures { λ r. ⌜ FieldWritten version (now (s .entry)) at «type_id» d (now (out .entry)) to r (now (out .exit)) ⌝ }
 {
-    let shape = shape_of(type_id);
+    let shape = shape_of(version, type_id);
     match shape {
         Shape::Unlisted => return Lines::NotInList,
         Shape::One(kind) => {

@@ -24,11 +24,11 @@ abbrev pub framedText : List Prototype → List Record → Reply (List ℕ)
 framedText last l = joined (joined (gives fileOpening) (recordsText valueText last 8 l)) (gives closing)
 
 -- a text x, which was measured to end at `end`
-pub record TextWritten (s t : List ℕ) (rows : ℕ) (old : List ℕ) (end : ℕ) (r : TextReply) (new : List ℕ) : Type 0 where
-  pub answers : (rooms : ℕ) (last : List Prototype) (rest : List Record) → WalkAt s rooms rows last t 8 [] rest → (x : List ℕ) → framedText last rest ≡ gives x
+pub record TextWritten (version : ℕ) (s t : List ℕ) (rows : ℕ) (old : List ℕ) (end : ℕ) (r : TextReply) (new : List ℕ) : Type 0 where
+  pub answers : (rooms : ℕ) (last : List Prototype) (rest : List Record) → WalkAt version s rooms rows last t 8 [] rest → (x : List ℕ) → framedText last rest ≡ gives x
       → end ≡ 0x8000_0000_0000_0000 + length x → textIs r new ≡ textAnswer old (gives x)
 
 -- a text that is short enough for its positions to be exact
-pub record TextRead (s t : List ℕ) (rows : ℕ) (old : List ℕ) (r : TextReply) (new : List ℕ) : Type 0 where
-  pub answers : (rooms : ℕ) (last : List Prototype) (rest : List Record) → WalkAt s rooms rows last t 8 [] rest
+pub record TextRead (version : ℕ) (s t : List ℕ) (rows : ℕ) (old : List ℕ) (r : TextReply) (new : List ℕ) : Type 0 where
+  pub answers : (rooms : ℕ) (last : List Prototype) (rest : List Record) → WalkAt version s rooms rows last t 8 [] rest
       → ((x : List ℕ) → framedText last rest ≡ gives x → length x < 0x4000_0000_0000_0000) → textIs r new ≡ textAnswer old (framedText last rest)

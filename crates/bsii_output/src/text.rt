@@ -22,13 +22,14 @@ pub enum TextReply {
 // The text that was measured to end at `end`.
 fn write_measured(
     file: &[u8],
+    version: u32,
     table: &mut [u32],
     rows: usize,
     output: &mut [u8],
     end: usize,
 ) -> TextReply
-    requires { ⌜ Readable (now file) 8 (now table) rows ⌝ }
-    ensures { λ r. ⌜ TextWritten (now (file .entry)) (now (table .entry)) rows (now (output .entry)) end r (now (output .exit)) ⌝ }
+    requires { ⌜ Readable version (now file) 8 (now table) rows ⌝ }
+    ensures { λ r. ⌜ TextWritten version (now (file .entry)) (now (table .entry)) rows (now (output .entry)) end r (now (output .exit)) ⌝ }
 {
     if end < 0x8000_0000_0000_0000 {
         return TextReply::Text(0);
@@ -40,22 +41,28 @@ fn write_measured(
             needed: length,
         };
     }
-    write_bsii(output, file, 8, table, rows);
+    write_bsii(output, file, version, 8, table, rows);
     TextReply::Text(length)
 }
 
 // The text of a file that was read.
-fn write_read(file: &[u8], table: &mut [u32], rows: usize, output: &mut [u8]) -> TextReply
-    requires { ⌜ Readable (now file) 8 (now table) rows ⌝ }
-    ensures { λ r. ⌜ TextRead (now (file .entry)) (now (table .entry)) rows (now (output .entry)) r (now (output .exit)) ⌝ }
+fn write_read(
+    file: &[u8],
+    version: u32,
+    table: &mut [u32],
+    rows: usize,
+    output: &mut [u8],
+) -> TextReply
+    requires { ⌜ Readable version (now file) 8 (now table) rows ⌝ }
+    ensures { λ r. ⌜ TextRead version (now (file .entry)) (now (table .entry)) rows (now (output .entry)) r (now (output .exit)) ⌝ }
 {
-    let measured = write_bsii(&mut output[..0], file, 8, table, rows);
+    let measured = write_bsii(&mut output[..0], file, version, 8, table, rows);
     match measured {
         Texts::Refused(f) => return TextReply::Refused {
             refusal: f,
             needed: 0,
         },
-        Texts::To(end) => return write_measured(file, table, rows, output, end),
+        Texts::To(end) => return write_measured(file, version, table, rows, output, end),
     }
 }
 
@@ -69,7 +76,7 @@ fn write_text(file: &[u8], table: &mut [u32], output: &mut [u8]) -> TextReply
             refusal: f,
             needed: 0,
         },
-        Walked::Done(t) => return write_read(file, table, t.rows, output),
+        Walked::Done(t) => return write_read(file, t.version, table, t.rows, output),
     }
 }
 

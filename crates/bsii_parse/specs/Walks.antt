@@ -33,17 +33,17 @@ pub record DefinedAt (s : List ℕ) (o : ℕ) (p : Prototype) : Type 0 where
   pub list : fieldsParser fields (drop fields s) ≡ ok (record { fields = p .fields; terminator = p .terminator }) next (drop next s)
 
 -- values from `start` on, where definitions are read from `fields` on
-pub record ValuesEnd (s : List ℕ) (fields start : ℕ) (r : Parsed) : Type 0 where
-  pub ends : (l : Fields) (n : ℕ) (t : List ℕ) → fieldsParser fields (drop fields s) ≡ ok l n t → r ≡ endOf (dataValuesParser (l .fields) start (drop start s))
+pub record ValuesEnd (version : ℕ) (s : List ℕ) (fields start : ℕ) (r : Parsed) : Type 0 where
+  pub ends : (l : Fields) (n : ℕ) (t : List ℕ) → fieldsParser fields (drop fields s) ≡ ok l n t → r ≡ endOf (dataValuesParser version (l .fields) start (drop start s))
 
 -- a block's id and values from `at` on, where definitions are read from `fields` on
-pub record BlockEnd (s : List ℕ) (fields at : ℕ) (r : Parsed) : Type 0 where
+pub record BlockEnd (version : ℕ) (s : List ℕ) (fields at : ℕ) (r : Parsed) : Type 0 where
   pub ends : (l : Fields) (n : ℕ) (t : List ℕ) → fieldsParser fields (drop fields s) ≡ ok l n t
-      → r ≡ endOf ((idParser >>= (λ i. dataValuesParser (l .fields))) at (drop at s))
+      → r ≡ endOf ((idParser >>= (λ i. dataValuesParser version (l .fields))) at (drop at s))
 
 -- the same under a prototype that stands at an offset
-pub record DefinedEnd (s : List ℕ) (o at : ℕ) (r : Parsed) : Type 0 where
-  pub ends : (p : Prototype) → DefinedAt s o p → r ≡ endOf ((idParser >>= (λ i. dataValuesParser (p .fields))) at (drop at s))
+pub record DefinedEnd (version : ℕ) (s : List ℕ) (o at : ℕ) (r : Parsed) : Type 0 where
+  pub ends : (p : Prototype) → DefinedAt s o p → r ≡ endOf ((idParser >>= (λ i. dataValuesParser version (p .fields))) at (drop at s))
 
 -- ---- the reading walk
 
@@ -58,9 +58,9 @@ unfoldable pub behind : List Record → Result Records → Result Records
 behind l (ok q at r) = ok (record { records = l ++ q .records; end = q .end }) at r
 behind l (fault f) = fault f
 
--- the records from a position on, with room for `rooms` ids and the definitions so far
-abbrev pub recordsAt : ℕ → List Prototype → ℕ → List ℕ → Result Records
-recordsAt rooms env at s = recordsFrom rooms (length (drop at s)) env at (drop at s)
+-- the records of a version from a position on, with room for `rooms` ids and the definitions so far
+abbrev pub recordsAt : ℕ → ℕ → List Prototype → ℕ → List ℕ → Result Records
+recordsAt version rooms env at s = recordsFrom version rooms (length (drop at s)) env at (drop at s)
 
 -- ---- the table
 
@@ -93,41 +93,41 @@ pub record Ready (s : List ℕ) (p : Progress) (t : List ℕ) : Type 0 where
 
 -- For the definitions that the table holds: the records from here on are the one that was passed and those from there on; or they are the end
 -- record; or they are refused. Behind the step the table holds the definitions with the record's.
-pub data StepMeets (s : List ℕ) (p : Progress) (t : List ℕ) (env : List (Placed Prototype)) : ReadStep → List ℕ → Type 0 where
+pub data StepMeets (version : ℕ) (s : List ℕ) (p : Progress) (t : List ℕ) (env : List (Placed Prototype)) : ReadStep → List ℕ → Type 0 where
   passed : (i : Record) {n rows : ℕ} {t′ : List ℕ}
-      → recordsAt (length t / 3) (bare env) (p .at) s ≡ behind (i ∷ []) (recordsAt (length t / 3) (bare (consPrototype (p .at) i env)) n s)
+      → recordsAt version (length t / 3) (bare env) (p .at) s ≡ behind (i ∷ []) (recordsAt version (length t / 3) (bare (consPrototype (p .at) i env)) n s)
       → p .at < n → n ≤ length s → n ≡ p .at + length (recordBytes i) → Growing s t′ rows (consPrototype (p .at) i env) → length t′ ≡ length t
-      → StepMeets s p t env (Go (record { at = n; rows = rows; blocks = p .blocks + blockCount (i ∷ []) })) t′
-  ended : {l : List ℕ} {n : ℕ} → recordsAt (length t / 3) (bare env) (p .at) s ≡ ok (record { records = []; end = l }) n (drop n s) → StepMeets s p t env (End n) t
-  refused : {f : Refusal} {t′ : List ℕ} → recordsAt (length t / 3) (bare env) (p .at) s ≡ fault (faultIs f) → length t′ ≡ length t → StepMeets s p t env (Refused f) t′
+      → StepMeets version s p t env (Go (record { at = n; rows = rows; blocks = p .blocks + blockCount (i ∷ []) })) t′
+  ended : {l : List ℕ} {n : ℕ} → recordsAt version (length t / 3) (bare env) (p .at) s ≡ ok (record { records = []; end = l }) n (drop n s) → StepMeets version s p t env (End n) t
+  refused : {f : Refusal} {t′ : List ℕ} → recordsAt version (length t / 3) (bare env) (p .at) s ≡ fault (faultIs f) → length t′ ≡ length t → StepMeets version s p t env (Refused f) t′
 
-pub record Stepped (s : List ℕ) (p : Progress) (t : List ℕ) (r : ReadStep) (t′ : List ℕ) : Type 0 where
-  pub steps : (env : List (Placed Prototype)) → Growing s t (p .rows) env → StepMeets s p t env r t′
+pub record Stepped (version : ℕ) (s : List ℕ) (p : Progress) (t : List ℕ) (r : ReadStep) (t′ : List ℕ) : Type 0 where
+  pub steps : (env : List (Placed Prototype)) → Growing s t (p .rows) env → StepMeets version s p t env r t′
 
--- the same where the head is read already: a prototype's definitions start at `fields`, a block's id at `at`
+-- the same where the head is read already: a prototype's definitions start at `fields`, in every version, a block's id at `at`
 pub record Defining (s : List ℕ) (p : Progress) (t : List ℕ) (id fields : ℕ) (r : ReadStep) (t′ : List ℕ) : Type 0 where
-  pub steps : (env : List (Placed Prototype)) → Growing s t (p .rows) env → (name : List ℕ) → headParser (p .at) (drop (p .at) s) ≡ ok (defining id name) fields (drop fields s)
-      → StepMeets s p t env r t′
+  pub steps : (version : ℕ) (env : List (Placed Prototype)) → Growing s t (p .rows) env → (name : List ℕ) → headParser (p .at) (drop (p .at) s) ≡ ok (defining id name) fields (drop fields s)
+      → StepMeets version s p t env r t′
 
-pub record Carrying (s : List ℕ) (p : Progress) (t : List ℕ) (id at : ℕ) (r : ReadStep) : Type 0 where
-  pub steps : (env : List (Placed Prototype)) → Growing s t (p .rows) env → headParser (p .at) (drop (p .at) s) ≡ ok (carrying id) at (drop at s) → StepMeets s p t env r t
+pub record Carrying (version : ℕ) (s : List ℕ) (p : Progress) (t : List ℕ) (id at : ℕ) (r : ReadStep) : Type 0 where
+  pub steps : (env : List (Placed Prototype)) → Growing s t (p .rows) env → headParser (p .at) (drop (p .at) s) ≡ ok (carrying id) at (drop at s) → StepMeets version s p t env r t
 
 -- ---- the whole walk from `start` on, and the whole file: the table holds the definitions of what was read
 
--- what the walk has found of records that end at n
-abbrev pub totalsOf : ℕ → List Record → ℕ → Totals
-totalsOf rows l n = record { rows = rows; blocks = blockCount l; next = n }
+-- what the walk has found of records of a version that end at n
+abbrev pub totalsOf : ℕ → ℕ → List Record → ℕ → Totals
+totalsOf version rows l n = record { version = version; rows = rows; blocks = blockCount l; next = n }
 
-pub data Walks (s : List ℕ) (start : ℕ) (t : List ℕ) : Walked → List ℕ → Type 0 where
-  done : (q : Records) {rows n : ℕ} {t′ : List ℕ} → recordsAt (length t / 3) [] start s ≡ ok q n (drop n s)
+pub data Walks (version : ℕ) (s : List ℕ) (start : ℕ) (t : List ℕ) : Walked → List ℕ → Type 0 where
+  done : (q : Records) {rows n : ℕ} {t′ : List ℕ} → recordsAt version (length t / 3) [] start s ≡ ok q n (drop n s)
       → Growing s t′ rows (prototypesIn (placed (λ r. length (recordBytes r)) start (q .records)) []) → length t′ ≡ length t
-      → Walks s start t (Done (totalsOf rows (q .records) n)) t′
-  stopped : {f : Refusal} {t′ : List ℕ} → recordsAt (length t / 3) [] start s ≡ fault (faultIs f) → length t′ ≡ length t → Walks s start t (Stopped f) t′
+      → Walks version s start t (Done (totalsOf version rows (q .records) n)) t′
+  stopped : {f : Refusal} {t′ : List ℕ} → recordsAt version (length t / 3) [] start s ≡ fault (faultIs f) → length t′ ≡ length t → Walks version s start t (Stopped f) t′
 
 -- `Table t′ rows env` is what the table holds then
 pub data ReadAs (Table : List ℕ → ℕ → List (Placed Prototype) → Type 0) (s : List ℕ) (t : List ℕ) : Walked → List ℕ → Type 0 where
   read : (f : BsiiFile) {rows n : ℕ} {t′ : List ℕ} → parse (length t) s ≡ ok f n (drop n s) → Table t′ rows (prototypesIn (placedRecords f) [])
-      → length t′ ≡ length t → ReadAs Table s t (Done (totalsOf rows (f .records) n)) t′
+      → length t′ ≡ length t → ReadAs Table s t (Done (totalsOf (f .header .value) rows (f .records) n)) t′
   unread : {f : Refusal} {t′ : List ℕ} → parse (length t) s ≡ fault (faultIs f) → length t′ ≡ length t → ReadAs Table s t (Stopped f) t′
 
 abbrev pub ReadTree : List ℕ → List ℕ → Walked → List ℕ → Type 0

@@ -7,9 +7,9 @@ use bsii_word::words::id_parser;
 ghost use lib.ListN.{drop};
 ghost use Rattle.bsii_parse.specs.Walks.{ValuesEnd, BlockEnd};
 
-// The values from `start` on, one for each definition from `fields` on.
-pub fn values_parser(s: &[u8], fields: usize, start: usize) -> Parsed
-    ensures { λ r. ⌜ ValuesEnd (now (s .entry)) fields start r ⌝ }
+// The values of a version from `start` on, one for each definition from `fields` on.
+pub fn values_parser(s: &[u8], version: u32, fields: usize, start: usize) -> Parsed
+    ensures { λ r. ⌜ ValuesEnd version (now (s .entry)) fields start r ⌝ }
 {
     let mut field = fields;
     let mut at = start;
@@ -24,7 +24,7 @@ pub fn values_parser(s: &[u8], fields: usize, start: usize) -> Parsed
                 name_end: _,
                 next,
             } => {
-                let value = value_parser(s, at, type_id);
+                let value = value_parser(s, at, version, type_id);
                 match value {
                     Parsed::Fault(f) => return Parsed::Fault(f),
                     Parsed::Next(end) => {
@@ -38,12 +38,12 @@ pub fn values_parser(s: &[u8], fields: usize, start: usize) -> Parsed
 }
 
 // A block's id and its values.
-pub fn data_block_parser(s: &[u8], fields: usize, at: usize) -> Parsed
-    ensures { λ r. ⌜ BlockEnd (now (s .entry)) fields at r ⌝ }
+pub fn data_block_parser(s: &[u8], version: u32, fields: usize, at: usize) -> Parsed
+    ensures { λ r. ⌜ BlockEnd version (now (s .entry)) fields at r ⌝ }
 {
     let id = id_parser(s, at);
     match id {
         Parsed::Fault(f) => Parsed::Fault(f),
-        Parsed::Next(next) => values_parser(s, fields, next),
+        Parsed::Next(next) => values_parser(s, version, fields, next),
     }
 }

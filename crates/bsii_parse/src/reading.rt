@@ -35,7 +35,7 @@ fn tree_parser(file: &[u8], table: &mut [u32]) -> Walked
     let header = header_parser(file);
     match header {
         Header::BadHeader(f) => return Walked::Fault(f),
-        Header::Version(_) => return walk(file, 8, table),
+        Header::Version(version) => return walk(file, version, 8, table),
     }
 }
 

@@ -37,8 +37,9 @@ pub enum ReadStep {
     Refused(Refusal),
 }
 
-// What the whole walk has found: the table's rows, the blocks, and the offset behind the end record.
+// What the whole walk has found: the version it was made in, the table's rows, the blocks, and the offset behind the end record.
 pub struct Totals {
+    pub version: u32,
     pub rows: usize,
     pub blocks: usize,
     pub next: usize,
@@ -75,20 +76,20 @@ fn prototype_step(s: &[u8], p: Progress, table: &mut [u32], id: u32, fields: usi
 }
 
 // The block whose own id starts at `at`, under the prototype at the offset `prototype`.
-pub fn block_parser(s: &[u8], prototype: usize, at: usize) -> Parsed
-    ensures { λ r. ⌜ DefinedEnd (now (s .entry)) prototype at r ⌝ }
+pub fn block_parser(s: &[u8], version: u32, prototype: usize, at: usize) -> Parsed
+    ensures { λ r. ⌜ DefinedEnd version (now (s .entry)) prototype at r ⌝ }
 {
     let fields = fields_at(s, prototype);
     match fields {
         Parsed::Fault(f) => Parsed::Fault(f),
-        Parsed::Next(first) => data_block_parser(s, first, at),
+        Parsed::Next(first) => data_block_parser(s, version, first, at),
     }
 }
 
 // A block of this id, whose own id starts at `id_at`, under the definition in force.
-fn block_step(s: &[u8], p: Progress, table: &[u32], id: u32, id_at: usize) -> ReadStep
+fn block_step(s: &[u8], version: u32, p: Progress, table: &[u32], id: u32, id_at: usize) -> ReadStep
     requires { ⌜ Ready (now s) p (now table) ⌝ }
-    ensures { λ r. ⌜ Carrying (now (s .entry)) p (now (table .entry)) id «id_at» r ⌝ }
+    ensures { λ r. ⌜ Carrying version (now (s .entry)) p (now (table .entry)) id «id_at» r ⌝ }
 {
     let at = p.at;
     let rows = p.rows;
@@ -96,7 +97,7 @@ fn block_step(s: &[u8], p: Progress, table: &[u32], id: u32, id_at: usize) -> Re
     match found {
         FoundRow::Nothing => return ReadStep::Refused(refused(UNDEFINED_PROTOTYPE, at)),
         FoundRow::At { in_force, last: _ } => {
-            let parsed = block_parser(s, size(in_force), id_at);
+            let parsed = block_parser(s, version, size(in_force), id_at);
             match parsed {
                 Parsed::Fault(f) => return ReadStep::Refused(f),
                 Parsed::Next(next) => return ReadStep::Go(Progress {
@@ -109,23 +110,23 @@ fn block_step(s: &[u8], p: Progress, table: &[u32], id: u32, id_at: usize) -> Re
     }
 }
 
-pub fn record_step(s: &[u8], p: Progress, table: &mut [u32]) -> ReadStep
+pub fn record_step(s: &[u8], version: u32, p: Progress, table: &mut [u32]) -> ReadStep
     requires { ⌜ Ready (now s) p (now table) ⌝ }
-    ensures { λ r. ⌜ Stepped (now (s .entry)) p (now (table .entry)) r (now (table .exit)) ⌝ }
+    ensures { λ r. ⌜ Stepped version (now (s .entry)) p (now (table .entry)) r (now (table .exit)) ⌝ }
 {
     let head = head_parser(s, p.at);
     match head {
         Head::End(next) => return ReadStep::End(next),
         Head::BadHead(f) => return ReadStep::Refused(f),
         Head::Prototype { id, name: _, next } => return prototype_step(s, p, table, id, next),
-        Head::Block { id, next } => return block_step(s, p, table, id, next),
+        Head::Block { id, next } => return block_step(s, version, p, table, id, next),
     }
 }
 
-// The records from `start` on, with an empty table.
-pub fn walk(s: &[u8], start: usize, table: &mut [u32]) -> Walked
+// The records of a version from `start` on, with an empty table.
+pub fn walk(s: &[u8], version: u32, start: usize, table: &mut [u32]) -> Walked
     requires { ⌜ (length (now s) ≤ lengthLimit) × (start ≤ length (now s)) ⌝ }
-    ensures { λ r. ⌜ Walks (now (s .entry)) start (now (table .entry)) r (now (table .exit)) ⌝ }
+    ensures { λ r. ⌜ Walks version (now (s .entry)) start (now (table .entry)) r (now (table .exit)) ⌝ }
 {
     let mut p = Progress {
         at: start,
@@ -133,9 +134,10 @@ pub fn walk(s: &[u8], start: usize, table: &mut [u32]) -> Walked
         blocks: 0,
     };
     loop {
-        let step = record_step(s, p, table);
+        let step = record_step(s, version, p, table);
         match step {
             ReadStep::End(next) => return Walked::Done(Totals {
+                version,
                 rows: p.rows,
                 blocks: p.blocks,
                 next,

@@ -5,7 +5,6 @@ use bsii_string::answers::BAD_MARK;
 use bsii_string::answers::INVALID_HEADER;
 use bsii_string::answers::Num;
 use bsii_string::answers::Str;
-use bsii_string::answers::UNSUPPORTED_VERSION;
 use bsii_string::answers::refused;
 use bsii_string::numbers::le_u8;
 use bsii_string::numbers::le_u32;
@@ -43,12 +42,7 @@ pub fn header_parser(s: &[u8]) -> Header
     let version = le_u32(s, 4);
     match version {
         Num::Short(f) => Header::BadHeader(f),
-        Num::Got(v, next) => {
-            if v == 1 {
-                return Header::BadHeader(refused(UNSUPPORTED_VERSION, next));
-            }
-            Header::Version(v)
-        }
+        Num::Got(v, _) => Header::Version(v),
     }
 }
 

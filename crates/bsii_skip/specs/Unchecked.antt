@@ -36,5 +36,5 @@ uncheckedShape none = fail unlistedType
 uncheckedShape (some (one k)) = uncheckedElement k
 uncheckedShape (some (many k)) = uncheckedArray k
 
-unfoldable pub uncheckedValue : ℕ → Reader (Unit {0})
-uncheckedValue t = uncheckedShape (shapeOf t)
+unfoldable pub uncheckedValue : ℕ → ℕ → Reader (Unit {0})
+uncheckedValue version t = uncheckedShape (shapeOf version t)

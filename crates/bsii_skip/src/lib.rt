@@ -91,10 +91,10 @@ fn unlisted(offset: usize) -> Parsed
 }
 
 // An array's count is read here and not in a function of its own: so this one stays short enough to be compiled into its callers.
-pub fn skip_value(s: &[u8], at: usize, type_id: u32) -> Parsed
-    ensures { λ r. ⌜ r ≡ endOf (uncheckedValue «type_id» at (drop at (now (s .entry)))) ⌝ }
+pub fn skip_value(s: &[u8], at: usize, version: u32, type_id: u32) -> Parsed
+    ensures { λ r. ⌜ r ≡ endOf (uncheckedValue version «type_id» at (drop at (now (s .entry)))) ⌝ }
 {
-    let shape = shape_of(type_id);
+    let shape = shape_of(version, type_id);
     match shape {
         Shape::One(kind) => skip_element(s, at, kind),
         Shape::Many(kind) => {

@@ -35,10 +35,8 @@ pub fn short(offset: usize, item: u32, there: usize) -> Refusal
     }
 }
 
-// The numbers of refusals, as in include/sii_decode.h.
+// The numbers of refusals, as in include/sii_decode.h. 2 is retired.
 pub const INVALID_HEADER: u32 = 1;
-
-pub const UNSUPPORTED_VERSION: u32 = 2;
 
 pub const MALFORMED: u32 = 3;
 

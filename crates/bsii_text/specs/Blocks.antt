@@ -31,32 +31,32 @@ WrittenIs old to (refuses f) n (Next at r) new = ⊥
 
 -- The fields vs under the definitions l in force, read up to e, with the names of the last definitions m: as many as there are values, or 8
 -- was given
-pub record FieldsWritten (s : List ℕ) (start fields lastFields : ℕ) (old : List ℕ) (to : ℕ) (r : Written) (new : List ℕ) : Type 0 where
+pub record FieldsWritten (version : ℕ) (s : List ℕ) (start fields lastFields : ℕ) (old : List ℕ) (to : ℕ) (r : Written) (new : List ℕ) : Type 0 where
   pub writes : (l : Fields) (n : ℕ) (t : List ℕ) → fieldsParser fields (drop fields s) ≡ ok l n t → (m : Fields) (o : ℕ) (u : List ℕ) → fieldsParser lastFields (drop lastFields s) ≡ ok m o u
-      → (vs : List DataValue) (e : ℕ) → dataValuesParser (l .fields) start (drop start s) ≡ ok vs e (drop e s) → eqb (length (m .fields)) (length (l .fields)) ≡ true
+      → (vs : List DataValue) (e : ℕ) → dataValuesParser version (l .fields) start (drop start s) ≡ ok vs e (drop e s) → eqb (length (m .fields)) (length (l .fields)) ≡ true
       → WrittenIs old to (fieldsText valueText start (m .fields) vs) e r new
   pub size : length new ≡ length old
 
 -- the same from a place on
-abbrev pub FieldsFrom : List ℕ → FieldPlace → List ℕ → Written → List ℕ → Type 0
-FieldsFrom s p old r new = FieldsWritten s (p .at) (p .field) (p .«last_field») old (p .to) r new
+abbrev pub FieldsFrom : ℕ → List ℕ → FieldPlace → List ℕ → Written → List ℕ → Type 0
+FieldsFrom version s p old r new = FieldsWritten version s (p .at) (p .field) (p .«last_field») old (p .to) r new
 
 -- A turn: no field is left; or one is refused, and with it all; or one is written, and what is written of the fields behind it is written of all
-abbrev pub FieldTurned : List ℕ → FieldPlace → List ℕ → FieldTurn → List ℕ → Type 0
-FieldTurned s p old End new = FieldsFrom s p old (Next (p .at) (p .to)) new
-FieldTurned s p old (Stop f) new = FieldsFrom s p old (Refused f) new
-FieldTurned s p old (Go q) new =
-    (p .field < q .field) × (q .field ≤ length s) × (length new ≡ length old) × ((r : Written) (last : List ℕ) → FieldsFrom s q new r last → FieldsFrom s p old r last)
+abbrev pub FieldTurned : ℕ → List ℕ → FieldPlace → List ℕ → FieldTurn → List ℕ → Type 0
+FieldTurned version s p old End new = FieldsFrom version s p old (Next (p .at) (p .to)) new
+FieldTurned version s p old (Stop f) new = FieldsFrom version s p old (Refused f) new
+FieldTurned version s p old (Go q) new =
+    (p .field < q .field) × (q .field ≤ length s) × (length new ≡ length old) × ((r : Written) (last : List ℕ) → FieldsFrom version s q new r last → FieldsFrom version s p old r last)
 
 pub record OpeningWritten (name raw old : List ℕ) (to r : ℕ) (new : List ℕ) : Type 0 where
   pub writes : (i : Id) → WellFormed idParser i raw → Wrote old to (blockOpening name i) r new
   pub size : length new ≡ length old
 
 -- the lines of a block, where both lists have the same number of fields
-pub record BodyWritten (s : List ℕ) (id start fields name lastFields : ℕ) (old : List ℕ) (to : ℕ) (r : Written) (new : List ℕ) : Type 0 where
+pub record BodyWritten (version : ℕ) (s : List ℕ) (id start fields name lastFields : ℕ) (old : List ℕ) (to : ℕ) (r : Written) (new : List ℕ) : Type 0 where
   pub writes : (i : Id) → idParser id (drop id s) ≡ ok i start (drop start s) → (l : Fields) (n : ℕ) (t : List ℕ) → fieldsParser fields (drop fields s) ≡ ok l n t
       → (m : Fields) (o : ℕ) (u : List ℕ) → fieldsParser lastFields (drop lastFields s) ≡ ok m o u
-      → (vs : List DataValue) (e : ℕ) → dataValuesParser (l .fields) start (drop start s) ≡ ok vs e (drop e s) → eqb (length (m .fields)) (length (l .fields)) ≡ true
+      → (vs : List DataValue) (e : ℕ) → dataValuesParser version (l .fields) start (drop start s) ≡ ok vs e (drop e s) → eqb (length (m .fields)) (length (l .fields)) ≡ true
       → WrittenIs old to (joined (joined (gives (blockOpening (take (lastFields - name) (drop name s)) i)) (fieldsText valueText start (m .fields) vs)) (gives closing)) e r new
   pub size : length new ≡ length old
 
@@ -64,8 +64,8 @@ pub record SameFields (s : List ℕ) (inForce last fields lastFields : ℕ) (r :
   pub is : (p q : Prototype) (h : DefinedAt s inForce p) (k : DefinedAt s last q) → h .fields ≡ fields → k .fields ≡ lastFields → r ≡ eqb (length (q .fields)) (length (p .fields))
 
 -- a block b at an offset, read up to e under the definition p in force, and named by the last one q
-pub record BlockWritten (s : List ℕ) (offset id inForce last : ℕ) (old : List ℕ) (to : ℕ) (r : Written) (new : List ℕ) : Type 0 where
+pub record BlockWritten (version : ℕ) (s : List ℕ) (offset id inForce last : ℕ) (old : List ℕ) (to : ℕ) (r : Written) (new : List ℕ) : Type 0 where
   pub writes : (p q : Prototype) → DefinedAt s inForce p → DefinedAt s last q → (b : DataBlock) → id ≡ offset + length (b .head)
       → (i : ℕ) → i ≡ id + length (b .id .raw) → idParser id (drop id s) ≡ ok (b .id .value) i (drop i s)
-      → (e : ℕ) → dataValuesParser (p .fields) i (drop i s) ≡ ok (b .values) e (drop e s) → WrittenIs old to (blockText valueText offset (some q) b) e r new
+      → (e : ℕ) → dataValuesParser version (p .fields) i (drop i s) ≡ ok (b .values) e (drop e s) → WrittenIs old to (blockText valueText offset (some q) b) e r new
   pub size : length new ≡ length old

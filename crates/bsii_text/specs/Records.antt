@@ -35,10 +35,10 @@ StepIs old to (refuses f) n (Go at r) new = ⊥
 StepIs old to (refuses f) n End new = ⊥
 
 -- a block b at an offset, read up to e, where the table follows the walk
-pub record BlockStep (s : List ℕ) (offset : ℕ) (t : List ℕ) (rows prototypeId id : ℕ) (old : List ℕ) (to : ℕ) (r : WriteStep) (new : List ℕ) : Type 0 where
+pub record BlockStep (version : ℕ) (s : List ℕ) (offset : ℕ) (t : List ℕ) (rows prototypeId id : ℕ) (old : List ℕ) (to : ℕ) (r : WriteStep) (new : List ℕ) : Type 0 where
   pub steps : (env last : List Prototype) → Entered (DefinedAt s) t rows env last → (p q : Prototype) → getPrototype prototypeId env ≡ some p → getPrototype prototypeId last ≡ some q
       → (b : DataBlock) → id ≡ offset + length (b .head) → (i : ℕ) → i ≡ id + length (b .id .raw) → idParser id (drop id s) ≡ ok (b .id .value) i (drop i s)
-      → (e : ℕ) → dataValuesParser (p .fields) i (drop i s) ≡ ok (b .values) e (drop e s) → StepIs old to (blockText valueText offset (some q) b) e r new
+      → (e : ℕ) → dataValuesParser version (p .fields) i (drop i s) ≡ ok (b .values) e (drop e s) → StepIs old to (blockText valueText offset (some q) b) e r new
   pub size : length new ≡ length old
 
 pub record PrototypeStep (s : List ℕ) (at : ℕ) (t : List ℕ) (rows id to : ℕ) (r : WriteStep) (t′ : List ℕ) : Type 0 where
@@ -47,14 +47,14 @@ pub record PrototypeStep (s : List ℕ) (at : ℕ) (t : List ℕ) (rows id to : 
   pub size : length t′ ≡ length t
 
 -- The records `rest` from `at` on: the first one i is passed and its text x written; or there is none left; or their text is refused.
-pub data Stepped (s : List ℕ) (rooms rows : ℕ) (last : List Prototype) (at : ℕ) (env : List Prototype) (rest : List Record) (old : List ℕ) (to : ℕ) : WriteStep → List ℕ → List ℕ → Type 0 where
-  went : (i : Record) (l : List Record) {n r : ℕ} {t new : List ℕ} (x : List ℕ) → WalkAt s rooms rows last t n (define i env) l → at < n → n ≤ length s
-      → recordsText valueText last at rest ≡ joined (gives x) (recordsText valueText last n l) → Wrote old to x r new → Stepped s rooms rows last at env rest old to (Go n r) t new
-  ended : {t new : List ℕ} → rest ≡ [] → new ≡ old → Entered (DefinedAt s) t rows env last → Stepped s rooms rows last at env rest old to End t new
-  refused : {f : Refusal} {t new : List ℕ} → recordsText valueText last at rest ≡ refuses (faultIs f) → Stepped s rooms rows last at env rest old to (Refused f) t new
+pub data Stepped (version : ℕ) (s : List ℕ) (rooms rows : ℕ) (last : List Prototype) (at : ℕ) (env : List Prototype) (rest : List Record) (old : List ℕ) (to : ℕ) : WriteStep → List ℕ → List ℕ → Type 0 where
+  went : (i : Record) (l : List Record) {n r : ℕ} {t new : List ℕ} (x : List ℕ) → WalkAt version s rooms rows last t n (define i env) l → at < n → n ≤ length s
+      → recordsText valueText last at rest ≡ joined (gives x) (recordsText valueText last n l) → Wrote old to x r new → Stepped version s rooms rows last at env rest old to (Go n r) t new
+  ended : {t new : List ℕ} → rest ≡ [] → new ≡ old → Entered (DefinedAt s) t rows env last → Stepped version s rooms rows last at env rest old to End t new
+  refused : {f : Refusal} {t new : List ℕ} → recordsText valueText last at rest ≡ refuses (faultIs f) → Stepped version s rooms rows last at env rest old to (Refused f) t new
 
-pub record RecordWritten (s : List ℕ) (at : ℕ) (t : List ℕ) (rows : ℕ) (old : List ℕ) (to : ℕ) (r : WriteStep) (t′ new : List ℕ) : Type 0 where
-  pub steps : (rooms : ℕ) (last env : List Prototype) (rest : List Record) → WalkAt s rooms rows last t at env rest → Stepped s rooms rows last at env rest old to r t′ new
+pub record RecordWritten (version : ℕ) (s : List ℕ) (at : ℕ) (t : List ℕ) (rows : ℕ) (old : List ℕ) (to : ℕ) (r : WriteStep) (t′ new : List ℕ) : Type 0 where
+  pub steps : (rooms : ℕ) (last env : List Prototype) (rest : List Record) → WalkAt version s rooms rows last t at env rest → Stepped version s rooms rows last at env rest old to r t′ new
   pub size : length new ≡ length old
   pub tableSize : length t′ ≡ length t
 
@@ -71,15 +71,15 @@ abbrev pub Serves : List ℕ → ℕ → List Prototype → Texts → List ℕ �
 Serves s rows last (To r) t = Entered (DefinedAt s) t rows [] last
 Serves s rows last (Not f) t = Unit {0}
 
-pub record RecordsWritten (s : List ℕ) (start : ℕ) (t : List ℕ) (rows : ℕ) (old : List ℕ) (to : ℕ) (r : Texts) (t′ new : List ℕ) : Type 0 where
-  pub writes : (rooms : ℕ) (last : List Prototype) (rest : List Record) → WalkAt s rooms rows last t start [] rest
+pub record RecordsWritten (version : ℕ) (s : List ℕ) (start : ℕ) (t : List ℕ) (rows : ℕ) (old : List ℕ) (to : ℕ) (r : Texts) (t′ new : List ℕ) : Type 0 where
+  pub writes : (rooms : ℕ) (last : List Prototype) (rest : List Record) → WalkAt version s rooms rows last t start [] rest
       → TextsAre old to (recordsText valueText last start rest) r new × Serves s rows last r t′
   pub size : length new ≡ length old
   pub tableSize : length t′ ≡ length t
 
 -- the frame and the blocks, from the window's start on
-pub record BsiiWritten (s : List ℕ) (start : ℕ) (t : List ℕ) (rows : ℕ) (old : List ℕ) (r : Texts) (t′ new : List ℕ) : Type 0 where
-  pub writes : (rooms : ℕ) (last : List Prototype) (rest : List Record) → WalkAt s rooms rows last t start [] rest
+pub record BsiiWritten (version : ℕ) (s : List ℕ) (start : ℕ) (t : List ℕ) (rows : ℕ) (old : List ℕ) (r : Texts) (t′ new : List ℕ) : Type 0 where
+  pub writes : (rooms : ℕ) (last : List Prototype) (rest : List Record) → WalkAt version s rooms rows last t start [] rest
       → TextsAre old 0x8000_0000_0000_0000 (joined (joined (gives fileOpening) (recordsText valueText last start rest)) (gives closing)) r new × Serves s rows last r t′
   pub size : length new ≡ length old
   pub tableSize : length t′ ≡ length t

@@ -41,8 +41,8 @@ pub enum FieldTurn {
 }
 
 // The next field.
-fn write_next(out: &mut [u8], s: &[u8], p: FieldPlace) -> FieldTurn
-    ensures { λ r. ⌜ FieldTurned (now (s .entry)) p (now (out .entry)) r (now (out .exit)) ⌝ }
+fn write_next(out: &mut [u8], s: &[u8], version: u32, p: FieldPlace) -> FieldTurn
+    ensures { λ r. ⌜ FieldTurned version (now (s .entry)) p (now (out .entry)) r (now (out .exit)) ⌝ }
 {
     let at = p.at;
     let pair = pair_at(s, p.field, p.last_field);
@@ -63,7 +63,7 @@ fn write_next(out: &mut [u8], s: &[u8], p: FieldPlace) -> FieldTurn
                 name,
                 name_end,
             };
-            let lines = write_field(out, p.to, s, at, type_id, last);
+            let lines = write_field(out, p.to, s, at, version, type_id, last);
             match lines {
                 Lines::NotInList => return FieldTurn::Refused(refused(ENUM_VALUE, at)),
                 Lines::Next {
@@ -85,11 +85,12 @@ fn write_fields(
     out: &mut [u8],
     to: usize,
     s: &[u8],
+    version: u32,
     start: usize,
     fields: usize,
     last_fields: usize,
 ) -> Written
-    ensures { λ r. ⌜ FieldsWritten (now (s .entry)) start fields «last_fields» (now (out .entry)) to r (now (out .exit)) ⌝ }
+    ensures { λ r. ⌜ FieldsWritten version (now (s .entry)) start fields «last_fields» (now (out .entry)) to r (now (out .exit)) ⌝ }
 {
     let mut p = FieldPlace {
         field: fields,
@@ -98,7 +99,7 @@ fn write_fields(
         to,
     };
     loop {
-        let turn = write_next(out, s, p);
+        let turn = write_next(out, s, version, p);
         match turn {
             FieldTurn::End => return Written::Next { at: p.at, to: p.to },
             FieldTurn::Refused(f) => return Written::Refused(f),
@@ -124,6 +125,7 @@ fn write_body(
     out: &mut [u8],
     to: usize,
     s: &[u8],
+    version: u32,
     id: usize,
     start: usize,
     fields: usize,
@@ -131,10 +133,10 @@ fn write_body(
     last_fields: usize,
 ) -> Written
     requires { ⌜ (id ≤ start) × (start ≤ length (now s)) × (name ≤ «last_fields») × («last_fields» ≤ length (now s)) ⌝ }
-    ensures { λ r. ⌜ BodyWritten (now (s .entry)) id start fields name «last_fields» (now (out .entry)) to r (now (out .exit)) ⌝ }
+    ensures { λ r. ⌜ BodyWritten version (now (s .entry)) id start fields name «last_fields» (now (out .entry)) to r (now (out .exit)) ⌝ }
 {
     let opening = write_opening(out, to, &s[name..last_fields], &s[id..start]);
-    let body = write_fields(out, opening, s, start, fields, last_fields);
+    let body = write_fields(out, opening, s, version, start, fields, last_fields);
     match body {
         Written::Refused(f) => return Written::Refused(f),
         Written::Next { at, to: end } => {
@@ -161,12 +163,13 @@ pub fn write_data_block(
     out: &mut [u8],
     to: usize,
     s: &[u8],
+    version: u32,
     offset: usize,
     id: usize,
     in_force: usize,
     last: usize,
 ) -> Written
-    ensures { λ r. ⌜ BlockWritten (now (s .entry)) offset id «in_force» last (now (out .entry)) to r (now (out .exit)) ⌝ }
+    ensures { λ r. ⌜ BlockWritten version (now (s .entry)) offset id «in_force» last (now (out .entry)) to r (now (out .exit)) ⌝ }
 {
     let list = fields_at(s, in_force);
     let Parsed::Next(fields) = list else {
@@ -184,5 +187,5 @@ pub fn write_data_block(
         return Written::Refused(refused(FIELD_COUNT, offset));
     }
     let name = last + NAME;
-    write_body(out, to, s, id, start, fields, name, last_fields)
+    write_body(out, to, s, version, id, start, fields, name, last_fields)
 }

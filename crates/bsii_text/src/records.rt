@@ -35,6 +35,7 @@ fn write_block(
     out: &mut [u8],
     to: usize,
     s: &[u8],
+    version: u32,
     offset: usize,
     table: &[u32],
     rows: usize,
@@ -42,7 +43,7 @@ fn write_block(
     id: usize,
 ) -> WriteStep
     requires { ⌜ Rows (now table) rows ⌝ }
-    ensures { λ r. ⌜ BlockStep (now (s .entry)) offset (now (table .entry)) rows «prototype_id» id (now (out .entry)) to r (now (out .exit)) ⌝ }
+    ensures { λ r. ⌜ BlockStep version (now (s .entry)) offset (now (table .entry)) rows «prototype_id» id (now (out .entry)) to r (now (out .exit)) ⌝ }
 {
     let found = find(table, rows, prototype_id);
     match found {
@@ -50,7 +51,7 @@ fn write_block(
         FoundRow::At { in_force, last } => {
             let under = size(in_force);
             let named = size(last);
-            let written = write_data_block(out, to, s, offset, id, under, named);
+            let written = write_data_block(out, to, s, version, offset, id, under, named);
             match written {
                 Written::Refused(f) => return WriteStep::Refused(f),
                 Written::Next { at, to: end } => return WriteStep::Go { at, to: end },
@@ -82,12 +83,13 @@ fn write_record(
     out: &mut [u8],
     to: usize,
     s: &[u8],
+    version: u32,
     at: usize,
     table: &mut [u32],
     rows: usize,
 ) -> WriteStep
     requires { ⌜ (length (now s) ≤ lengthLimit) × (at ≤ length (now s)) × Rows (now table) rows ⌝ }
-    ensures { λ r. ⌜ RecordWritten (now (s .entry)) at (now (table .entry)) rows (now (out .entry)) to r (now (table .exit)) (now (out .exit)) ⌝ }
+    ensures { λ r. ⌜ RecordWritten version (now (s .entry)) at (now (table .entry)) rows (now (out .entry)) to r (now (table .exit)) (now (out .exit)) ⌝ }
 {
     let kind = kind_at(s, at);
     match kind {
@@ -97,6 +99,7 @@ fn write_record(
             out,
             to,
             s,
+            version,
             at,
             table,
             rows,
@@ -111,17 +114,18 @@ fn write_records(
     out: &mut [u8],
     to: usize,
     s: &[u8],
+    version: u32,
     start: usize,
     table: &mut [u32],
     rows: usize,
 ) -> Texts
-    requires { ⌜ Readable (now s) start (now table) rows ⌝ }
-    ensures { λ r. ⌜ RecordsWritten (now (s .entry)) start (now (table .entry)) rows (now (out .entry)) to r (now (table .exit)) (now (out .exit)) ⌝ }
+    requires { ⌜ Readable version (now s) start (now table) rows ⌝ }
+    ensures { λ r. ⌜ RecordsWritten version (now (s .entry)) start (now (table .entry)) rows (now (out .entry)) to r (now (table .exit)) (now (out .exit)) ⌝ }
 {
     let mut at = start;
     let mut here = to;
     loop {
-        let step = write_record(out, here, s, at, table, rows);
+        let step = write_record(out, here, s, version, at, table, rows);
         match step {
             WriteStep::End => return Texts::To(here),
             WriteStep::Refused(f) => return Texts::Refused(f),
@@ -134,12 +138,19 @@ fn write_records(
 }
 
 // The text of a file whose records start at `start`, from the window's start on.
-pub fn write_bsii(out: &mut [u8], s: &[u8], start: usize, table: &mut [u32], rows: usize) -> Texts
-    requires { ⌜ Readable (now s) start (now table) rows ⌝ }
-    ensures { λ r. ⌜ BsiiWritten (now (s .entry)) start (now (table .entry)) rows (now (out .entry)) r (now (table .exit)) (now (out .exit)) ⌝ }
+pub fn write_bsii(
+    out: &mut [u8],
+    s: &[u8],
+    version: u32,
+    start: usize,
+    table: &mut [u32],
+    rows: usize,
+) -> Texts
+    requires { ⌜ Readable version (now s) start (now table) rows ⌝ }
+    ensures { λ r. ⌜ BsiiWritten version (now (s .entry)) start (now (table .entry)) rows (now (out .entry)) r (now (table .exit)) (now (out .exit)) ⌝ }
 {
     let opening = put_all(out, 0x8000_0000_0000_0000, b"SiiNunit\n{\n");
-    let blocks = write_records(out, opening, s, start, table, rows);
+    let blocks = write_records(out, opening, s, version, start, table, rows);
     match blocks {
         Texts::Refused(f) => return Texts::Refused(f),
         Texts::To(end) => return Texts::To(put_all(out, end, b"}\n")),

@@ -40,12 +40,12 @@ pub record MarkAt (s : List ℕ) (at : ℕ) (r : RecordKind) : Type 0 where
 
 -- ---- values and blocks
 
-pub record ValuesSkipped (s : List ℕ) (fields start : ℕ) (r : Parsed) : Type 0 where
+pub record ValuesSkipped (version : ℕ) (s : List ℕ) (fields start : ℕ) (r : Parsed) : Type 0 where
   pub ends : (l : Fields) (n : ℕ) (t : List ℕ) → fieldsParser fields (drop fields s) ≡ ok l n t
-      → (v : List DataValue) (m : ℕ) (u : List ℕ) → dataValuesParser (l .fields) start (drop start s) ≡ ok v m u → r ≡ Next m
+      → (v : List DataValue) (m : ℕ) (u : List ℕ) → dataValuesParser version (l .fields) start (drop start s) ≡ ok v m u → r ≡ Next m
 
-pub record BlockSkipped (s : List ℕ) (o at : ℕ) (r : Parsed) : Type 0 where
-  pub ends : (p : Prototype) → DefinedAt s o p → (v : List DataValue) (m : ℕ) (u : List ℕ) → (idParser >>= (λ i. dataValuesParser (p .fields))) at (drop at s) ≡ ok v m u → r ≡ Next m
+pub record BlockSkipped (version : ℕ) (s : List ℕ) (o at : ℕ) (r : Parsed) : Type 0 where
+  pub ends : (p : Prototype) → DefinedAt s o p → (v : List DataValue) (m : ℕ) (u : List ℕ) → (idParser >>= (λ i. dataValuesParser version (p .fields))) at (drop at s) ≡ ok v m u → r ≡ Next m
 
 -- ---- records: `env` is the definitions so far, `last` all definitions of the file
 
@@ -64,9 +64,9 @@ pub record BlockMet (s : List ℕ) (idAt n : ℕ) (p q : Prototype) (r : Met) : 
   pub under : DefinedAt s inForce p
   pub named : DefinedAt s last q
 
-pub record BlockAgain (s : List ℕ) (idAt : ℕ) (t : List ℕ) (rows id : ℕ) (r : Met) : Type 0 where
+pub record BlockAgain (version : ℕ) (s : List ℕ) (idAt : ℕ) (t : List ℕ) (rows id : ℕ) (r : Met) : Type 0 where
   pub meets : (env last : List Prototype) → Entered (DefinedAt s) t rows env last → (p q : Prototype) → getPrototype id env ≡ some p → getPrototype id last ≡ some q
-      → (v : List DataValue) (n : ℕ) (u : List ℕ) → (idParser >>= (λ i. dataValuesParser (p .fields))) idAt (drop idAt s) ≡ ok v n u → BlockMet s idAt n p q r
+      → (v : List DataValue) (n : ℕ) (u : List ℕ) → (idParser >>= (λ i. dataValuesParser version (p .fields))) idAt (drop idAt s) ≡ ok v n u → BlockMet s idAt n p q r
 
 -- one record that was accepted under the definitions so far, up to n
 pub data Meets (s : List ℕ) (at rows : ℕ) (env last : List Prototype) (n : ℕ) : Record → Met → List ℕ → Type 0 where
@@ -74,8 +74,8 @@ pub data Meets (s : List ℕ) (at rows : ℕ) (env last : List Prototype) (n : �
   a-block : (b : DataBlock) {t : List ℕ} {r : Met} (p q : Prototype) → getPrototype (b .prototypeId) env ≡ some p → getPrototype (b .prototypeId) last ≡ some q
       → BlockMet s (at + length (b .head)) n p q r → Entered (DefinedAt s) t rows env last → Meets s at rows env last n (block b) r t
 
-pub record RecordAgain (s : List ℕ) (at : ℕ) (t : List ℕ) (rows : ℕ) (r : Met) (t′ : List ℕ) : Type 0 where
-  pub meets : (env last : List Prototype) → Entered (DefinedAt s) t rows env last → (i : Record) (n : ℕ) → recordParser env at (drop at s) ≡ ok (more i) n (drop n s)
+pub record RecordAgain (version : ℕ) (s : List ℕ) (at : ℕ) (t : List ℕ) (rows : ℕ) (r : Met) (t′ : List ℕ) : Type 0 where
+  pub meets : (env last : List Prototype) → Entered (DefinedAt s) t rows env last → (i : Record) (n : ℕ) → recordParser version env at (drop at s) ≡ ok (more i) n (drop n s)
       → ((id : ℕ) (p : Prototype) → getPrototype id env ≡ some p → (q : Prototype) × (getPrototype id last ≡ some q)) → Meets s at rows env last n i r t′
-  pub ends : (env : List Prototype) (l : List ℕ) (n : ℕ) (u : List ℕ) → recordParser env at (drop at s) ≡ ok (end l) n u → (r ≡ Nothing) × (t′ ≡ t)
+  pub ends : (env : List Prototype) (l : List ℕ) (n : ℕ) (u : List ℕ) → recordParser version env at (drop at s) ≡ ok (end l) n u → (r ≡ Nothing) × (t′ ≡ t)
   pub size : length t′ ≡ length t

@@ -57,22 +57,22 @@ pub record Counts (s : List ℕ) (o : ℕ) (any : Bool) (name : List ℕ) (left 
 abbrev pub offsets : Block → cursor.Block
 offsets b = record { at = b .at; id = b .id; under = b .under; last = b .last; next = b .next }
 
-abbrev pub BlockIs : List ℕ → List Prototype → Block → Placed DataBlock → Type 0
-BlockIs s last b x = PartsOf offsets s last b x
+abbrev pub BlockIs : ℕ → List ℕ → List Prototype → Block → Placed DataBlock → Type 0
+BlockIs version s last b x = PartsOf version offsets s last b x
 
 -- a file that was read, with its definitions in the table
-pub record Readable (s : List ℕ) (start : ℕ) (t : List ℕ) (rows : ℕ) : Type 0 where
+pub record Readable (version : ℕ) (s : List ℕ) (start : ℕ) (t : List ℕ) (rows : ℕ) : Type 0 where
   pub short : length s ≤ lengthLimit
   pub inside : start ≤ length s
   pub rooms : ℕ
   pub last : List Prototype
   pub rest : List Record
-  pub standing : WalkAt s rooms rows last t start [] rest
+  pub standing : WalkAt version s rooms rows last t start [] rest
 
 -- the whole search
-pub data Sought (s : List ℕ) (last : List Prototype) (o : Option Numbered) : BlockAt → Type 0 where
-  sought : {b : Block} (x : Placed DataBlock) → BlockIs s last b x → o ≡ some (record { number = b .number; of = x }) → Sought s last o (ABlock b)
-  missed : o ≡ none → Sought s last o NoBlock
+pub data Sought (version : ℕ) (s : List ℕ) (last : List Prototype) (o : Option Numbered) : BlockAt → Type 0 where
+  sought : {b : Block} (x : Placed DataBlock) → BlockIs version s last b x → o ≡ some (record { number = b .number; of = x }) → Sought version s last o (ABlock b)
+  missed : o ≡ none → Sought version s last o NoBlock
 
-pub record Seeks (s : List ℕ) (start : ℕ) (t : List ℕ) (rows : ℕ) (any : Bool) (name : List ℕ) (k : ℕ) (r : BlockAt) : Type 0 where
-  pub seeks : (rooms : ℕ) (last : List Prototype) (rest : List Record) → WalkAt s rooms rows last t start [] rest → Sought s last (seekIn last any name 0 k (blocksFrom start rest)) r
+pub record Seeks (version : ℕ) (s : List ℕ) (start : ℕ) (t : List ℕ) (rows : ℕ) (any : Bool) (name : List ℕ) (k : ℕ) (r : BlockAt) : Type 0 where
+  pub seeks : (rooms : ℕ) (last : List Prototype) (rest : List Record) → WalkAt version s rooms rows last t start [] rest → Sought version s last (seekIn last any name 0 k (blocksFrom start rest)) r

@@ -18,13 +18,13 @@ pub enum BlockAt {
 }
 
 // The next block from the record at `start` on. The prototypes in front of it are in force then.
-pub fn next_block(s: &[u8], start: usize, table: &mut [u32], rows: usize) -> BlockAt
-    requires { ⌜ Stood (now s) start (now table) rows ⌝ }
-    ensures { λ r. ⌜ NextBlock (now (s .entry)) start (now (table .entry)) rows r (now (table .exit)) ⌝ }
+pub fn next_block(s: &[u8], version: u32, start: usize, table: &mut [u32], rows: usize) -> BlockAt
+    requires { ⌜ Stood version (now s) start (now table) rows ⌝ }
+    ensures { λ r. ⌜ NextBlock version (now (s .entry)) start (now (table .entry)) rows r (now (table .exit)) ⌝ }
 {
     let mut at = start;
     loop {
-        let met = record_again(s, at, table, rows);
+        let met = record_again(s, version, at, table, rows);
         match met {
             Met::Nothing => return BlockAt::NoBlock,
             Met::Prototype(next) => {

@@ -77,8 +77,8 @@ pub fn kind_at(s: &[u8], at: usize) -> RecordKind
 }
 
 // The end of the values from `start` on, under the definitions from `fields` on.
-pub fn skip_values(s: &[u8], fields: usize, start: usize) -> Parsed
-    ensures { λ r. ⌜ ValuesSkipped (now (s .entry)) fields start r ⌝ }
+pub fn skip_values(s: &[u8], version: u32, fields: usize, start: usize) -> Parsed
+    ensures { λ r. ⌜ ValuesSkipped version (now (s .entry)) fields start r ⌝ }
 {
     let mut field = fields;
     let mut at = start;
@@ -93,7 +93,7 @@ pub fn skip_values(s: &[u8], fields: usize, start: usize) -> Parsed
                 name_end: _,
                 next,
             } => {
-                let value = skip_value(s, at, type_id);
+                let value = skip_value(s, at, version, type_id);
                 match value {
                     Parsed::Fault(f) => return Parsed::Fault(f),
                     Parsed::Next(end) => {
@@ -107,8 +107,8 @@ pub fn skip_values(s: &[u8], fields: usize, start: usize) -> Parsed
 }
 
 // The end of a block whose id starts at `at`, under the prototype at the offset `prototype`.
-pub fn skip_block(s: &[u8], prototype: usize, at: usize) -> Parsed
-    ensures { λ r. ⌜ BlockSkipped (now (s .entry)) prototype at r ⌝ }
+pub fn skip_block(s: &[u8], version: u32, prototype: usize, at: usize) -> Parsed
+    ensures { λ r. ⌜ BlockSkipped version (now (s .entry)) prototype at r ⌝ }
 {
     let fields = fields_at(s, prototype);
     match fields {
@@ -117,7 +117,7 @@ pub fn skip_block(s: &[u8], prototype: usize, at: usize) -> Parsed
             let id = skip_id(s, at);
             match id {
                 Parsed::Fault(f) => Parsed::Fault(f),
-                Parsed::Next(next) => skip_values(s, first, next),
+                Parsed::Next(next) => skip_values(s, version, first, next),
             }
         }
     }
@@ -144,9 +144,9 @@ pub fn prototype_again(s: &[u8], at: usize, table: &mut [u32], rows: usize, id: 
     }
 }
 
-fn block_again(s: &[u8], id_at: usize, table: &[u32], rows: usize, id: u32) -> Met
+fn block_again(s: &[u8], version: u32, id_at: usize, table: &[u32], rows: usize, id: u32) -> Met
     requires { ⌜ Rows (now table) rows ⌝ }
-    ensures { λ r. ⌜ BlockAgain (now (s .entry)) «id_at» (now (table .entry)) rows id r ⌝ }
+    ensures { λ r. ⌜ BlockAgain version (now (s .entry)) «id_at» (now (table .entry)) rows id r ⌝ }
 {
     let found = find(table, rows, id);
     match found {
@@ -154,7 +154,7 @@ fn block_again(s: &[u8], id_at: usize, table: &[u32], rows: usize, id: u32) -> M
         FoundRow::At { in_force, last } => {
             let prototype = size(in_force);
             let other = size(last);
-            let end = skip_block(s, prototype, id_at);
+            let end = skip_block(s, version, prototype, id_at);
             match end {
                 Parsed::Fault(_) => return Met::Nothing,
                 Parsed::Next(next) => return Met::Block {
@@ -168,14 +168,14 @@ fn block_again(s: &[u8], id_at: usize, table: &[u32], rows: usize, id: u32) -> M
     }
 }
 
-pub fn record_again(s: &[u8], at: usize, table: &mut [u32], rows: usize) -> Met
+pub fn record_again(s: &[u8], version: u32, at: usize, table: &mut [u32], rows: usize) -> Met
     requires { ⌜ (length (now s) ≤ lengthLimit) × (at ≤ length (now s)) × Rows (now table) rows ⌝ }
-    ensures { λ r. ⌜ RecordAgain (now (s .entry)) at (now (table .entry)) rows r (now (table .exit)) ⌝ }
+    ensures { λ r. ⌜ RecordAgain version (now (s .entry)) at (now (table .entry)) rows r (now (table .exit)) ⌝ }
 {
     let kind = kind_at(s, at);
     match kind {
         RecordKind::Ends => return Met::Nothing,
         RecordKind::Defines(id) => return prototype_again(s, at, table, rows, id),
-        RecordKind::Carries { id, next } => return block_again(s, next, table, rows, id),
+        RecordKind::Carries { id, next } => return block_again(s, version, next, table, rows, id),
     }
 }

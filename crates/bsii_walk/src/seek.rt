@@ -51,6 +51,7 @@ fn count_down(s: &[u8], last: usize, any: bool, name: &[u8], left: usize) -> Cou
 // The wanted block number k, counted from the record at `start`.
 pub fn seek(
     s: &[u8],
+    version: u32,
     start: usize,
     table: &mut [u32],
     rows: usize,
@@ -58,14 +59,14 @@ pub fn seek(
     name: &[u8],
     k: usize,
 ) -> BlockAt
-    requires { ⌜ Readable (now s) start (now table) rows ⌝ }
-    ensures { λ r. ⌜ Seeks (now (s .entry)) start (now (table .entry)) rows any (now (name .entry)) k r ⌝ }
+    requires { ⌜ Readable version (now s) start (now table) rows ⌝ }
+    ensures { λ r. ⌜ Seeks version (now (s .entry)) start (now (table .entry)) rows any (now (name .entry)) k r ⌝ }
 {
     let mut at = start;
     let mut number = 0;
     let mut left = k;
     loop {
-        let next = next_block(s, at, table, rows);
+        let next = next_block(s, version, at, table, rows);
         match next {
             Next::NoBlock => return BlockAt::NoBlock,
             Next::Block(b) => {

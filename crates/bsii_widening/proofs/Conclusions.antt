@@ -18,7 +18,7 @@ use Rattle.bsii_widening.specs.Insertions.{Insertion, aField, insert, De
 use Rattle.bsii_widening.specs.Parts.{concat, textParts, renumber}
 use Rattle.bsii_widening.specs.Claim.{OldSave, widened, newSave, newFile, Room, StillConverts, firstCarried, AfterLast, Demand3}
 
-module _ (claim : Demand3) {words : ℕ} {s out : List ℕ} {f : BsiiFile} {at : ℕ} {r : List ℕ} {size : ℕ} (o : OldSave words s out f at r size) (l : List Insertion) (a : AllAllowed l (markRecords (f .records))) (words′ : ℕ) where
+module _ (claim : Demand3) {words : ℕ} {s out : List ℕ} {f : BsiiFile} {at : ℕ} {r : List ℕ} {size : ℕ} (o : OldSave words s out f at r size) (l : List Insertion) (a : AllAllowed (f .header .value) l (markRecords (f .records))) (words′ : ℕ) where
   -- the old save is the file in which nothing was inserted
   pub nothing-inserted : s ≡ newFile f r (markRecords (f .records))
   nothing-inserted = claim words s out f at r size o l a words′ .0
@@ -62,7 +62,7 @@ module _ (claim : Demand3) {words : ℕ} {s out : List ℕ} {f : BsiiFile} {at :
 
   -- ---- the last definition
 
-  module _ (n p : ℕ) (d : Consumed ValuePrototype) (v : ℕ → DataValue) (b : DefinitionAllowed n p d (widened f l)) (u : shapeOf (d .value .typeId) ≡ none)
+  module _ (n p : ℕ) (d : Consumed ValuePrototype) (v : ℕ → DataValue) (b : DefinitionAllowed n p d (widened f l)) (u : shapeOf (f .header .value) (d .value .typeId) ≡ none)
       (m : Room lengthLimit words′ f r (insert (aField n p d v) (widened f l))) where
     abbrev first : Option ℕ
     first = firstCarried n p (length (f .header .raw)) (newRecords (insert (aField n p d v) (widened f l)))

@@ -31,7 +31,7 @@ use Rattle.bsii_widening.proofs.Unlisted.{file-stops}
 -- the new file is read, its records are in order, and without the inserted parts they are the old ones
 pub record Widened (words : ℕ) (f : BsiiFile) (r : List ℕ) (M : MarkedRecords) : Type 0 where
   pub reads : parse words (newFile f r M) ≡ ok (newSave f M) (length (fileBytes (newSave f M))) r
-  pub sound : Sound silent M
+  pub sound : Sound (f .header .value) silent M
   pub before : oldRecords M ≡ f .records
 
 module _ {words : ℕ} {s : List ℕ} {f : BsiiFile} {at : ℕ} {r : List ℕ} (o : Old words s f at r) where
@@ -41,29 +41,29 @@ module _ {words : ℕ} {s : List ℕ} {f : BsiiFile} {at : ℕ} {r : List ℕ} (
   once : NoIdTwice (newRecords (markRecords (f .records)))
   once = subst NoIdTwice (sym (new-markRecords (f .records))) (o .once)
 
-  module _ (l : List Insertion) (allowed : AllAllowed l (markRecords (f .records))) where
-    silent-sound : Sound silent (insertAll l (markRecords (f .records)))
-    silent-sound = sound-all silent silent-has l (markRecords (f .records)) allowed once (read-sound (f .records) (taken .good .records) (o .once))
+  module _ (l : List Insertion) (allowed : AllAllowed (f .header .value) l (markRecords (f .records))) where
+    silent-sound : Sound (f .header .value) silent (insertAll l (markRecords (f .records)))
+    silent-sound = sound-all (f .header .value) silent silent-has l (markRecords (f .records)) allowed once (read-sound (f .records) (taken .good .records) (o .once))
 
     pub once-widened : NoIdTwice (newRecords (widened f l))
     unfolding widened
-    once-widened = once-all l (markRecords (f .records)) allowed once
+    once-widened = once-all (f .header .value) l (markRecords (f .records)) allowed once
 
     -- for the text of a call that answered
-    pub widened-sound : (text : ValuePrototype → Value → Option (List ℕ)) → HasText text → {t : List ℕ} → fileText text f ≡ gives t → Sound text (widened f l)
+    pub widened-sound : (text : ValuePrototype → Value → Option (List ℕ)) → HasText text → {t : List ℕ} → fileText text f ≡ gives t → Sound (f .header .value) text (widened f l)
     unfolding widened
-    widened-sound text has e = sound-all text has l (markRecords (f .records)) allowed once (text-sound text f (taken .good .records) e)
+    widened-sound text has e = sound-all (f .header .value) text has l (markRecords (f .records)) allowed once (text-sound text f (taken .good .records) e)
 
     pub widens : {words′ : ℕ} → Room lengthLimit words′ f r (widened f l) → Widened words′ f r (widened f l)
     unfolding widened newFile prototypesOf
     widens {words′} m = record {
       reads = parse-fits words′ (newSave f (insertAll l (markRecords (f .records)))) r
-          (record { header = taken .good .header; records = inv-good silent silent-sound; roomed = m .table; last = taken .good .last }) (m .file);
+          (record { header = taken .good .header; records = inv-good (f .header .value) silent silent-sound; roomed = m .table; last = taken .good .last }) (m .file);
       sound = silent-sound;
       before = old-widened l (f .records);
     }
 
-    stopped : (words′ n p : ℕ) (d : Consumed ValuePrototype) (v : ℕ → DataValue) → DefinitionAllowed n p d (widened f l) → shapeOf (d .value .typeId) ≡ none
+    stopped : (words′ n p : ℕ) (d : Consumed ValuePrototype) (v : ℕ → DataValue) → DefinitionAllowed n p d (widened f l) → shapeOf (f .header .value) (d .value .typeId) ≡ none
         → Room lengthLimit words′ f r (insert (aField n p d v) (widened f l)) → (x : ℕ)
         → firstCarried n p (length (f .header .raw)) (newRecords (insert (aField n p d v) (widened f l))) ≡ some x
         → parse words′ (newFile f r (insert (aField n p d v) (widened f l))) ≡ faultAt unlistedType x
@@ -71,8 +71,8 @@ module _ {words : ℕ} {s : List ℕ} {f : BsiiFile} {at : ℕ} {r : List ℕ} (
     stopped words′ n p d v a u m x e =
         let M = insertAll l (markRecords (f .records)) in
         parse-short words′ (newFile f r (insert (aField n p d v) M)) (m .file)
-        ∙ file-stops silent (words′ / 3) n p d v (markedPrototypes M []) (good-field d (a .wellFormed)) u (λ k e. subst (λ (q : Prototype). p ≤ length (q .fields)) (its-definition a e) (a .position))
-        (newSave f (insert (aField n p d v) M)) r x {M = M} (taken .good .header) refl (widens-nil n p d) silent-sound (m .table) e
+        ∙ file-stops (f .header .value) silent (words′ / 3) n p d v (markedPrototypes M []) (good-field d (a .wellFormed)) u (λ k e. subst (λ (q : Prototype). p ≤ length (q .fields)) (its-definition a e) (a .position))
+        (newSave f (insert (aField n p d v) M)) r x {M = M} (taken .good .header) refl refl (widens-nil n p d) silent-sound (m .table) e
 
 -- every call that reads the whole file first, at once
 pub all-stop : {A : Type 0} (answer : Observer A) → Stops answer

@@ -3,11 +3,11 @@
 --
 -- To try a list, write it down by its bytes (specs/Written.antt; specs/Example.antt has three) and let the checker compute:
 --
---     t : allowed (madeAll (field 7 1 BYTES (BYTES ∷ []) ∷ blockAt 1 BYTES ∷ []) M) M ≡ true
+--     t : allowed 2 (madeAll 2 (field 7 1 BYTES (BYTES ∷ []) ∷ blockAt 1 BYTES ∷ []) M) M ≡ true
 --     unfolding computesAll
 --     t = refl
 --
--- where M is `markRecords (FILE .records)`, FILE the old save's, as `oldFile` is the worked one's. A type that no block carries need not be listed.
+-- where 2 is the old save's version and M is `markRecords (FILE .records)`, FILE the old save's, as `oldFile` is the worked one's. A type that no block carries need not be listed.
 use mathlib.Core.Path.{_≡_, refl, sym, ap, ap₂, _∙_, subst}
 use Prim.Native.Nat.{ℕ, _≤_}
 use native.Mathlib.Omega.{arith}
@@ -125,26 +125,27 @@ definitionAllowed-decides n p d M (some q) e =
     (both (at-most p (length (q .fields)))
     (both (read-decides (isDefinition (d .value)) (some (d .value)) (definition-decides (d .value)) (d .raw) (valuePrototypeParser 0 (d .raw))) (itself (not (hasName (d .value .name) (q .fields))))))
 
-unfoldable pub valueAllowed : ℕ → Consumed ValuePrototype → DataValue → MarkedRecord → Bool
-valueAllowed n d v (markedPrototype m) = true
-valueAllowed n d v (markedBlock b) =
-    not (eqb n (b .prototypeId)) || (isRead (λ w. valueTest .test w v) (v .raw) (dataValueParser (d .value .typeId) 0 (v .raw)) && enumListed (d .value) (v .value))
+module _ (version : ℕ) where
+  unfoldable pub valueAllowed : ℕ → Consumed ValuePrototype → DataValue → MarkedRecord → Bool
+  valueAllowed n d v (markedPrototype m) = true
+  valueAllowed n d v (markedBlock b) =
+      not (eqb n (b .prototypeId)) || (isRead (λ w. valueTest .test w v) (v .raw) (dataValueParser version (d .value .typeId) 0 (v .raw)) && enumListed (d .value) (v .value))
 
-value-decides : (n : ℕ) (d : Consumed ValuePrototype) (v : DataValue) (m : MarkedRecord) → Decides (valueAllowed n d v m) (ValueAllowed n d v m)
-unfolding valueAllowed
-value-decides n d v (markedPrototype m) = always
-value-decides n d v (markedBlock b) =
-    only-if (eqb n (b .prototypeId))
-    (both (read-decides (λ w. valueTest .test w v) v (λ w. valueTest .decides w v) (v .raw) (dataValueParser (d .value .typeId) 0 (v .raw))) (enum-decides (d .value) (v .value)))
+  value-decides : (n : ℕ) (d : Consumed ValuePrototype) (v : DataValue) (m : MarkedRecord) → Decides (valueAllowed n d v m) (ValueAllowed version n d v m)
+  unfolding valueAllowed
+  value-decides n d v (markedPrototype m) = always
+  value-decides n d v (markedBlock b) =
+      only-if (eqb n (b .prototypeId))
+      (both (read-decides (λ w. valueTest .test w v) v (λ w. valueTest .decides w v) (v .raw) (dataValueParser version (d .value .typeId) 0 (v .raw))) (enum-decides (d .value) (v .value)))
 
-unfoldable pub valuesAllowed : ℕ → Consumed ValuePrototype → (ℕ → DataValue) → ℕ → MarkedRecords → Bool
-valuesAllowed n d v k [] = true
-valuesAllowed n d v k (m ∷ l) = valueAllowed n d (v k) (unmark m) && valuesAllowed n d v (nextBlock (unmark m) k) l
+  unfoldable pub valuesAllowed : ℕ → Consumed ValuePrototype → (ℕ → DataValue) → ℕ → MarkedRecords → Bool
+  valuesAllowed n d v k [] = true
+  valuesAllowed n d v k (m ∷ l) = valueAllowed n d (v k) (unmark m) && valuesAllowed n d v (nextBlock (unmark m) k) l
 
-values-decides : (n : ℕ) (d : Consumed ValuePrototype) (v : ℕ → DataValue) (k : ℕ) (M : MarkedRecords) → Decides (valuesAllowed n d v k M) (ValuesAllowed n d v k M)
-unfolding valuesAllowed
-values-decides n d v k [] = always
-values-decides n d v k (m ∷ l) = both (value-decides n d (v k) (unmark m)) (values-decides n d v (nextBlock (unmark m) k) l)
+  values-decides : (n : ℕ) (d : Consumed ValuePrototype) (v : ℕ → DataValue) (k : ℕ) (M : MarkedRecords) → Decides (valuesAllowed n d v k M) (ValuesAllowed version n d v k M)
+  unfolding valuesAllowed
+  values-decides n d v k [] = always
+  values-decides n d v k (m ∷ l) = both (value-decides n d (v k) (unmark m)) (values-decides n d v (nextBlock (unmark m) k) l)
 
 -- ---- (ii) and (iii)
 
@@ -169,39 +170,40 @@ last-decides l (some p) =
 
 -- ---- the list
 
-unfoldable pub allowedOne : Insertion → MarkedRecords → Bool
-allowedOne (aField n p d v) M = definitionAllowed p d (getPrototype n (prototypesOf (newRecords M))) && valuesAllowed n d v 0 M
-allowedOne (aPrototype k p) M = isRead (isPrototype p) (recordBytes (prototype p)) (recordParser [] 0 (recordBytes (prototype p))) && isNone (getPrototype (p .id) (prototypesOf (newRecords M)))
-allowedOne (aBlock k b) M =
-    isRead (isBlock b) (recordBytes (block b)) (recordParser (prototypesOf (take k (newRecords M))) 0 (recordBytes (block b)))
-    && lastListed (b .values) (getPrototype (b .prototypeId) (prototypesOf (newRecords M)))
+module _ (version : ℕ) where
+  unfoldable pub allowedOne : Insertion → MarkedRecords → Bool
+  allowedOne (aField n p d v) M = definitionAllowed p d (getPrototype n (prototypesOf (newRecords M))) && valuesAllowed version n d v 0 M
+  allowedOne (aPrototype k p) M = isRead (isPrototype p) (recordBytes (prototype p)) (recordParser version [] 0 (recordBytes (prototype p))) && isNone (getPrototype (p .id) (prototypesOf (newRecords M)))
+  allowedOne (aBlock k b) M =
+      isRead (isBlock b) (recordBytes (block b)) (recordParser version (prototypesOf (take k (newRecords M))) 0 (recordBytes (block b)))
+      && lastListed (b .values) (getPrototype (b .prototypeId) (prototypesOf (newRecords M)))
 
-unfoldable pub allowed : List Insertion → MarkedRecords → Bool
-allowed [] M = true
-allowed (i ∷ l) M = allowedOne i M && allowed l (insert i M)
+  unfoldable pub allowed : List Insertion → MarkedRecords → Bool
+  allowed [] M = true
+  allowed (i ∷ l) M = allowedOne i M && allowed l (insert i M)
 
-one-decides : (i : Insertion) (M : MarkedRecords) → Decides (allowedOne i M) (Allowed i M)
-unfolding allowedOne
-one-decides (aField n p d v) M =
-    restated (λ h. record { definition = h .0; values = h .1 }) (λ a. (a .definition, a .values))
-    (both (definitionAllowed-decides n p d M (getPrototype n (prototypesOf (newRecords M))) refl) (values-decides n d v 0 M))
-one-decides (aPrototype k p) M =
-    restated (λ h. record { wellFormed = h .0; undefined = h .1 }) (λ a. (a .wellFormed, a .undefined))
-    (both (read-decides (isPrototype p) (more (prototype p)) (prototype-decides p) (recordBytes (prototype p)) (recordParser [] 0 (recordBytes (prototype p))))
-    (none-decides (getPrototype (p .id) (prototypesOf (newRecords M)))))
-one-decides (aBlock k b) M =
-    restated (λ h. record { wellFormed = h .0; enums = h .1 }) (λ a. (a .wellFormed, a .enums))
-    (both (read-decides (isBlock b) (more (block b)) (block-decides b) (recordBytes (block b)) (recordParser (prototypesOf (take k (newRecords M))) 0 (recordBytes (block b))))
-    (last-decides (b .values) (getPrototype (b .prototypeId) (prototypesOf (newRecords M)))))
+  one-decides : (i : Insertion) (M : MarkedRecords) → Decides (allowedOne i M) (Allowed version i M)
+  unfolding allowedOne
+  one-decides (aField n p d v) M =
+      restated (λ h. record { definition = h .0; values = h .1 }) (λ a. (a .definition, a .values))
+      (both (definitionAllowed-decides n p d M (getPrototype n (prototypesOf (newRecords M))) refl) (values-decides version n d v 0 M))
+  one-decides (aPrototype k p) M =
+      restated (λ h. record { wellFormed = h .0; undefined = h .1 }) (λ a. (a .wellFormed, a .undefined))
+      (both (read-decides (isPrototype p) (more (prototype p)) (prototype-decides p) (recordBytes (prototype p)) (recordParser version [] 0 (recordBytes (prototype p))))
+      (none-decides (getPrototype (p .id) (prototypesOf (newRecords M)))))
+  one-decides (aBlock k b) M =
+      restated (λ h. record { wellFormed = h .0; enums = h .1 }) (λ a. (a .wellFormed, a .enums))
+      (both (read-decides (isBlock b) (more (block b)) (block-decides b) (recordBytes (block b)) (recordParser version (prototypesOf (take k (newRecords M))) 0 (recordBytes (block b))))
+      (last-decides (b .values) (getPrototype (b .prototypeId) (prototypesOf (newRecords M)))))
 
-pub allowed-decides : (l : List Insertion) (M : MarkedRecords) → Decides (allowed l M) (AllAllowed l M)
-unfolding allowed
-allowed-decides [] M = always
-allowed-decides (i ∷ l) M = both (one-decides i M) (allowed-decides l (insert i M))
+  pub allowed-decides : (l : List Insertion) (M : MarkedRecords) → Decides (allowed l M) (AllAllowed version l M)
+  unfolding allowed
+  allowed-decides [] M = always
+  allowed-decides (i ∷ l) M = both (one-decides i M) (allowed-decides l (insert i M))
 
--- the two laws
-pub allowed-proves : (l : List Insertion) (M : MarkedRecords) → T (allowed l M) → AllAllowed l M
-allowed-proves l M = allowed-decides l M .proves
+  -- the two laws
+  pub allowed-proves : (l : List Insertion) (M : MarkedRecords) → T (allowed l M) → AllAllowed version l M
+  allowed-proves l M = allowed-decides l M .proves
 
-pub allowed-passes : (l : List Insertion) (M : MarkedRecords) → AllAllowed l M → T (allowed l M)
-allowed-passes l M = allowed-decides l M .passes
+  pub allowed-passes : (l : List Insertion) (M : MarkedRecords) → AllAllowed version l M → T (allowed l M)
+  allowed-passes l M = allowed-decides l M .passes

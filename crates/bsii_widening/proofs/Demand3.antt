@@ -56,7 +56,7 @@ module _ {words : ℕ} {s out : List ℕ} {f : BsiiFile} {at : ℕ} {r : List �
   unfolding textCall textOf
   had = converted out (fileText valueText f) size (ap (λ z. textAnswer out z .reply) (sym (of-read (λ f at. fileText valueText f) (parse words s) (o .reads))) ∙ o .converts)
 
-  still-converts : (l : List Insertion) → AllAllowed l (markRecords (f .records)) → (words′ : ℕ) → Room lengthLimit words′ f r (widened f l)
+  still-converts : (l : List Insertion) → AllAllowed (f .header .value) l (markRecords (f .records)) → (words′ : ℕ) → Room lengthLimit words′ f r (widened f l)
       → StillConverts words s out f r size words′ (widened f l)
   unfolding readingCall fieldCall textCall textOf
   still-converts l a words′ m =
@@ -83,12 +83,13 @@ unfolding insertAll
 one-more [] i M = refl
 one-more (j ∷ l) i M = one-more l i (insert j M)
 
-one-more-allowed : (l : List Insertion) (i : Insertion) (M : MarkedRecords) → AllAllowed l M → Allowed i (insertAll l M) → AllAllowed (l ++ (i ∷ [])) M
+one-more-allowed : (version : ℕ) (l : List Insertion) (i : Insertion) (M : MarkedRecords) → AllAllowed version l M → Allowed version i (insertAll l M)
+    → AllAllowed version (l ++ (i ∷ [])) M
 unfolding insertAll
-one-more-allowed [] i M a b = (b, tt)
-one-more-allowed (j ∷ l) i M a b = (a .0, one-more-allowed l i (insert j M) (a .1) b)
+one-more-allowed version [] i M a b = (b, tt)
+one-more-allowed version (j ∷ l) i M a b = (a .0, one-more-allowed version l i (insert j M) (a .1) b)
 
-module _ {words : ℕ} {s out : List ℕ} {f : BsiiFile} {at : ℕ} {r : List ℕ} {size : ℕ} (o : OldSave words s out f at r size) (l : List Insertion) (a : AllAllowed l (markRecords (f .records))) (words′ : ℕ) where
+module _ {words : ℕ} {s out : List ℕ} {f : BsiiFile} {at : ℕ} {r : List ℕ} {size : ℕ} (o : OldSave words s out f at r size) (l : List Insertion) (a : AllAllowed (f .header .value) l (markRecords (f .records))) (words′ : ℕ) where
   last-unlisted : LastUnlisted words s out f r size words′ (widened f l)
   unfolding readingCall fieldCall textCall textOf
   last-unlisted n p d v b u m = record { carried = refused; unused = unused; exactly = exactly-when M (firstCarried n p (length (f .header .raw)) (newRecords M)) refused unused }
@@ -113,7 +114,7 @@ module _ {words : ℕ} {s out : List ℕ} {f : BsiiFile} {at : ℕ} {r : List �
       unused e =
           subst (StillConverts words s out f r size words′) longer
           (still-converts o (l ++ (aField n p d v ∷ []))
-          (one-more-allowed l (aField n p d v) (markRecords (f .records)) a (record { definition = unfold widened in b; values = unfold widened insert in no-values n p d v 0 (length (f .header .raw)) (widened f l) e }))
+          (one-more-allowed (f .header .value) l (aField n p d v) (markRecords (f .records)) a (record { definition = unfold widened in b; values = unfold widened insert in no-values (f .header .value) n p d v 0 (length (f .header .raw)) (widened f l) e }))
           words′ (subst (Room lengthLimit words′ f r) (sym longer) m))
 
 pub demand3 : Demand3

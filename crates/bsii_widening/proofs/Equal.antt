@@ -7,7 +7,7 @@ use lib.ListN.{getD}
 use lib.Dec.{T, leb, eqb, leb→le, le→leb, eqb→eq, eqb-refl}
 use Rattle.bsii_format.specs.Reader.{Consumed, with}
 use Rattle.bsii_format.specs.Strings.{Id, nameless, named}
-use Rattle.bsii_format.specs.Types.{Numeric, float, floatVec2, floatVec3, floatVec4, floatVec8, int32, int32Vec3, uint32, uint16, int64, uint64, bool, enum}
+use Rattle.bsii_format.specs.Types.{Numeric, float, floatVec2, floatVec3, floatVec4, floatVec7, floatVec8, int32, int32Vec3, uint32, uint16, int64, uint64, bool, enum}
 use Rattle.bsii_format.specs.Values.{Element, nums, str, word, ident, Value, single, array}
 use Rattle.bsii_format.specs.Prototypes.{EnumValue, ValuePrototype, Prototype}
 use Rattle.bsii_format.specs.Blocks.{DataValue, DataBlock}
@@ -133,21 +133,22 @@ kindNumber float = 0
 kindNumber floatVec2 = 1
 kindNumber floatVec3 = 2
 kindNumber floatVec4 = 3
-kindNumber floatVec8 = 4
-kindNumber int32 = 5
-kindNumber int32Vec3 = 6
-kindNumber uint32 = 7
-kindNumber uint16 = 8
-kindNumber int64 = 9
-kindNumber uint64 = 10
-kindNumber bool = 11
-kindNumber enum = 12
+kindNumber floatVec7 = 4
+kindNumber floatVec8 = 5
+kindNumber int32 = 6
+kindNumber int32Vec3 = 7
+kindNumber uint32 = 8
+kindNumber uint16 = 9
+kindNumber int64 = 10
+kindNumber uint64 = 11
+kindNumber bool = 12
+kindNumber enum = 13
 
 unfoldable pub elementCode : Element → ℕ × List ℕ
 elementCode (nums k l) = (kindNumber k, l)
-elementCode (str s) = (13, s)
-elementCode (word n) = (14, n ∷ [])
-elementCode (ident i) = (15, idCode i .0 ∷ idCode i .1)
+elementCode (str s) = (14, s)
+elementCode (word n) = (15, n ∷ [])
+elementCode (ident i) = (16, idCode i .0 ∷ idCode i .1)
 
 unfoldable pub idFrom : List ℕ → Id
 idFrom [] = named []
@@ -156,7 +157,7 @@ idFrom (t ∷ l) = idOf t l
 unfoldable pub elementOf : ℕ → List ℕ → Element
 elementOf n =
     getD
-    (nums float ∷ nums floatVec2 ∷ nums floatVec3 ∷ nums floatVec4 ∷ nums floatVec8 ∷ nums int32 ∷ nums int32Vec3 ∷ nums uint32 ∷ nums uint16 ∷ nums int64 ∷ nums uint64 ∷ nums bool ∷ nums enum ∷ str ∷ (λ l. word (getD l 0 0)) ∷ (λ l. ident (idFrom l)) ∷ [])
+    (nums float ∷ nums floatVec2 ∷ nums floatVec3 ∷ nums floatVec4 ∷ nums floatVec7 ∷ nums floatVec8 ∷ nums int32 ∷ nums int32Vec3 ∷ nums uint32 ∷ nums uint16 ∷ nums int64 ∷ nums uint64 ∷ nums bool ∷ nums enum ∷ str ∷ (λ l. word (getD l 0 0)) ∷ (λ l. ident (idFrom l)) ∷ [])
     n str
 
 pub element-back : (e : Element) → elementOf (elementCode e .0) (elementCode e .1) ≡ e
@@ -165,6 +166,7 @@ element-back (nums float l) = refl
 element-back (nums floatVec2 l) = refl
 element-back (nums floatVec3 l) = refl
 element-back (nums floatVec4 l) = refl
+element-back (nums floatVec7 l) = refl
 element-back (nums floatVec8 l) = refl
 element-back (nums int32 l) = refl
 element-back (nums int32Vec3 l) = refl

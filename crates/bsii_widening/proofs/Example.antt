@@ -25,9 +25,9 @@ pub old-save : OldSave 768 workedFile (replicate 128 0) oldFile 82 [] 73
 unfolding computesAll
 old-save = record { reads = refl; converts = refl; once = (tt, tt) }
 
-additions-allowed : AllAllowed additions (markRecords (oldFile .records))
+additions-allowed : AllAllowed (oldFile .header .value) additions (markRecords (oldFile .records))
 unfolding computesAll
-additions-allowed = allowed-proves additions (markRecords (oldFile .records)) tt
+additions-allowed = allowed-proves (oldFile .header .value) additions (markRecords (oldFile .records)) tt
 
 room : Room lengthLimit 6 oldFile [] (widened oldFile additions)
 unfolding computesAll
@@ -79,9 +79,9 @@ not-carried : firstCarried 9 0 (length (oldFile .header .raw)) (newRecords (inse
 unfolding computesAll
 not-carried = refl
 
-unused-allowed : AllAllowed unused (markRecords (oldFile .records))
+unused-allowed : AllAllowed (oldFile .header .value) unused (markRecords (oldFile .records))
 unfolding computesAll
-unused-allowed = allowed-proves unused (markRecords (oldFile .records)) tt
+unused-allowed = allowed-proves (oldFile .header .value) unused (markRecords (oldFile .records)) tt
 
 last-allowed-9 : DefinitionAllowed 9 0 unlistedField (widened oldFile unused)
 unfolding computesAll

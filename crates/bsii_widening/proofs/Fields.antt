@@ -29,8 +29,8 @@ unfolding insertIf
 fields-insert true p g h = fields-insertAt p g h
 fields-insert false p g h = h
 
-pub values-insert : (p : ℕ) {f : Consumed ValuePrototype} {v : DataValue} {fs : List (Consumed ValuePrototype)} {l : List DataValue} → GoodValue f v → GoodValues fs l
-    → GoodValues (insertAt p f fs) (insertAt p v l)
+pub values-insert : {version : ℕ} (p : ℕ) {f : Consumed ValuePrototype} {v : DataValue} {fs : List (Consumed ValuePrototype)} {l : List DataValue} → GoodValue version f v → GoodValues version fs l
+    → GoodValues version (insertAt p f fs) (insertAt p v l)
 unfolding insertAt
 values-insert zero g h = cons g h
 values-insert (suc p) g nil = cons g nil
@@ -55,7 +55,7 @@ module _ {text : ValuePrototype → Value → Option (List ℕ)} where
   says-insert (suc p) f v t g none-left = saying t g none-left
   says-insert (suc p) f v t g (saying u k h) = saying u k (says-insert p f v t g h)
 
-  pub values-say : HasText text → {gs : List (Consumed ValuePrototype)} {l : List DataValue} (fs : List (Consumed ValuePrototype)) → GoodValues gs l → length fs ≡ length l → EnumsListed fs l
+  pub values-say : HasText text → {version : ℕ} {gs : List (Consumed ValuePrototype)} {l : List DataValue} (fs : List (Consumed ValuePrototype)) → GoodValues version gs l → length fs ≡ length l → EnumsListed fs l
       → Says text fs l
   values-say has [] nil n e = none-left
   values-say has (f ∷ fs) nil n e = absurd (omega arith)

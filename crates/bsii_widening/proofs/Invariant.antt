@@ -30,14 +30,14 @@ use Rattle.bsii_widening.proofs.Once.{last-is-in-force, once-insert}
 pub good-field : (d : Consumed ValuePrototype) → WellFormed valuePrototypeParser (some (d .value)) (d .raw) → GoodField d
 good-field d e = well-formed-fits valuePrototype-exact e
 
-pub good-prototype : (p : Prototype) → WellFormed (recordParser []) (more (prototype p)) (recordBytes (prototype p)) → GoodPrototype p
-good-prototype p e = record-good [] 0 (recordBytes (prototype p)) (more (prototype p)) (length (recordBytes (prototype p))) [] e .good
+pub good-prototype : (version : ℕ) (p : Prototype) → WellFormed (recordParser version []) (more (prototype p)) (recordBytes (prototype p)) → GoodPrototype p
+good-prototype version p e = record-good [] 0 (recordBytes (prototype p)) (more (prototype p)) (length (recordBytes (prototype p))) [] e .good
 
-pub good-block : (env : List Prototype) (b : DataBlock) → WellFormed (recordParser env) (more (block b)) (recordBytes (block b)) → GoodBlock env b
-good-block env b e = record-good env 0 (recordBytes (block b)) (more (block b)) (length (recordBytes (block b))) [] e .good
+pub good-block : (version : ℕ) (env : List Prototype) (b : DataBlock) → WellFormed (recordParser version env) (more (block b)) (recordBytes (block b)) → GoodBlock version env b
+good-block version env b e = record-good env 0 (recordBytes (block b)) (more (block b)) (length (recordBytes (block b))) [] e .good
 
-pub good-value : (d : Consumed ValuePrototype) (v : DataValue) → WellFormed (dataValueParser (d .value .typeId)) v (v .raw) → GoodValue d v
-good-value d v e = value-good d 0 (v .raw) v (length (v .raw)) [] e .0
+pub good-value : (version : ℕ) (d : Consumed ValuePrototype) (v : DataValue) → WellFormed (dataValueParser version (d .value .typeId)) v (v .raw) → GoodValue version d v
+good-value version d v e = value-good d 0 (v .raw) v (length (v .raw)) [] e .0
 
 -- the definition that a new one goes into is the marked one of its id
 pub its-definition : {n p : ℕ} {d : Consumed ValuePrototype} {M : MarkedRecords} (a : DefinitionAllowed n p d M) {m : Mark MarkedPrototype} → getMarked n (markedPrototypes M []) ≡ some m
@@ -53,14 +53,14 @@ pub record OldBlock (last : List (Mark MarkedPrototype)) (b : MarkedBlock) : Typ
   pub aligned : Aligned (by .fields) (b .values)
   pub distinct : Distinct (by .fields)
 
-module _ (text : ValuePrototype → Value → Option (List ℕ)) where
+module _ (version : ℕ) (text : ValuePrototype → Value → Option (List ℕ)) where
   -- `by` is the definition in force, `by′` the last one
   pub record FineBlock (last env : List (Mark MarkedPrototype)) (b : MarkedBlock) : Type 0 where
     pub head : Fits Head headParser (carrying (b .prototypeId)) (b .head)
     pub id : Fits Id idParser (b .id .value) (b .id .raw)
     pub by : Mark MarkedPrototype
     pub found : getMarked (b .prototypeId) env ≡ some by
-    pub values : GoodValues (all (unmark by .fields)) (all (b .values))
+    pub values : GoodValues version (all (unmark by .fields)) (all (b .values))
     pub by′ : Mark MarkedPrototype
     pub found′ : getMarked (b .prototypeId) last ≡ some by′
     pub says : Says text (all (unmark by′ .fields)) (all (b .values))
@@ -76,7 +76,7 @@ module _ (text : ValuePrototype → Value → Option (List ℕ)) where
   Sound M = Inv (markedPrototypes M []) [] M
 
   -- the new file is well-formed
-  pub inv-good : {last env : List (Mark MarkedPrototype)} {M : MarkedRecords} → Inv last env M → GoodRecords (newEnv env) (newRecords M)
+  pub inv-good : {last env : List (Mark MarkedPrototype)} {M : MarkedRecords} → Inv last env M → GoodRecords version (newEnv env) (newRecords M)
   unfolding newRecords unmark define
   inv-good done = nil
   inv-good (prototype-old g h) = cons g (inv-good h)
@@ -89,7 +89,7 @@ module _ (text : ValuePrototype → Value → Option (List ℕ)) where
   -- ---- (i) a definition
 
   fine-into : HasText text → (n p : ℕ) (d : Consumed ValuePrototype) (v : DataValue) {last last′ env env′ : List (Mark MarkedPrototype)} {b : MarkedBlock}
-      → Widens n p d last last′ → Widens n p d env env′ → ValueAllowed n d v (markedBlock b) → FineBlock last env b → FineBlock last′ env′ (intoBlock (eqb n (b .prototypeId)) p v b)
+      → Widens n p d last last′ → Widens n p d env env′ → ValueAllowed version n d v (markedBlock b) → FineBlock last env b → FineBlock last′ env′ (intoBlock (eqb n (b .prototypeId)) p v b)
   unfolding insertIf
   fine-into has n p d v {last} {last′} {env} {env′} {b} wl we a g = go (eqb n (b .prototypeId)) refl
     where
@@ -112,7 +112,7 @@ module _ (text : ValuePrototype → Value → Option (List ℕ)) where
             id = g .id;
             by = mapMark (intoPrototype true p d) (g .by);
             found = own-known n p d (b .prototypeId) q we (g .found);
-            values = subst₂ GoodValues (sym (into-all p d (g .by))) (sym (all-insert p v (b .values))) (values-insert p (good-value d v (w .0)) (g .values));
+            values = subst₂ (GoodValues version) (sym (into-all p d (g .by))) (sym (all-insert p v (b .values))) (values-insert p (good-value version d v (w .0)) (g .values));
             by′ = mapMark (intoPrototype true p d) (g .by′);
             found′ = own-known n p d (b .prototypeId) q wl (g .found′);
             says = subst₂ (Says text) (sym (into-all p d (g .by′))) (sym (all-insert p v (b .values))) (says-insert p d v (t .0) (t .1) (g .says));
@@ -144,7 +144,7 @@ module _ (text : ValuePrototype → Value → Option (List ℕ)) where
       }
 
   inv-into : HasText text → (n p : ℕ) (d : Consumed ValuePrototype) (v : ℕ → DataValue) (k : ℕ) {last last′ env env′ : List (Mark MarkedPrototype)} {M : MarkedRecords}
-      → GoodField d → NewName n d last → Widens n p d last last′ → Widens n p d env env′ → ValuesAllowed n d v k M → Inv last env M → Inv last′ env′ (insertField n p d v k M)
+      → GoodField d → NewName n d last → Widens n p d last last′ → Widens n p d env env′ → ValuesAllowed version n d v k M → Inv last env M → Inv last′ env′ (insertField n p d v k M)
   unfolding insertField mapMark unmark
   inv-into has n p d v k g a wl we x done = done
   inv-into has n p d v k g a wl we x (prototype-old {p = m} h i) =
@@ -198,7 +198,7 @@ module _ (text : ValuePrototype → Value → Option (List ℕ)) where
 
   -- what a block's bytes are read as does not turn on how its definition is marked
   fine-block : {last env : List (Mark MarkedPrototype)} (b : DataBlock) (by : Prototype) → getPrototype (b .prototypeId) (newEnv last) ≡ some by → Says text (by .fields) (b .values)
-      → GoodBlock (newEnv env) b → FineBlock last env (markBlock b)
+      → GoodBlock version (newEnv env) b → FineBlock last env (markBlock b)
   unfolding markBlock
   fine-block {last} {env} b by e h g =
       let x = new-back (b .prototypeId) env (g .found) in
@@ -208,14 +208,14 @@ module _ (text : ValuePrototype → Value → Option (List ℕ)) where
         id = g .id;
         by = x .0;
         found = x .1;
-        values = subst₂ GoodValues (ap (λ (p : Prototype). p .fields) (sym (x .2))) (sym (all-asOld (b .values))) (g .values);
+        values = subst₂ (GoodValues version) (ap (λ (p : Prototype). p .fields) (sym (x .2))) (sym (all-asOld (b .values))) (g .values);
         by′ = y .0;
         found′ = y .1;
         says = subst₂ (Says text) (ap (λ (p : Prototype). p .fields) (sym (y .2))) (sym (all-asOld (b .values))) h;
       }
 
   inv-block : (k : ℕ) (b : DataBlock) (by : Prototype) {last env : List (Mark MarkedPrototype)} {M : MarkedRecords} → getPrototype (b .prototypeId) (newEnv last) ≡ some by → Says text (by .fields) (b .values)
-      → GoodBlock (defineAll (take k (newRecords M)) (newEnv env)) b → Inv last env M → Inv last env (insertAt k (inserted (markedBlock (markBlock b))) M)
+      → GoodBlock version (defineAll (take k (newRecords M)) (newEnv env)) b → Inv last env M → Inv last env (insertAt k (inserted (markedBlock (markBlock b))) M)
   unfolding insertAt newRecords unmark defineAll define
   inv-block zero b by e h g i = block-new (fine-block b by e h g) i
   inv-block (suc k) b by e h g done = block-new (fine-block b by e h g) done
@@ -229,24 +229,24 @@ module _ (text : ValuePrototype → Value → Option (List ℕ)) where
   new-name : (n p : ℕ) (d : Consumed ValuePrototype) (M : MarkedRecords) → DefinitionAllowed n p d M → NewName n d (markedPrototypes M [])
   new-name n p d M a m e = subst (λ (y : Prototype). T (not (hasName (d .value .name) (y .fields)))) (its-definition a e) (a .newName)
 
-  pub sound-insert : HasText text → (i : Insertion) (M : MarkedRecords) → Allowed i M → NoIdTwice (newRecords M) → Sound M → Sound (insert i M)
+  pub sound-insert : HasText text → (i : Insertion) (M : MarkedRecords) → Allowed version i M → NoIdTwice (newRecords M) → Sound M → Sound (insert i M)
   unfolding insert markPrototype prototypesOf
   sound-insert has (aField n p d v) M a o h =
       inv-into has n p d v 0 (good-field d (a .definition .wellFormed)) (new-name n p d M (a .definition))
       (widens-defines n p d v 0 M (widens-nil n p d)) (widens-nil n p d) (a .values) h
   sound-insert has (aPrototype k p) M a o h =
-      inv-prototype k (markPrototype p) (subst GoodPrototype (sym (new-markPrototype p)) (good-prototype p (a .wellFormed)))
+      inv-prototype k (markPrototype p) (subst GoodPrototype (sym (new-markPrototype p)) (good-prototype version p (a .wellFormed)))
       (map-none (λ (m : Mark MarkedPrototype). newPrototype (unmark m)) (getMarked (p .id) (markedPrototypes M []))
       (sym (new-find (p .id) (markedPrototypes M [])) ∙ ap (getPrototype (p .id)) (sym (new-last M)) ∙ a .undefined))
       (agree-insert k (markPrototype p) M []) h
   sound-insert has (aBlock k b) M a o h =
-      let g = good-block (prototypesOf (take k (newRecords M))) b (a .wellFormed) in
+      let g = good-block version (prototypesOf (take k (newRecords M))) b (a .wellFormed) in
       let e = last-is-in-force (b .prototypeId) k (newRecords M) o (g .found) in
       subst (λ l. Inv l [] (insertAt k (inserted (markedBlock (markBlock b))) M)) (sym (block-insert k (markBlock b) M []))
       (inv-block k b (g .by) (ap (getPrototype (b .prototypeId)) (sym (new-last M)) ∙ e)
       (values-say has (g .by .fields) (g .values) (values-length (g .values)) (a .enums (g .by) e)) g h)
 
-  pub sound-all : HasText text → (l : List Insertion) (M : MarkedRecords) → AllAllowed l M → NoIdTwice (newRecords M) → Sound M → Sound (insertAll l M)
+  pub sound-all : HasText text → (l : List Insertion) (M : MarkedRecords) → AllAllowed version l M → NoIdTwice (newRecords M) → Sound M → Sound (insertAll l M)
   unfolding insertAll
   sound-all has [] M a o h = h
-  sound-all has (i ∷ l) M a o h = sound-all has l (insert i M) (a .1) (once-insert i M (a .0) o) (sound-insert has i M (a .0) o h)
+  sound-all has (i ∷ l) M a o h = sound-all has l (insert i M) (a .1) (once-insert version i M (a .0) o) (sound-insert has i M (a .0) o h)

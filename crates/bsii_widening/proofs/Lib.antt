@@ -21,6 +21,7 @@ pub mod Computes
 pub mod Example
 pub mod EveryType
 pub mod Vectors
+pub mod Sevens
 pub mod Premises
 pub mod Splices
 pub mod Conclusions

@@ -147,7 +147,7 @@ module _ (text : ValuePrototype → Value → Option (List ℕ)) where
     pub same : oldBlock at ≡ b
     pub fine : OldBlock last at
 
-  stands : {last env : List (Mark MarkedPrototype)} {M : MarkedRecords} (k : ℕ) (b : DataBlock) → Inv text last env M → getElem? (blocks (oldRecords M)) k ≡ some b → Renumbered last M k b
+  stands : {version : ℕ} {last env : List (Mark MarkedPrototype)} {M : MarkedRecords} (k : ℕ) (b : DataBlock) → Inv version text last env M → getElem? (blocks (oldRecords M)) k ≡ some b → Renumbered last M k b
   unfolding blocks oldRecords newRecords renumber unmark
   stands k b done e = none≢some e
   stands k b (prototype-old g h) e = let x = stands k b h e in record { at = x .at; there = x .there; same = x .same; fine = x .fine }
@@ -178,14 +178,14 @@ module _ (text : ValuePrototype → Value → Option (List ℕ)) where
       (ap (getPrototype (m .prototypeId)) (new-last M) ∙ new-known (m .prototypeId) (markedPrototypes M []) (o .found))
       ∙ find-olds name c (o .aligned) (o .distinct .clear name (find-has name (olds (o .by .fields)) (i .0) (i .1))) before
 
-  found-again : (M : MarkedRecords) → Sound text M → (k : ℕ) (name : List ℕ) (c : DataValue) → valueOf (oldRecords M) k name ≡ some c → valueOf (newRecords M) (renumber M k) name ≡ some c
+  found-again : {version : ℕ} (M : MarkedRecords) → Sound version text M → (k : ℕ) (name : List ℕ) (c : DataValue) → valueOf (oldRecords M) k name ≡ some c → valueOf (newRecords M) (renumber M k) name ≡ some c
   unfolding valueOf
   found-again M h k name c e =
       let q = value-some name (prototypesOf (oldRecords M)) (getElem? (blocks (oldRecords M)) k) e in
       let x = stands k (q .0) h (q .1) in
       found-at M k name c e (x .at) (x .fine) (x .there) (q .1 ∙ ap some (sym (x .same)))
 
-  pub field-found : (f g : BsiiFile) (M : MarkedRecords) → Sound text M → oldRecords M ≡ f .records → g .records ≡ newRecords M → (k : ℕ) (name : List ℕ) (a : FieldAnswer) → fieldOf k name f ≡ some a
+  pub field-found : {version : ℕ} (f g : BsiiFile) (M : MarkedRecords) → Sound version text M → oldRecords M ≡ f .records → g .records ≡ newRecords M → (k : ℕ) (name : List ℕ) (a : FieldAnswer) → fieldOf k name f ≡ some a
       → (b : FieldAnswer) × (fieldOf (renumber M k) name g ≡ some b) × (b .typeId ≡ a .typeId) × (b .bytes ≡ a .bytes)
   unfolding fieldOf
   field-found f g M h before after k name a e =

@@ -151,13 +151,13 @@ once-block (suc k) b [] o = tt
 once-block (suc k) b (prototype m ∷ l) o = (subst (λ z. T (not z)) (sym (defines-block (m .id) k b l)) (o .0), once-block k b l (o .1))
 once-block (suc k) b (block c ∷ l) o = once-block k b l o
 
-pub once-insert : (i : Insertion) (M : MarkedRecords) → Allowed i M → NoIdTwice (newRecords M) → NoIdTwice (newRecords (insert i M))
+pub once-insert : (version : ℕ) (i : Insertion) (M : MarkedRecords) → Allowed version i M → NoIdTwice (newRecords M) → NoIdTwice (newRecords (insert i M))
 unfolding insert prototypesOf
-once-insert (aField n p d v) M a o = once-field n p d v 0 M o
-once-insert (aPrototype k p) M a o = subst NoIdTwice (sym (new-insertPrototype k p M)) (once-prototype k p (newRecords M) o (unknown-absent (p .id) (newRecords M) [] (a .undefined)))
-once-insert (aBlock k b) M a o = subst NoIdTwice (sym (new-insertBlock k b M)) (once-block k b (newRecords M) o)
+once-insert version (aField n p d v) M a o = once-field n p d v 0 M o
+once-insert version (aPrototype k p) M a o = subst NoIdTwice (sym (new-insertPrototype k p M)) (once-prototype k p (newRecords M) o (unknown-absent (p .id) (newRecords M) [] (a .undefined)))
+once-insert version (aBlock k b) M a o = subst NoIdTwice (sym (new-insertBlock k b M)) (once-block k b (newRecords M) o)
 
-pub once-all : (l : List Insertion) (M : MarkedRecords) → AllAllowed l M → NoIdTwice (newRecords M) → NoIdTwice (newRecords (insertAll l M))
+pub once-all : (version : ℕ) (l : List Insertion) (M : MarkedRecords) → AllAllowed version l M → NoIdTwice (newRecords M) → NoIdTwice (newRecords (insertAll l M))
 unfolding insertAll
-once-all [] M a o = o
-once-all (i ∷ l) M a o = once-all l (insert i M) (a .1) (once-insert i M (a .0) o)
+once-all version [] M a o = o
+once-all version (i ∷ l) M a o = once-all version l (insert i M) (a .1) (once-insert version i M (a .0) o)

@@ -11,7 +11,7 @@ use lib.Dec.{T, eqb, eqb→eq, eqb-refl}
 use Rattle.bsii_format.specs.Replies.{gives}
 use Rattle.bsii_format.specs.Reader.{ok, Consumed, same, WellFormed}
 use Rattle.bsii_format.specs.Strings.{isSome}
-use Rattle.bsii_format.specs.Types.{Numeric, float, floatVec2, floatVec3, floatVec4, floatVec8, int32, int32Vec3, uint32, uint16, int64, uint64, bool, enum}
+use Rattle.bsii_format.specs.Types.{Numeric, float, floatVec2, floatVec3, floatVec4, floatVec7, floatVec8, int32, int32Vec3, uint32, uint16, int64, uint64, bool, enum}
 use Rattle.bsii_format.specs.Values.{Element, nums, str, word, ident, Value, single, array}
 use Rattle.bsii_format.specs.Prototypes.{EnumValue, ValuePrototype, Prototype, valuePrototypeParser}
 use Rattle.bsii_format.specs.Blocks.{DataValue, DataBlock, findBy, getPrototype, dataValueParser}
@@ -68,6 +68,7 @@ any-numbers enums float l h = tt
 any-numbers enums floatVec2 l h = tt
 any-numbers enums floatVec3 l h = tt
 any-numbers enums floatVec4 l h = tt
+any-numbers enums floatVec7 l h = tt
 any-numbers enums floatVec8 l h = tt
 any-numbers enums int32 l h = tt
 any-numbers enums int32Vec3 l h = tt
@@ -124,30 +125,30 @@ any-name name [] h = tt
 any-name name (f ∷ fs) h =
     none-of (same name (f .value .name)) (hasName name fs) (λ t. h 0 f refl (same→eq name (f .value .name) t)) (any-name name fs (λ i. h (suc i)))
 
-abbrev pub GoodFor : Consumed ValuePrototype → DataValue → Type 0
-GoodFor d v = WellFormed (dataValueParser (d .value .typeId)) v (v .raw) × AllInList (d .value) (v .value)
+abbrev pub GoodFor : ℕ → Consumed ValuePrototype → DataValue → Type 0
+GoodFor version d v = WellFormed (dataValueParser version (d .value .typeId)) v (v .raw) × AllInList (d .value) (v .value)
 
-value-for : (n : ℕ) (d : Consumed ValuePrototype) (v : DataValue) (b : MarkedBlock) → (b .prototypeId ≡ n → GoodFor d v) → ValueAllowed n d v (markedBlock b)
-value-for n d v b h t = let g = h (sym (eqb→eq n (b .prototypeId) t)) in (g .0, any-value (d .value) (v .value) (g .1))
+value-for : (version n : ℕ) (d : Consumed ValuePrototype) (v : DataValue) (b : MarkedBlock) → (b .prototypeId ≡ n → GoodFor version d v) → ValueAllowed version n d v (markedBlock b)
+value-for version n d v b h t = let g = h (sym (eqb→eq n (b .prototypeId) t)) in (g .0, any-value (d .value) (v .value) (g .1))
 
 -- the number of the first block here is k
-any-values : (n : ℕ) (d : Consumed ValuePrototype) (v : ℕ → DataValue) (k : ℕ) (M : MarkedRecords)
-    → ((i j : ℕ) (b : DataBlock) → j ≡ k + i → At (blocks (newRecords M)) i b → b .prototypeId ≡ n → GoodFor d (v j)) → ValuesAllowed n d v k M
+any-values : (version n : ℕ) (d : Consumed ValuePrototype) (v : ℕ → DataValue) (k : ℕ) (M : MarkedRecords)
+    → ((i j : ℕ) (b : DataBlock) → j ≡ k + i → At (blocks (newRecords M)) i b → b .prototypeId ≡ n → GoodFor version d (v j)) → ValuesAllowed version n d v k M
 unfolding newRecords unmark blocks
-any-values n d v k [] h = tt
-any-values n d v k (old (markedPrototype m) ∷ l) h = (tt, any-values n d v k l h)
-any-values n d v k (inserted (markedPrototype m) ∷ l) h = (tt, any-values n d v k l h)
-any-values n d v k (old (markedBlock b) ∷ l) h =
-    (value-for n d (v k) b (h 0 k (newBlock b) (omega arith) refl), any-values n d v (suc k) l (λ i j c z. h (suc i) j c (omega arith)))
-any-values n d v k (inserted (markedBlock b) ∷ l) h =
-    (value-for n d (v k) b (h 0 k (newBlock b) (omega arith) refl), any-values n d v (suc k) l (λ i j c z. h (suc i) j c (omega arith)))
+any-values version n d v k [] h = tt
+any-values version n d v k (old (markedPrototype m) ∷ l) h = (tt, any-values version n d v k l h)
+any-values version n d v k (inserted (markedPrototype m) ∷ l) h = (tt, any-values version n d v k l h)
+any-values version n d v k (old (markedBlock b) ∷ l) h =
+    (value-for version n d (v k) b (h 0 k (newBlock b) (omega arith) refl), any-values version n d v (suc k) l (λ i j c z. h (suc i) j c (omega arith)))
+any-values version n d v k (inserted (markedBlock b) ∷ l) h =
+    (value-for version n d (v k) b (h 0 k (newBlock b) (omega arith) refl), any-values version n d v (suc k) l (λ i j c z. h (suc i) j c (omega arith)))
 
-pub any-field : (n p : ℕ) (d : Consumed ValuePrototype) (v : ℕ → DataValue) (M : MarkedRecords) (q : Prototype) → getPrototype n (prototypesOf (newRecords M)) ≡ some q → p ≤ length (q .fields)
+pub any-field : (version n p : ℕ) (d : Consumed ValuePrototype) (v : ℕ → DataValue) (M : MarkedRecords) (q : Prototype) → getPrototype n (prototypesOf (newRecords M)) ≡ some q → p ≤ length (q .fields)
     → WellFormed valuePrototypeParser (some (d .value)) (d .raw) → ((i : ℕ) (f : Consumed ValuePrototype) → At (q .fields) i f → d .value .name ≡ f .value .name → ⊥)
-    → ((i : ℕ) (b : DataBlock) → At (blocks (newRecords M)) i b → b .prototypeId ≡ n → GoodFor d (v i)) → Allowed (aField n p d v) M
-any-field n p d v M q e m w name values = record {
+    → ((i : ℕ) (b : DataBlock) → At (blocks (newRecords M)) i b → b .prototypeId ≡ n → GoodFor version d (v i)) → Allowed version (aField n p d v) M
+any-field version n p d v M q e m w name values = record {
   definition = record { of = q; defined = e; position = m; wellFormed = w; newName = any-name (d .value .name) (q .fields) name };
-  values = any-values n d v 0 M (λ i j b z. subst (λ x. At (blocks (newRecords M)) x b → b .prototypeId ≡ n → GoodFor d (v j)) (omega arith) (values j b));
+  values = any-values version n d v 0 M (λ i j b z. subst (λ x. At (blocks (newRecords M)) x b → b .prototypeId ≡ n → GoodFor version d (v j)) (omega arith) (values j b));
 }
 
 -- ---- (ii) "a whole prototype under an id that the file defines nowhere"
@@ -166,23 +167,23 @@ unknown n (prototype p ∷ l) env e h = unknown n l (p ∷ env) (go (eqb n (p .i
     go true f = absurd (f tt)
     go false f = e
 
-pub any-prototype : (k : ℕ) (p : Prototype) (M : MarkedRecords) → WellFormed (recordParser []) (more (prototype p)) (recordBytes (prototype p)) → Nowhere (p .id) (newRecords M) → Allowed (aPrototype k p) M
+pub any-prototype : (version k : ℕ) (p : Prototype) (M : MarkedRecords) → WellFormed (recordParser version []) (more (prototype p)) (recordBytes (prototype p)) → Nowhere (p .id) (newRecords M) → Allowed version (aPrototype k p) M
 unfolding prototypesOf findBy
-any-prototype k p M w h = record { wellFormed = w; undefined = unknown (p .id) (newRecords M) [] refl h }
+any-prototype version k p M w h = record { wellFormed = w; undefined = unknown (p .id) (newRecords M) [] refl h }
 
 -- ---- (iii) "a whole block after its prototype"
 
-pub any-block : (k : ℕ) (b : DataBlock) (M : MarkedRecords) → WellFormed (recordParser (prototypesOf (take k (newRecords M)))) (more (block b)) (recordBytes (block b))
+pub any-block : (version k : ℕ) (b : DataBlock) (M : MarkedRecords) → WellFormed (recordParser version (prototypesOf (take k (newRecords M)))) (more (block b)) (recordBytes (block b))
     → ((q : Prototype) (i : ℕ) (f : Consumed ValuePrototype) (v : DataValue) → getPrototype (b .prototypeId) (prototypesOf (newRecords M)) ≡ some q → At (q .fields) i f → At (b .values) i v → AllInList (f .value) (v .value))
-    → Allowed (aBlock k b) M
-any-block k b M w h = record { wellFormed = w; enums = λ q e. any-row (q .fields) (b .values) (λ i f v. h q i f v e) }
+    → Allowed version (aBlock k b) M
+any-block version k b M w h = record { wellFormed = w; enums = λ q e. any-row (q .fields) (b .values) (λ i f v. h q i f v e) }
 
 -- ---- the list, "the empty one included", and the save
 
-pub any-list : (l : List Insertion) (M : MarkedRecords) → ((a : List Insertion) (i : Insertion) (b : List Insertion) → l ≡ a ++ (i ∷ b) → Allowed i (insertAll a M)) → AllAllowed l M
+pub any-list : (version : ℕ) (l : List Insertion) (M : MarkedRecords) → ((a : List Insertion) (i : Insertion) (b : List Insertion) → l ≡ a ++ (i ∷ b) → Allowed version i (insertAll a M)) → AllAllowed version l M
 unfolding insertAll
-any-list [] M h = tt
-any-list (i ∷ l) M h = (h [] i l refl, any-list l (insert i M) (λ a j b e. h (i ∷ a) j b (ap (λ z. i ∷ z) e)))
+any-list version [] M h = tt
+any-list version (i ∷ l) M h = (h [] i l refl, any-list version l (insert i M) (λ a j b e. h (i ∷ a) j b (ap (λ z. i ∷ z) e)))
 
 not-defined : (n : ℕ) (l : List Record) → Nowhere n l → T (not (definesId n l))
 unfolding definesId

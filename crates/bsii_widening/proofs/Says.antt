@@ -7,7 +7,7 @@ use lib.ListN.{length, getD}
 use lib.Dec.{T}
 use Rattle.bsii_format.specs.Reader.{Consumed}
 use Rattle.bsii_format.specs.Strings.{isSome}
-use Rattle.bsii_format.specs.Types.{Numeric, float, floatVec2, floatVec3, floatVec4, floatVec8, int32, int32Vec3, uint32, uint16, int64, uint64, bool, enum}
+use Rattle.bsii_format.specs.Types.{Numeric, float, floatVec2, floatVec3, floatVec4, floatVec7, floatVec8, int32, int32Vec3, uint32, uint16, int64, uint64, bool, enum}
 use Rattle.bsii_format.specs.Values.{Element, nums, str, word, ident, Value, single, array}
 use Rattle.bsii_format.specs.Prototypes.{EnumValue, ValuePrototype}
 use Rattle.bsii_format.specs.Digits.{decimal}
@@ -40,6 +40,7 @@ numeric-says enums float l h = (_, refl)
 numeric-says enums floatVec2 l h = (_, refl)
 numeric-says enums floatVec3 l h = (_, refl)
 numeric-says enums floatVec4 l h = (_, refl)
+numeric-says enums floatVec7 l h = (_, refl)
 numeric-says enums floatVec8 l h = (_, refl)
 numeric-says enums int32 l h = (_, refl)
 numeric-says enums int32Vec3 l h = (_, refl)

@@ -53,11 +53,11 @@ module _ (text : ValuePrototype → Value → Option (List ℕ)) where
   AllSaid last (prototype p ∷ l) = AllSaid last l
   AllSaid last (block b ∷ l) = Said last b × AllSaid last l
 
-  inv-start : (last : List Prototype) {env : List Prototype} {l : List Record} → GoodRecords env l → AllSaid last l → Inv text (startEnv last) (startEnv env) (markRecords l)
+  inv-start : {version : ℕ} (last : List Prototype) {env : List Prototype} {l : List Record} → GoodRecords version env l → AllSaid last l → Inv version text (startEnv last) (startEnv env) (markRecords l)
   unfolding markRecords markRecord startEnv markBlock markPrototype define unmark
   inv-start last nil x = done
   inv-start last (cons {i = prototype p} g h) x = prototype-old (subst GoodPrototype (sym (new-markPrototype p)) g) (inv-start last h x)
-  inv-start last (cons {env = env} {i = block b} g h) x =
+  inv-start {version} last (cons {env = env} {i = block b} g h) x =
       let y = x .0 in
       block-old
       (record {
@@ -65,7 +65,7 @@ module _ (text : ValuePrototype → Value → Option (List ℕ)) where
         id = g .id;
         by = old (markPrototype (g .by));
         found = start-known (b .prototypeId) env (g .found);
-        values = subst₂ GoodValues (sym (all-asOld (g .by .fields))) (sym (all-asOld (b .values))) (g .values);
+        values = subst₂ (GoodValues version) (sym (all-asOld (g .by .fields))) (sym (all-asOld (b .values))) (g .values);
         by′ = old (markPrototype (y .by));
         found′ = start-known (b .prototypeId) last (y .found);
         says = subst₂ (Says text) (sym (all-asOld (y .by .fields))) (sym (all-asOld (b .values))) (y .says);
@@ -73,9 +73,9 @@ module _ (text : ValuePrototype → Value → Option (List ℕ)) where
       (record { by = markPrototype (y .by); found = start-known (b .prototypeId) last (y .found); aligned = aligned-start (y .says); distinct = distinct-start (y .by .fields) })
       (inv-start last h (x .1))
 
-  start : (l : List Record) → GoodRecords [] l → AllSaid (defineAll l []) l → Sound text (markRecords l)
+  start : {version : ℕ} (l : List Record) → GoodRecords version [] l → AllSaid (defineAll l []) l → Sound version text (markRecords l)
   unfolding startEnv
-  start l g x = subst (λ z. Inv text z [] (markRecords l)) (sym (start-defines l [])) (inv-start (defineAll l []) g x)
+  start {version} l g x = subst (λ z. Inv version text z [] (markRecords l)) (sym (start-defines l [])) (inv-start (defineAll l []) g x)
 
   -- ---- a save that has a text
 
@@ -109,7 +109,7 @@ module _ (text : ValuePrototype → Value → Option (List ℕ)) where
       let x = joined-back (blockText text at (getPrototype (b .prototypeId) last) b) (recordsText text last (at + length (recordBytes (block b))) l) e in
       (block-said at last b (getPrototype (b .prototypeId) last) refl (x .2), all-said last (at + length (recordBytes (block b))) l (x .3))
 
-  pub text-sound : (f : BsiiFile) {t : List ℕ} → GoodRecords [] (f .records) → fileText text f ≡ gives t → Sound text (markRecords (f .records))
+  pub text-sound : {version : ℕ} (f : BsiiFile) {t : List ℕ} → GoodRecords version [] (f .records) → fileText text f ≡ gives t → Sound version text (markRecords (f .records))
   unfolding fileText prototypesOf
   text-sound f g e =
       let x = joined-back (joined (gives fileOpening) (recordsText text (prototypesOf (f .records)) (length (f .header .raw)) (f .records))) (gives closing) e in
@@ -125,12 +125,12 @@ pub silent-has : HasText silent
 unfolding silent
 silent-has d v h = ([], refl)
 
-silent-says : {fs : List (Consumed ValuePrototype)} {l : List DataValue} → GoodValues fs l → Says silent fs l
+silent-says : {version : ℕ} {fs : List (Consumed ValuePrototype)} {l : List DataValue} → GoodValues version fs l → Says silent fs l
 unfolding silent
 silent-says nil = none-left
 silent-says (cons g h) = saying [] refl (silent-says h)
 
-silent-all : {env : List Prototype} {l : List Record} → Apart env l → NoIdTwice l → GoodRecords env l → AllSaid silent (defineAll l env) l
+silent-all : {version : ℕ} {env : List Prototype} {l : List Record} → Apart env l → NoIdTwice l → GoodRecords version env l → AllSaid silent (defineAll l env) l
 unfolding defineAll define definesId
 silent-all a o nil = tt
 silent-all a o (cons {env = env} {i = prototype p} {l = l} g h) = silent-all (apart-prototype env p l a (o .0)) (o .1) h
@@ -139,6 +139,6 @@ silent-all a o (cons {env = env} {i = block b} {l = l} g h) = (
   silent-all a o h,
 )
 
-pub read-sound : (l : List Record) → GoodRecords [] l → NoIdTwice l → Sound silent (markRecords l)
+pub read-sound : {version : ℕ} (l : List Record) → GoodRecords version [] l → NoIdTwice l → Sound version silent (markRecords l)
 unfolding findBy
 read-sound l g o = start silent l g (silent-all (λ m q z. none≢some z) o g)

@@ -94,7 +94,7 @@ module _ (text : ValuePrototype → Value → Option (List ℕ)) where
 
   -- ---- the records
 
-  new-blocks : {last env : List (Mark MarkedPrototype)} {M : MarkedRecords} (at : ℕ) → Inv text last env M
+  new-blocks : {version : ℕ} {last env : List (Mark MarkedPrototype)} {M : MarkedRecords} (at : ℕ) → Inv version text last env M
       → recordsText text (newEnv last) at (newRecords M) ≡ gives (concat (all (recordParts text last M)))
   unfolding recordsText newRecords unmark recordParts all concat
   new-blocks at done = refl
@@ -111,11 +111,11 @@ module _ (text : ValuePrototype → Value → Option (List ℕ)) where
       (new-blocks (at + length (recordBytes (block (newBlock b)))) h)
       ∙ ap gives (ap (λ z. z ++ concat (all (recordParts text last l))) (sym (block-all (getMarked (b .prototypeId) last) (g .by′) b (g .found′))))
 
-  old-says : {last env : List (Mark MarkedPrototype)} {b : MarkedBlock} → FineBlock text last env b → (o : OldBlock last b) → Says text (all (o .by .fields)) (all (b .values))
+  old-says : {version : ℕ} {last env : List (Mark MarkedPrototype)} {b : MarkedBlock} → FineBlock version text last env b → (o : OldBlock last b) → Says text (all (o .by .fields)) (all (b .values))
   unfolding unmark
   old-says {last} {env} {b} g o = subst (λ (m : Mark MarkedPrototype). Says text (all (unmark m .fields)) (all (b .values))) (some-inj (sym (g .found′) ∙ o .found)) (g .says)
 
-  old-blocks : {last env : List (Mark MarkedPrototype)} {M : MarkedRecords} (at : ℕ) → Inv text last env M
+  old-blocks : {version : ℕ} {last env : List (Mark MarkedPrototype)} {M : MarkedRecords} (at : ℕ) → Inv version text last env M
       → recordsText text (oldEnv last) at (oldRecords M) ≡ gives (concat (olds (recordParts text last M)))
   unfolding recordsText oldRecords recordParts olds concat
   old-blocks at done = refl
@@ -132,12 +132,12 @@ module _ (text : ValuePrototype → Value → Option (List ℕ)) where
 
   -- ---- the file
 
-  pub new-text : (f : BsiiFile) (M : MarkedRecords) → Sound text M
+  pub new-text : {version : ℕ} (f : BsiiFile) (M : MarkedRecords) → Sound version text M
       → fileText text (record { header = f .header; records = newRecords M; end = f .end }) ≡ gives (concat (all (textParts text M)))
   unfolding fileText textParts joined
   new-text f M h = rw (new-last M, new-blocks (length (f .header .raw)) h) (ap gives (sym (framed-all fileOpening (recordParts text (markedPrototypes M []) M))))
 
-  pub old-text : (f : BsiiFile) (M : MarkedRecords) → Sound text M
+  pub old-text : {version : ℕ} (f : BsiiFile) (M : MarkedRecords) → Sound version text M
       → fileText text (record { header = f .header; records = oldRecords M; end = f .end }) ≡ gives (concat (olds (textParts text M)))
   unfolding fileText textParts joined
   old-text f M h = rw (old-last M, old-blocks (length (f .header .raw)) h) (ap gives (sym (framed-olds fileOpening (recordParts text (markedPrototypes M []) M))))

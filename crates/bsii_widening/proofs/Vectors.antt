@@ -18,9 +18,9 @@ old-save : OldSave 3 definedFile (replicate 13 0) definedSave 49 [] 13
 unfolding computesAll
 old-save = record { reads = refl; converts = refl; once = (tt, tt) }
 
-allowed : AllAllowed firstBlock (markRecords (definedSave .records))
+allowed : AllAllowed (definedSave .header .value) firstBlock (markRecords (definedSave .records))
 unfolding computesAll
-allowed = allowed-proves firstBlock (markRecords (definedSave .records)) tt
+allowed = allowed-proves (definedSave .header .value) firstBlock (markRecords (definedSave .records)) tt
 
 room : Room lengthLimit 3 definedSave [] (widened definedSave firstBlock)
 unfolding computesAll

@@ -13,33 +13,33 @@ pub definition-bytes : (s : List ℕ) → definitionOf s .raw ≡ s
 unfolding definitionOf
 definition-bytes s = refl
 
-pub value-bytes : (t : ℕ) (s : List ℕ) → valueOf t s .raw ≡ s
+pub value-bytes : (version t : ℕ) (s : List ℕ) → valueOf version t s .raw ≡ s
 unfolding valueOf
-value-bytes t s = refl
+value-bytes version t s = refl
 
 -- of a step that was read whole, and of none
-whole-bytes : (env : List Prototype) (s : List ℕ) (bytesOf : Step → List ℕ) → ((q : Step) → stepBytes q ≡ s → bytesOf q ≡ s) → bytesOf (end []) ≡ s
-    → bytesOf (whole (end []) (recordParser env 0 s)) ≡ s
+whole-bytes : (version : ℕ) (env : List Prototype) (s : List ℕ) (bytesOf : Step → List ℕ) → ((q : Step) → stepBytes q ≡ s → bytesOf q ≡ s) → bytesOf (end []) ≡ s
+    → bytesOf (whole (end []) (recordParser version env 0 s)) ≡ s
 unfolding whole
-whole-bytes env s bytesOf read none = go (recordParser env 0 s) refl
+whole-bytes version env s bytesOf read none = go (recordParser version env 0 s) refl
   where
-    go : (q : Result Step) → recordParser env 0 s ≡ q → bytesOf (whole (end []) q) ≡ s
+    go : (q : Result Step) → recordParser version env 0 s ≡ q → bytesOf (whole (end []) q) ≡ s
     go (ok q at []) e = read q (sym (record-good env 0 s q at [] e .front ∙ append-nil (stepBytes q)))
     go (ok q at (x ∷ r)) e = none
     go (fault f) e = none
 
-pub prototype-bytes : (env : List Prototype) (s : List ℕ) → recordBytes (prototype (stepPrototype s (whole (end []) (recordParser env 0 s)))) ≡ s
+pub prototype-bytes : (version : ℕ) (env : List Prototype) (s : List ℕ) → recordBytes (prototype (stepPrototype s (whole (end []) (recordParser version env 0 s)))) ≡ s
 unfolding stepPrototype recordBytes fieldsBytes stepBytes
-prototype-bytes env s = whole-bytes env s (λ q. recordBytes (prototype (stepPrototype s q))) read (append-nil s)
+prototype-bytes version env s = whole-bytes version env s (λ q. recordBytes (prototype (stepPrototype s q))) read (append-nil s)
   where
     read : (q : Step) → stepBytes q ≡ s → recordBytes (prototype (stepPrototype s q)) ≡ s
     read (end l) e = append-nil s
     read (more (block b)) e = append-nil s
     read (more (prototype p)) e = e
 
-pub block-bytes : (env : List Prototype) (s : List ℕ) → recordBytes (block (stepBlock s (whole (end []) (recordParser env 0 s)))) ≡ s
+pub block-bytes : (version : ℕ) (env : List Prototype) (s : List ℕ) → recordBytes (block (stepBlock s (whole (end []) (recordParser version env 0 s)))) ≡ s
 unfolding stepBlock recordBytes valuesBytes stepBytes
-block-bytes env s = whole-bytes env s (λ q. recordBytes (block (stepBlock s q))) read (append-nil s)
+block-bytes version env s = whole-bytes version env s (λ q. recordBytes (block (stepBlock s q))) read (append-nil s)
   where
     read : (q : Step) → stepBytes q ≡ s → recordBytes (block (stepBlock s q)) ≡ s
     read (end l) e = append-nil s

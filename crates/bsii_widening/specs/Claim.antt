@@ -110,15 +110,15 @@ pub record AfterLast (words : ℕ) (s out : List ℕ) (f : BsiiFile) (r : List �
 -- are any bytes or none": v gives any value, so any bytes, for each block
 abbrev pub LastUnlisted : (words : ℕ) (s out : List ℕ) (f : BsiiFile) (r : List ℕ) (size words′ : ℕ) → MarkedRecords → Type 0
 LastUnlisted words s out f r size words′ M =
-    (n p : ℕ) (d : Consumed ValuePrototype) (v : ℕ → DataValue) → DefinitionAllowed n p d M → shapeOf (d .value .typeId) ≡ none
+    (n p : ℕ) (d : Consumed ValuePrototype) (v : ℕ → DataValue) → DefinitionAllowed n p d M → shapeOf (f .header .value) (d .value .typeId) ≡ none
     → Room lengthLimit words′ f r (insert (aField n p d v) M)
     → AfterLast words s out f r size words′ (insert (aField n p d v) M) (firstCarried n p (length (f .header .raw)) (newRecords (insert (aField n p d v) M)))
 
--- "Demand 3 is a single claim about the whole list, the empty one included"
+-- "Demand 3 is a single claim about the whole list, the empty one included", over saves of every version: `f .header .value`, which no insertion changes
 abbrev pub Demand3 : Type 0
 Demand3 =
     (words : ℕ) (s out : List ℕ) (f : BsiiFile) (at : ℕ) (r : List ℕ) (size : ℕ) → OldSave words s out f at r size
-    → (l : List Insertion) → AllAllowed l (markRecords (f .records)) → (words′ : ℕ)
+    → (l : List Insertion) → AllAllowed (f .header .value) l (markRecords (f .records)) → (words′ : ℕ)
     → (s ≡ newFile f r (markRecords (f .records)))
     × (Room lengthLimit words′ f r (widened f l) → StillConverts words s out f r size words′ (widened f l))
     × LastUnlisted words s out f r size words′ (widened f l)

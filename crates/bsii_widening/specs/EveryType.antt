@@ -1,4 +1,4 @@
--- A worked list of insertions with every listed type: a definition and a value of each in the worked save's prototype and block (i), then a prototype
+-- A worked list of insertions with every listed type of a version: a definition and a value of each in the worked save's prototype and block (i), then a prototype
 -- that has them all (ii) and a block of it (iii).
 use Prim.Native.Nat.{ℕ, _+_, _*_}
 use mathlib.Core.Bool.{cond}
@@ -31,11 +31,11 @@ shapeBytes (many k) = u32 2 ++ elementBytes k ++ elementBytes k
 unfoldable pub valueBytes : Listed → List ℕ
 valueBytes t = shapeBytes (t .shape)
 
-unfoldable pub everyField : List Written
-everyField = map (λ t. field 7 0 (definitionBytes t) (valueBytes t ∷ [])) typeTable
+unfoldable pub everyField : ℕ → List Written
+everyField version = map (λ t. field 7 0 (definitionBytes t) (valueBytes t ∷ [])) (typeTable version)
 
-unfoldable pub everyRecord : List Written
-everyRecord =
-    prototypeAt 0 (u32 0 ++ le 1 1 ++ u32 9 ++ u32 1 ++ ascii "p" ++ concat (map definitionBytes typeTable) ++ u32 0)
-    ∷ blockAt 1 (u32 9 ++ le 1 0 ++ concat (map valueBytes typeTable))
+unfoldable pub everyRecord : ℕ → List Written
+everyRecord version =
+    prototypeAt 0 (u32 0 ++ le 1 1 ++ u32 9 ++ u32 1 ++ ascii "p" ++ concat (map definitionBytes (typeTable version)) ++ u32 0)
+    ∷ blockAt 1 (u32 9 ++ le 1 0 ++ concat (map valueBytes (typeTable version)))
     ∷ []

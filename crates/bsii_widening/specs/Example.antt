@@ -34,7 +34,7 @@ unfoldable pub extraBlock : Written
 extraBlock = blockAt 3 (u32 9 ++ le 1 0 ++ le 1 1)
 
 unfoldable pub additions : List Insertion
-additions = madeAll (enumField ∷ extraPrototype ∷ extraBlock ∷ []) (markRecords (oldFile .records))
+additions = madeAll 2 (enumField ∷ extraPrototype ∷ extraBlock ∷ []) (markRecords (oldFile .records))
 
 unfoldable pub additionsText : List ℕ
 additionsText =
@@ -52,4 +52,4 @@ afterUnlisted = insert (aField 7 0 unlistedField anyBytes) (widened oldFile addi
 
 -- the prototype alone: no block is of the id 9
 unfoldable pub unused : List Insertion
-unused = madeAll (extraPrototype ∷ []) (markRecords (oldFile .records))
+unused = madeAll 2 (extraPrototype ∷ []) (markRecords (oldFile .records))

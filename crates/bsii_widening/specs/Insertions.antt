@@ -1,4 +1,4 @@
--- Insertions and which of them are allowed: document 01, "One insertion is one of: (i) .. (ii) .. (iii) ..".
+-- Insertions and which of them are allowed: document 01, "One insertion is one of: (i) .. (ii) .. (iii) .."; document 02, E12.
 use mathlib.Core.Path.{_≡_}
 use Prim.Native.Nat.{ℕ, zero, suc, _≤_}
 use mathlib.Core.Bool.{Bool, true, false, _||_, not}
@@ -8,7 +8,7 @@ use lib.ListN.{length, take, getD}
 use lib.Dec.{T, eqb}
 use Rattle.bsii_format.specs.Reader.{Consumed, same, WellFormed}
 use Rattle.bsii_format.specs.Strings.{isSome}
-use Rattle.bsii_format.specs.Types.{Numeric, float, floatVec2, floatVec3, floatVec4, floatVec8, int32, int32Vec3, uint32, uint16, int64, uint64, bool, enum}
+use Rattle.bsii_format.specs.Types.{Numeric, float, floatVec2, floatVec3, floatVec4, floatVec7, floatVec8, int32, int32Vec3, uint32, uint16, int64, uint64, bool, enum}
 use Rattle.bsii_format.specs.Values.{Element, nums, str, word, ident, Value, single, array}
 use Rattle.bsii_format.specs.Prototypes.{EnumValue, ValuePrototype, Prototype, valuePrototypeParser}
 use Rattle.bsii_format.specs.Blocks.{DataValue, DataBlock, getPrototype, dataValueParser}
@@ -74,6 +74,7 @@ numericListed enums float l = true
 numericListed enums floatVec2 l = true
 numericListed enums floatVec3 l = true
 numericListed enums floatVec4 l = true
+numericListed enums floatVec7 l = true
 numericListed enums floatVec8 l = true
 numericListed enums int32 l = true
 numericListed enums int32Vec3 l = true
@@ -116,38 +117,40 @@ pub record DefinitionAllowed (n p : ℕ) (d : Consumed ValuePrototype) (M : Mark
   pub wellFormed : WellFormed valuePrototypeParser (some (d .value)) (d .raw)
   pub newName : T (not (hasName (d .value .name) (of .fields)))
 
--- "with a well-formed value at the matching spot of every block of that id". A value of an unlisted type is not well-formed, so "listed"
--- asks no more of a type that a block carries
-abbrev pub ValueAllowed : ℕ → Consumed ValuePrototype → DataValue → MarkedRecord → Type 0
-ValueAllowed n d v (markedPrototype m) = Unit {0}
-ValueAllowed n d v (markedBlock b) = T (eqb n (b .prototypeId)) → WellFormed (dataValueParser (d .value .typeId)) v (v .raw) × EnumListed (d .value) (v .value)
+-- "An update may widen either version, the version unchanged": what is inserted is well-formed by the save's own
+module _ (version : ℕ) where
+  -- "with a well-formed value at the matching spot of every block of that id". A value of an unlisted type is not well-formed, so "listed"
+  -- asks no more of a type that a block carries
+  abbrev pub ValueAllowed : ℕ → Consumed ValuePrototype → DataValue → MarkedRecord → Type 0
+  ValueAllowed n d v (markedPrototype m) = Unit {0}
+  ValueAllowed n d v (markedBlock b) = T (eqb n (b .prototypeId)) → WellFormed (dataValueParser version (d .value .typeId)) v (v .raw) × EnumListed (d .value) (v .value)
 
-abbrev pub ValuesAllowed : ℕ → Consumed ValuePrototype → (ℕ → DataValue) → ℕ → MarkedRecords → Type 0
-ValuesAllowed n d v k [] = Unit {0}
-ValuesAllowed n d v k (m ∷ l) = ValueAllowed n d (v k) (unmark m) × ValuesAllowed n d v (nextBlock (unmark m) k) l
+  abbrev pub ValuesAllowed : ℕ → Consumed ValuePrototype → (ℕ → DataValue) → ℕ → MarkedRecords → Type 0
+  ValuesAllowed n d v k [] = Unit {0}
+  ValuesAllowed n d v k (m ∷ l) = ValueAllowed n d (v k) (unmark m) × ValuesAllowed n d v (nextBlock (unmark m) k) l
 
-pub record FieldAllowed (n p : ℕ) (d : Consumed ValuePrototype) (v : ℕ → DataValue) (M : MarkedRecords) : Type 0 where
-  pub definition : DefinitionAllowed n p d M
-  pub values : ValuesAllowed n d v 0 M
+  pub record FieldAllowed (n p : ℕ) (d : Consumed ValuePrototype) (v : ℕ → DataValue) (M : MarkedRecords) : Type 0 where
+    pub definition : DefinitionAllowed n p d M
+    pub values : ValuesAllowed n d v 0 M
 
--- (ii) "a whole prototype under an id that the file defines nowhere"
-pub record PrototypeAllowed (p : Prototype) (M : MarkedRecords) : Type 0 where
-  pub wellFormed : WellFormed (recordParser []) (more (prototype p)) (recordBytes (prototype p))
-  pub undefined : getPrototype (p .id) (prototypesOf (newRecords M)) ≡ none
+  -- (ii) "a whole prototype under an id that the file defines nowhere"
+  pub record PrototypeAllowed (p : Prototype) (M : MarkedRecords) : Type 0 where
+    pub wellFormed : WellFormed (recordParser version []) (more (prototype p)) (recordBytes (prototype p))
+    pub undefined : getPrototype (p .id) (prototypesOf (newRecords M)) ≡ none
 
--- (iii) "a whole block after its prototype": well-formed under the definitions in front of record number k
-pub record BlockAllowed (k : ℕ) (b : DataBlock) (M : MarkedRecords) : Type 0 where
-  pub wellFormed : WellFormed (recordParser (prototypesOf (take k (newRecords M)))) (more (block b)) (recordBytes (block b))
-  pub enums : (q : Prototype) → getPrototype (b .prototypeId) (prototypesOf (newRecords M)) ≡ some q → EnumsListed (q .fields) (b .values)
+  -- (iii) "a whole block after its prototype": well-formed under the definitions in front of record number k
+  pub record BlockAllowed (k : ℕ) (b : DataBlock) (M : MarkedRecords) : Type 0 where
+    pub wellFormed : WellFormed (recordParser version (prototypesOf (take k (newRecords M)))) (more (block b)) (recordBytes (block b))
+    pub enums : (q : Prototype) → getPrototype (b .prototypeId) (prototypesOf (newRecords M)) ≡ some q → EnumsListed (q .fields) (b .values)
 
-abbrev pub Allowed : Insertion → MarkedRecords → Type 0
-Allowed (aField n p d v) M = FieldAllowed n p d v M
-Allowed (aPrototype k p) M = PrototypeAllowed p M
-Allowed (aBlock k b) M = BlockAllowed k b M
+  abbrev pub Allowed : Insertion → MarkedRecords → Type 0
+  Allowed (aField n p d v) M = FieldAllowed n p d v M
+  Allowed (aPrototype k p) M = PrototypeAllowed p M
+  Allowed (aBlock k b) M = BlockAllowed k b M
 
-abbrev pub AllAllowed : List Insertion → MarkedRecords → Type 0
-AllAllowed [] M = Unit {0}
-AllAllowed (i ∷ l) M = Allowed i M × AllAllowed l (insert i M)
+  abbrev pub AllAllowed : List Insertion → MarkedRecords → Type 0
+  AllAllowed [] M = Unit {0}
+  AllAllowed (i ∷ l) M = Allowed i M × AllAllowed l (insert i M)
 
 -- ---- "defines no prototype id twice"
 

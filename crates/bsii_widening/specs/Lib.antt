@@ -10,3 +10,4 @@ pub mod Written
 pub mod EveryType
 pub mod Example
 pub mod Vectors
+pub mod Sevens

@@ -32,15 +32,16 @@ pub record Old (words : ℕ) (s : List ℕ) (f : BsiiFile) (at : ℕ) (r : List 
 abbrev pub Survives : {A : Type 0} → Observer A → (MarkedRecords → Observer A) → (BsiiFile → List Insertion → Type 0) → (MarkedRecords → A → A → Type 0) → Type 0
 Survives {A} before after Meets Keeps =
     (words : ℕ) (s : List ℕ) (f : BsiiFile) (at : ℕ) (r : List ℕ) → Old words s f at r → (a : A) → before f at ≡ gives a
-    → (l : List Insertion) → AllAllowed l (markRecords (f .records)) → Meets f l → (words′ : ℕ) → Room lengthLimit words′ f r (widened f l)
+    → (l : List Insertion) → AllAllowed (f .header .value) l (markRecords (f .records)) → Meets f l → (words′ : ℕ) → Room lengthLimit words′ f r (widened f l)
     → (b : A) × (ofFile (after (widened f l)) (parse words′ (newFile f r (widened f l))) ≡ gives b) × Keeps (widened f l) a b
 
 -- after one last definition of an unlisted type that a block carries, the call gives 7 at the first such value
 abbrev pub Stops : {A : Type 0} → Observer A → Type 0
 Stops answer =
-    (words : ℕ) (s : List ℕ) (f : BsiiFile) (at : ℕ) (r : List ℕ) → Old words s f at r → (l : List Insertion) → AllAllowed l (markRecords (f .records)) → (words′ : ℕ)
-    → (n p : ℕ) (d : Consumed ValuePrototype) (v : ℕ → DataValue) → DefinitionAllowed n p d (widened f l) → shapeOf (d .value .typeId) ≡ none
-    → Room lengthLimit words′ f r (insert (aField n p d v) (widened f l)) → (x : ℕ)
+    (words : ℕ) (s : List ℕ) (f : BsiiFile) (at : ℕ) (r : List ℕ) → Old words s f at r → (l : List Insertion)
+    → AllAllowed (f .header .value) l (markRecords (f .records)) → (words′ : ℕ)
+    → (n p : ℕ) (d : Consumed ValuePrototype) (v : ℕ → DataValue) → DefinitionAllowed n p d (widened f l)
+    → shapeOf (f .header .value) (d .value .typeId) ≡ none → Room lengthLimit words′ f r (insert (aField n p d v) (widened f l)) → (x : ℕ)
     → firstCarried n p (length (f .header .raw)) (newRecords (insert (aField n p d v) (widened f l))) ≡ some x
     → ofFile answer (parse words′ (newFile f r (insert (aField n p d v) (widened f l)))) ≡ refusal unlistedType x
 

@@ -19,4 +19,4 @@ unfoldable pub definedSave : BsiiFile
 definedSave = fileOf (parse 3 definedFile)
 
 unfoldable pub firstBlock : List Insertion
-firstBlock = madeAll (blockAt 1 (u32 3 ++ le 1 0 ++ triplesPart ++ quadruplePart) ∷ []) (markRecords (definedSave .records))
+firstBlock = madeAll 2 (blockAt 1 (u32 3 ++ le 1 0 ++ triplesPart ++ quadruplePart) ∷ []) (markRecords (definedSave .records))

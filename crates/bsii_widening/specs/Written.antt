@@ -34,8 +34,8 @@ orNone (some d) = d
 unfoldable pub definitionOf : List ℕ → Consumed ValuePrototype
 definitionOf s = with (orNone (whole none (valuePrototypeParser 0 s))) s
 
-unfoldable pub valueOf : ℕ → List ℕ → DataValue
-valueOf t s = record { typeId = t; value = whole (array []) (valueParser t 0 s); raw = s }
+unfoldable pub valueOf : ℕ → ℕ → List ℕ → DataValue
+valueOf version t s = record { typeId = t; value = whole (array []) (valueParser version t 0 s); raw = s }
 
 unfoldable pub stepPrototype : List ℕ → Step → Prototype
 stepPrototype s (more (prototype p)) = p
@@ -47,13 +47,15 @@ stepBlock s (more (block b)) = b
 stepBlock s (more (prototype p)) = record { head = s; prototypeId = 0; id = with (named []) []; values = [] }
 stepBlock s (end l) = record { head = s; prototypeId = 0; id = with (named []) []; values = [] }
 
--- a block is read under the definitions in front of its place in the file M
-unfoldable pub made : Written → MarkedRecords → Insertion
-made (field n p d values) M = aField n p (definitionOf d) (λ k. valueOf (definitionOf d .value .typeId) (getD values k []))
-made (prototypeAt k s) M = aPrototype k (stepPrototype s (whole (end []) (recordParser [] 0 s)))
-made (blockAt k s) M = aBlock k (stepBlock s (whole (end []) (recordParser (prototypesOf (take k (newRecords M))) 0 s)))
+-- by a reader of the save's version
+module _ (version : ℕ) where
+  -- a block is read under the definitions in front of its place in the file M
+  unfoldable pub made : Written → MarkedRecords → Insertion
+  made (field n p d values) M = aField n p (definitionOf d) (λ k. valueOf version (definitionOf d .value .typeId) (getD values k []))
+  made (prototypeAt k s) M = aPrototype k (stepPrototype s (whole (end []) (recordParser version [] 0 s)))
+  made (blockAt k s) M = aBlock k (stepBlock s (whole (end []) (recordParser version (prototypesOf (take k (newRecords M))) 0 s)))
 
--- the list on the file M, each on the file that the one before left
-unfoldable pub madeAll : List Written → MarkedRecords → List Insertion
-madeAll [] M = []
-madeAll (w ∷ l) M = made w M ∷ madeAll l (insert (made w M) M)
+  -- the list on the file M, each on the file that the one before left
+  unfoldable pub madeAll : List Written → MarkedRecords → List Insertion
+  madeAll [] M = []
+  madeAll (w ∷ l) M = made w M ∷ madeAll l (insert (made w M) M)
