@@ -157,9 +157,11 @@ mod tests {
     use super::*;
     use sii_decode::DataField;
 
-    fn garage() -> Vec<u8> {
+    /// Of version 2, and of version 1.
+    fn samples() -> [Vec<u8>; 2] {
         let root = std::path::Path::new(env!("CARGO_MANIFEST_DIR")).join("../..");
-        std::fs::read(root.join("samples/garage.bsii")).unwrap()
+        let read = |name| std::fs::read(root.join(name)).unwrap();
+        ["samples/garage.bsii", "samples/depot.bsii"].map(read)
     }
 
     /// How the place goes with the refusal's number.
@@ -195,10 +197,9 @@ mod tests {
         }
     }
 
-    /// Every byte of the sample replaced, and the sample cut at every byte.
+    /// Every byte of the samples replaced, and the samples cut at every byte.
     #[test]
     fn damaged_saves() {
-        let whole = garage();
         let mut seen = [0; 16];
         let mut try_one = |bytes: &[u8]| {
             if let Err(refusal) = sii_decode::to_siin(bytes) {
@@ -206,14 +207,17 @@ mod tests {
                 check(bytes, &refusal);
             }
         };
-        for at in 0..whole.len() {
-            try_one(&whole[..at]);
-            for byte in [0, 1, 2, 8, 0x26, 0x37, 0x7f, 0xff] {
-                let mut bytes = whole.clone();
-                bytes[at] = byte;
-                try_one(&bytes);
+        for whole in samples() {
+            for at in 0..whole.len() {
+                try_one(&whole[..at]);
+                for byte in [0, 1, 2, 8, 0x26, 0x37, 0x7f, 0xff] {
+                    let mut bytes = whole.clone();
+                    bytes[at] = byte;
+                    try_one(&bytes);
+                }
             }
         }
+        assert_eq!(seen[2], 0);
         for number in [1, 3, 4, 5, 6, 7, 9, 15] {
             assert!(seen[number] > 0, "{number}: {seen:?}");
         }

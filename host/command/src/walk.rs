@@ -307,23 +307,29 @@ mod tests {
         assert!(!defines(&file, 1000, b"s"));
     }
 
-    /// The walk skips every type as the library does: the last value of a value's bytes is found.
+    /// The walk skips every type as the library does, in version 1 too: the last value of a value's bytes
+    /// is found.
     #[test]
-    fn every_type_of_the_sample() {
+    fn every_type_of_the_samples() {
         let root = std::path::Path::new(env!("CARGO_MANIFEST_DIR")).join("../..");
-        let bytes = std::fs::read(root.join("samples/garage.bsii")).unwrap();
-        let file = sii_decode::BsiiFile::parse(&bytes).unwrap();
+        for name in ["samples/garage.bsii", "samples/depot.bsii"] {
+            every_value(&std::fs::read(root.join(name)).unwrap());
+        }
+    }
+
+    fn every_value(bytes: &[u8]) {
+        let file = sii_decode::BsiiFile::parse(bytes).unwrap();
         let start = bytes.as_ptr() as usize;
         for block in file.blocks() {
             let name = block.prototype(&file).unwrap().name;
             let at = name.as_ptr() as usize - start - 8;
-            let names = Reader::new(&bytes, at).prototype().unwrap().1.fields;
+            let names = Reader::new(bytes, at).prototype().unwrap().1.fields;
             assert!(!names.is_empty());
             for (field, type_id) in names {
                 let part = block.field(&file, field).unwrap().part;
                 let first = part.as_ptr() as usize - start;
                 for offset in [first, first + part.len() - 1] {
-                    let found = block_of(&bytes, offset as u64);
+                    let found = block_of(bytes, offset as u64);
                     assert_eq!(
                         (found.number, found.field),
                         (block.number, Some((field, type_id)))

@@ -38,9 +38,9 @@ fn one_field(type_id: u32, value: &[u8]) -> Vec<u8> {
     file
 }
 
-fn garage() -> Vec<u8> {
-    let root = Path::new(env!("CARGO_MANIFEST_DIR")).join("../..");
-    std::fs::read(root.join("samples/garage.bsii")).unwrap()
+fn sample(name: &str) -> Vec<u8> {
+    let samples = Path::new(env!("CARGO_MANIFEST_DIR")).join("../../samples");
+    std::fs::read(samples.join(name)).unwrap()
 }
 
 #[test]
@@ -487,7 +487,7 @@ fn elements_of_random_values() {
 
 #[test]
 fn every_type_of_the_sample() {
-    let bytes = garage();
+    let bytes = sample("garage.bsii");
     let file = BsiiFile::parse(&bytes).unwrap();
     let names = [
         "label",
@@ -536,4 +536,21 @@ fn every_type_of_the_sample() {
         .collect();
     types.sort();
     assert_eq!(types, generate::LISTED);
+}
+
+#[test]
+fn the_sample_of_version_1() {
+    let bytes = sample("depot.bsii");
+    let file = BsiiFile::parse(&bytes).unwrap();
+    assert_eq!((file.version(), file.block_count()), (1, 1));
+    for (name, type_id, count) in [("gate", 0x19, 1), ("bays", 0x1a, 2)] {
+        let field = file.field(0, name).unwrap();
+        let kind = (field.version, field.type_id, field.kind_name());
+        assert_eq!(kind, (1, type_id, "seven-f32"));
+        assert_eq!(field.elements().count(), count);
+        walk_is_the_call(field);
+    }
+    let slots = file.field(0, "slots").unwrap().element(0);
+    assert_eq!(slots, Ok(DataValue::UInt32(2)));
+    assert_eq!(file.to_siin().unwrap(), sample("depot.sii"));
 }
