@@ -6,6 +6,7 @@ pub mod Follows
 pub mod Parsers
 pub mod Records
 pub mod File
+pub mod Versions
 pub mod Worked
 pub mod WorkedCalls
 pub mod Refusals
