@@ -12,15 +12,16 @@
  * output written. With length 0 nothing is read or written there, so any pointer is allowed, NULL too. The table is aligned for uint32_t. Table
  * and output overlap neither each other nor the file or the name. The floating-point environment is the one that a program starts with: sums of
  * floats round to nearest, and neither flush-to-zero nor denormals-are-zero is set (fesetround, or MXCSR, of the calling thread). With another
- * one the two sums of a placement (types 0x19 and 0x1a) are other numbers in the text of sii_to_siin, and no refusal says so; no other call makes
- * sums. Nothing else is asked: any bytes, any length and any number are allowed, and each call ends. The library allocates nothing, keeps nothing
- * between calls and keeps no pointer, so calls with different tables and outputs may run at the same time.
+ * one the two sums of a placement (types 0x19 and 0x1a, in a file of another version than 1) are other numbers in the text of sii_to_siin, and no
+ * refusal says so; no other call makes sums. Nothing else is asked: any bytes, any length and any number are allowed, and each call ends. The
+ * library allocates nothing, keeps nothing between calls and keeps no pointer, so calls with different tables and outputs may run at the same time.
  *
  * What the library needs. x86-64 and the System V calling convention. Of libc memcpy and memset, and nothing else. 4096 bytes of stack for
  * each call: tests/c/stack.c runs each call on a stack filled with a pattern and measures at most 3528, those two functions included; a dynamic
  * linker that binds them at their first call (without -z now) takes some kilobytes more at that time. Its code is position independent.
  *
- * The file is read only. It may be any bytes, also none; with more than SII_LENGTH_LIMIT it is refused.
+ * The file is read only. It may be any bytes, also none; with more than SII_LENGTH_LIMIT it is refused. Its version is the uint32_t at byte 4,
+ * least byte first. In version 1 a placement has seven floats, in every other one eight; nothing else hangs on it.
  *
  * The table is scratch of `words` words. It may hold anything before a call; after every call, refused or not, all its words are 0. Three
  * words for each distinct prototype id of the file are enough. A prototype has at least 17 bytes, so three words for each whole 17 bytes of
@@ -41,21 +42,20 @@ extern "C" {
  * layouts included, for calls are still to be added; a new patch version changes nothing of it. From 1.0 on that takes a new major version.
  */
 #define SII_VERSION_MAJOR 0
-#define SII_VERSION_MINOR 2
-#define SII_VERSION_PATCH 1
+#define SII_VERSION_MINOR 3
+#define SII_VERSION_PATCH 0
 
 /* The most bytes that a file may have, those behind its end record included. */
 #define SII_LENGTH_LIMIT 16777216
 
 /*
- * The refusals. Of several, SII_INPUT_LONG comes first, then the first fault of the file from front to back (1 to 7, 10 and 15), whatever was
- * asked for, then SII_ABSENT; for sii_to_siin 8 and 9 in the order of the text, then SII_OUTPUT_SHORT. No refusal has the number 0 or 14.
+ * The refusals. Of several, SII_INPUT_LONG comes first, then the first fault of the file from front to back (1, 3 to 7, 10 and 15), whatever was
+ * asked for, then SII_ABSENT; for sii_to_siin 8 and 9 in the order of the text, then SII_OUTPUT_SHORT. 2 is retired: no call gives it, and it is
+ * used for nothing else. No refusal has the number 0 or 14.
  */
 enum {
     /* The first 4 bytes are missing or are not "BSII". Offset 0. */
     SII_INVALID_HEADER = 1,
-    /* The version is 1; every other version is read. Offset 8. */
-    SII_UNSUPPORTED_VERSION = 2,
     /*
      * The bytes run out in an item: a number, a byte, or the bytes of a string behind its length. Offset: where that item starts. The answer's
      * `lacking` is how many bytes of that one item are not there, from 1 up to its size; a string's can be as large as 4294967295. With so many
@@ -103,7 +103,7 @@ enum {
     SII_KIND_THREE_I32 = 6,
     /* 0x17, 0x18: a, b, c, d. */
     SII_KIND_FOUR_F32 = 7,
-    /* 0x19, 0x1a: a to h, as they stand in the file: the sums of the text are not made. */
+    /* 0x19, 0x1a, in every version but 1: a to h, as they stand in the file: the sums of the text are not made. */
     SII_KIND_PLACEMENT = 8,
     /* 0x25, 0x26: value, an int64_t in two's complement. */
     SII_KIND_I32 = 9,
@@ -120,7 +120,9 @@ enum {
     /* 0x37: value, the number; no list is consulted. */
     SII_KIND_ENUM = 15,
     /* 0x39 to 0x3d: place_offset and place_len, all bytes of the id, its first one included. */
-    SII_KIND_ID = 16
+    SII_KIND_ID = 16,
+    /* 0x19, 0x1a, in version 1: a to g. */
+    SII_KIND_SEVEN_F32 = 17
 };
 
 /* Each answer starts with the same three members: `lacking` is the count of SII_MALFORMED, and 0 with every other number and with an answer. */
@@ -195,26 +197,26 @@ typedef struct SiiElement {
 
 /*
  * Reads the whole file. Answers the number of distinct prototype ids, the number of blocks, and the offset after the end record; bytes from
- * there on are ignored. Refusals: 1 to 7, 10, 12, 15. Afterwards the table is all 0.
+ * there on are ignored. Refusals: 1, 3 to 7, 10, 12, 15. Afterwards the table is all 0.
  */
 SiiReading sii_read(const uint8_t *file, size_t file_len, uint32_t *table, size_t words);
 
 /*
  * The prototype with this id, by its last definition in the file. Answers the place of its name in the file and its number of fields.
- * Refusals: 1 to 7, 10, 12, 15; SII_ABSENT if the id is defined nowhere. Afterwards the table is all 0.
+ * Refusals: 1, 3 to 7, 10, 12, 15; SII_ABSENT if the id is defined nowhere. Afterwards the table is all 0.
  */
 SiiPrototype sii_get_prototype(const uint8_t *file, size_t file_len, uint32_t *table, size_t words, uint32_t id);
 
 /*
- * The n-th block of the file, from 0. Answers its prototype id and the place of the block's id in the file. Refusals: 1 to 7, 10, 12, 15;
+ * The n-th block of the file, from 0. Answers its prototype id and the place of the block's id in the file. Refusals: 1, 3 to 7, 10, 12, 15;
  * SII_ABSENT if there are not so many blocks. Afterwards the table is all 0.
  */
 SiiBlock sii_block_at(const uint8_t *file, size_t file_len, uint32_t *table, size_t words, uint64_t n);
 
 /*
  * The n-th block, from 0, among those whose prototype has this name by its last definition. Answers in `value` the block's number among all
- * blocks, for sii_block_at and sii_field_of. The name has no terminator and is compared byte by byte; any bytes are allowed. Refusals: 1 to 7,
- * 10, 12, 15; SII_ABSENT if there are not so many. Afterwards the table is all 0.
+ * blocks, for sii_block_at and sii_field_of. The name has no terminator and is compared byte by byte; any bytes are allowed. Refusals: 1, 3 to
+ * 7, 10, 12, 15; SII_ABSENT if there are not so many. Afterwards the table is all 0.
  */
 SiiNumber sii_blocks_by_prototype_name(const uint8_t *file, size_t file_len, uint32_t *table, size_t words, const uint8_t *name,
                                        size_t name_len, uint64_t n);
@@ -222,25 +224,28 @@ SiiNumber sii_blocks_by_prototype_name(const uint8_t *file, size_t file_len, uin
 /*
  * The value of a block, by the block's number from 0 and the field's name: the first definition of that name in the last definition of the
  * block's prototype gives its position. Answers the type with which the block was read, and the part of the file that encodes the value; both
- * go to sii_element_of. The part is never empty. The name has no terminator and is compared byte by byte; any bytes are allowed. Refusals: 1 to
- * 7, 10, 12, 15; SII_ABSENT if there is no such block, no such name, or no value at that position in the block. Afterwards the table is all 0.
+ * go to sii_element_of, with the file's version. The part is never empty. The name has no terminator and is compared byte by byte; any bytes are
+ * allowed. Refusals: 1, 3 to 7, 10, 12, 15; SII_ABSENT if there is no such block, no such name, or no value at that position in the block.
+ * Afterwards the table is all 0.
  */
 SiiField sii_field_of(const uint8_t *file, size_t file_len, uint32_t *table, size_t words, uint64_t block, const uint8_t *name,
                       size_t name_len);
 
 /*
- * An element of a value of this type, which is read whole from the start of `part`; bytes behind it are ignored. A single value has the index 0
- * only, an array its elements from 0. Answers the element's kind and the element; places and the offsets of refusals count from the start of
- * `part`, and the lacking bytes of SII_MALFORMED from its end on. Refusals: SII_UNLISTED_TYPE, then 3, 4, 5 of the whole value, also behind the
- * element, then SII_ABSENT if the index is too high. There is no table and no length limit; nothing is written.
+ * An element of a value of this type, which is read whole from the start of `part`; bytes behind it are ignored. `version` is that of the file
+ * which the value stands in, the uint32_t at its byte 4, least byte first: for 0x19 and 0x1a, 1 gives seven floats and every other number eight;
+ * for other types it has no effect, and no number is refused. A single value has the index 0 only, an array its elements from 0. Answers the
+ * element's kind and the element; places and the offsets of refusals count from the start of `part`, and the lacking bytes of SII_MALFORMED from
+ * its end on. Refusals: SII_UNLISTED_TYPE, then 3, 4, 5 of the whole value, also behind the element, then SII_ABSENT if the index is too high.
+ * There is no table and no length limit; nothing is written.
  */
-SiiElement sii_element_of(uint32_t type_id, const uint8_t *part, size_t part_len, uint64_t index);
+SiiElement sii_element_of(uint32_t version, uint32_t type_id, const uint8_t *part, size_t part_len, uint64_t index);
 
 /*
- * Writes the file's text into the output. Answers the text's length, which has no terminator. Refusals: 1 to 12, 15; with SII_OUTPUT_SHORT `length`
- * is the length that the output must have, which may be above 32 bits. Afterwards the output starts with the text, and its bytes beyond the
- * text keep their values; after a refusal all of them do. The table is all 0. With NULL and length 0 for the output the call is a way to ask for
- * the length: every text is longer than that, so it is refused with SII_OUTPUT_SHORT if nothing else is wrong.
+ * Writes the file's text into the output. Answers the text's length, which has no terminator. Refusals: 1, 3 to 12, 15; with SII_OUTPUT_SHORT
+ * `length` is the length that the output must have, which may be above 32 bits. Afterwards the output starts with the text, and its bytes beyond
+ * the text keep their values; after a refusal all of them do. The table is all 0. With NULL and length 0 for the output the call is a way to ask
+ * for the length: every text is longer than that, so it is refused with SII_OUTPUT_SHORT if nothing else is wrong.
  */
 SiiText sii_to_siin(const uint8_t *file, size_t file_len, uint32_t *table, size_t words, uint8_t *output, size_t output_len);
 

@@ -48,7 +48,7 @@ int main()
     expect("sii_blocks_by_prototype_name", number.number == SII_ABSENT && number.offset == 0);
     const SiiField field = sii_field_of(file, sizeof file, table, 3, 0, f, sizeof f);
     expect("sii_field_of", field.number == 0 && field.type_id == 0x27 && field.part_offset == 40 && field.part_len == 4);
-    const SiiElement element = sii_element_of(0x27, file + 40, 4, 0);
+    const SiiElement element = sii_element_of(2, 0x27, file + 40, 4, 0);
     expect("sii_element_of", element.number == 0 && element.kind == SII_KIND_U32 && element.value == 9);
     const SiiText text = sii_to_siin(file, sizeof file, table, 3, output, sizeof output);
     expect("sii_to_siin", text.number == 0 && text.length == 33);

@@ -1,7 +1,7 @@
 /*
  * What the header asks of the floating-point environment, and why: with another rounding mode, or with flushing to zero, the library's sums are
  * other ones, and so is the text, with number 0. With the environment as a program starts with it, they are the scope's. Floats that are no
- * placement's are the same in all modes. Exits with 1 if anything of this is not so.
+ * placement's, and placements of version 1, are the same in all modes. Exits with 1 if anything of this is not so.
  */
 #include <fenv.h>
 #include <stdio.h>
@@ -47,18 +47,21 @@ static void shows(const char *label, SiiText answer, const char *sums)
 
 enum { FLUSH_RESULTS = 0x8000, FLUSH_OPERANDS = 0x0040 };
 
-/* an array of floats, of every exponent and both signs, subnormal ones included: what is compared with the usual mode's */
+/* An array of floats of every exponent and both signs, subnormal ones included: what is compared with the usual mode's. Each element has `of_one`. */
 enum { PATTERNS = 512 * 5, HEAD = 40 };
 static uint8_t many[HEAD + 4 + 4 * PATTERNS + 5], texts[2][PATTERNS * 40];
 
-static size_t floats(void)
+static size_t floats(uint8_t version, uint8_t type_id, uint32_t of_one)
 {
     static const uint32_t fractions[] = {0, 1, 0x400000, 0x2aaaaa, 0x7fffff};
+    const uint32_t count = PATTERNS / of_one;
     size_t at, length = HEAD;
+    memset(many, 0, sizeof many);
     memcpy(many, file, HEAD);
-    many[22] = 0x06;
-    for (at = 0; at <= PATTERNS; at++) {
-        const uint32_t number = at == 0 ? PATTERNS : (uint32_t)((at - 1) / 5) << 23 | fractions[(at - 1) % 5];
+    many[4] = version;
+    many[22] = type_id;
+    for (at = 0; at <= count * of_one; at++) {
+        const uint32_t number = at == 0 ? count : (uint32_t)((at - 1) / 5) << 23 | fractions[(at - 1) % 5];
         int i;
         for (i = 0; i < 4; i++)
             many[length++] = (uint8_t)(number >> 8 * i);
@@ -72,11 +75,18 @@ static void set_mode(int rounding, unsigned flushing)
     _mm_setcsr(_mm_getcsr() | flushing);
 }
 
-static void only_placements(unsigned usual)
+static const int roundings[] = {FE_TONEAREST, FE_UPWARD, FE_DOWNWARD, FE_TOWARDZERO};
+static const unsigned flushings[] = {0, FLUSH_RESULTS, FLUSH_OPERANDS, FLUSH_RESULTS | FLUSH_OPERANDS};
+
+static int same_element(SiiElement x, SiiElement y)
 {
-    static const int roundings[] = {FE_TONEAREST, FE_UPWARD, FE_DOWNWARD, FE_TOWARDZERO};
-    static const unsigned flushings[] = {0, FLUSH_RESULTS, FLUSH_OPERANDS, FLUSH_RESULTS | FLUSH_OPERANDS};
-    const size_t length = floats();
+    return x.number == y.number && x.kind == y.kind && x.a == y.a && x.b == y.b && x.c == y.c && x.d == y.d && x.e == y.e && x.f == y.f && x.g == y.g;
+}
+
+/* The text of such an array is the same in all modes, and so is each element. */
+static void same_in_all_modes(const char *label, unsigned usual, uint8_t version, uint8_t type_id, uint32_t of_one)
+{
+    const size_t length = floats(version, type_id, of_one);
     uint32_t table[3];
     SiiText answers[2];
     size_t mode, at;
@@ -88,18 +98,20 @@ static void only_placements(unsigned usual)
         fesetround(FE_TONEAREST);
         _mm_setcsr(usual);
         if (answers[1].number != 0 || answers[1].length != answers[0].length || memcmp(texts[0], texts[1], answers[0].length) != 0) {
-            printf("floats in mode %lu: another text\n", (unsigned long)mode);
+            printf("%s in mode %lu: another text\n", label, (unsigned long)mode);
             failed = 1;
         }
-        for (at = 0; at < PATTERNS; at++) {
+        for (at = 0; at < PATTERNS / of_one; at++) {
+            const uint8_t *const part = many + HEAD + 4 + 4 * of_one * at;
+            /* an array's type is the single one's plus 1 */
             SiiElement elements[2];
-            elements[0] = sii_element_of(0x05, many + HEAD + 4 + 4 * at, 4, 0);
+            elements[0] = sii_element_of(version, type_id - 1u, part, 4 * of_one, 0);
             set_mode(roundings[mode / 4], flushings[mode % 4]);
-            elements[1] = sii_element_of(0x05, many + HEAD + 4 + 4 * at, 4, 0);
+            elements[1] = sii_element_of(version, type_id - 1u, part, 4 * of_one, 0);
             fesetround(FE_TONEAREST);
             _mm_setcsr(usual);
-            if (elements[1].number != 0 || elements[1].kind != SII_KIND_F32 || elements[1].a != elements[0].a) {
-                printf("floats in mode %lu: another element\n", (unsigned long)mode);
+            if (elements[0].number != 0 || !same_element(elements[0], elements[1])) {
+                printf("%s in mode %lu: another element\n", label, (unsigned long)mode);
                 failed = 1;
             }
         }
@@ -132,6 +144,8 @@ int main(void)
     shows("flushed to zero", answer, "1, 0, 0");
     shows("not flushed again", converted(), "1, 0, &1");
 
-    only_placements(usual);
+    same_in_all_modes("floats", usual, 2, 0x06, 1);
+    /* no sum is made of them */
+    same_in_all_modes("placements of version 1", usual, 1, 0x1a, 7);
     return failed;
 }

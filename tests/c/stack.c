@@ -1,8 +1,9 @@
 /*
  * How deep each call goes into the stack: it runs on a stack of its own, which was filled with a pattern, and the lowest byte that changed is
- * looked for. The file is that of the first argument, which has every type; then one with the prototype ids 0 and 1, which differ in the last
- * bit that the sort of the rows comes to, so that it goes as deep as it can. Prints the most bytes of all calls, and exits with 1 if that is
- * more than the second argument, the number that the header promises, or if a call answers otherwise than it must.
+ * looked for. The file is that of the first argument, which has every type; then one of version 1 with placements; then one with the prototype
+ * ids 0 and 1, which differ in the last bit that the sort of the rows comes to, so that it goes as deep as it can. Prints the most bytes of all
+ * calls, and exits with 1 if that is more than the second argument, the number that the header promises, or if a call answers otherwise than it
+ * must.
  */
 #define _XOPEN_SOURCE 700
 #include <stdio.h>
@@ -20,7 +21,7 @@ static size_t file_len;
 static ucontext_t here, there;
 static uintptr_t top;
 static int failed;
-/* what a look-up of a block answers: 0, or 13 in the file without blocks */
+/* what a look-up of a block answers: 0, or 13 in the files without that block */
 static uint32_t of_block;
 
 #define FILE_AND_TABLE file, file_len, table, sizeof table / sizeof table[0]
@@ -50,8 +51,15 @@ static void elements(void)
     for (at = 0; at < sizeof names / sizeof names[0]; at++) {
         SiiField field = sii_field_of(FILE_AND_TABLE, 0, (const uint8_t *)names[at], strlen(names[at]));
         expect(field.number);
-        expect(sii_element_of(field.type_id, file + field.part_offset, field.part_len, 0).number);
+        expect(sii_element_of(2, field.type_id, file + field.part_offset, field.part_len, 0).number);
     }
+}
+
+/* the two values of the file of version 1 */
+static void placements(void)
+{
+    expect(sii_element_of(1, 0x19, file + 49, 28, 0).number);
+    expect(sii_element_of(1, 0x1a, file + 77, 60, 1).number);
 }
 
 static void (*asked)(void);
@@ -91,6 +99,12 @@ int main(int count, char **words)
                                   "\0\0\0\0\1\0\0\0\0\0\0\0\0\0\0\0\0"
                                   "\0\0\0\0\1\1\0\0\0\0\0\0\0\0\0\0\0"
                                   "\0\0\0\0";
+    static const uint8_t version_1[] = "BSII\1\0\0\0"
+                                       "\0\0\0\0\1\1\0\0\0\1\0\0\0p\x19\0\0\0\1\0\0\0a\x1a\0\0\0\1\0\0\0b\0\0\0\0"
+                                       "\1\0\0\0\0"
+                                       "abcdefghijklmnopqrstuvwxyz01"
+                                       "\2\0\0\0ABCDEFGHIJKLMNOPQRSTUVWXYZ01abcdefghijklmnopqrstuvwxyz01"
+                                       "\0\0\0\0";
     const size_t how_many = sizeof calls / sizeof calls[0];
     size_t at, most, promised;
     FILE *in;
@@ -104,10 +118,15 @@ int main(int count, char **words)
     most = depth_of(elements);
     for (at = 0; at < how_many; at++)
         most = greater(most, depth_of(calls[at]));
-    /* the string's own zero is the end record's mark */
+    /* the strings' own zeros are the end records' marks */
+    of_block = SII_ABSENT;
+    memcpy(file, version_1, sizeof version_1);
+    file_len = sizeof version_1;
+    most = greater(most, depth_of(placements));
+    for (at = 0; at < how_many; at++)
+        most = greater(most, depth_of(calls[at]));
     memcpy(file, deep, sizeof deep);
     file_len = sizeof deep;
-    of_block = SII_ABSENT;
     for (at = 0; at < how_many; at++)
         most = greater(most, depth_of(calls[at]));
     printf("%lu\n", (unsigned long)most);

@@ -209,10 +209,10 @@ static void field(const uint8_t *bytes, size_t len, size_t words, uint64_t n, co
     end(loan, name);
 }
 
-static void element(uint32_t type_id, const void *part, size_t len, uint64_t index, SiiElement expected)
+static void element_in(uint32_t version, uint32_t type_id, const void *part, size_t len, uint64_t index, SiiElement expected)
 {
     Lent lent = lend_copy(part, len);
-    SiiElement got = sii_element_of(type_id, lent.start, lent.size, index);
+    SiiElement got = sii_element_of(version, type_id, lent.start, lent.size, index);
     equal("sii_element_of, number", expected.number, got.number);
     equal("sii_element_of, offset", expected.offset, got.offset);
     equal("sii_element_of, lacking", expected.lacking, got.lacking);
@@ -230,6 +230,20 @@ static void element(uint32_t type_id, const void *part, size_t len, uint64_t ind
     equal("sii_element_of, h", expected.h, got.h);
     same_bytes("part", part, lent.start, lent.size);
     give_back("around the part", lent);
+}
+
+/* other versions than 1: some have bytes of it */
+static const uint32_t versions[] = {2, 0, 3, 257, 0x01000000, 0x01000001, UINT32_MAX};
+enum { VERSIONS = sizeof versions / sizeof versions[0] };
+
+/* An element in every version but 1, and if it is no placement's in that one too. */
+static void element(uint32_t type_id, const void *part, size_t len, uint64_t index, SiiElement expected)
+{
+    size_t at;
+    for (at = 0; at < VERSIONS; at++)
+        element_in(versions[at], type_id, part, len, index, expected);
+    if (type_id != 0x19 && type_id != 0x1a)
+        element_in(1, type_id, part, len, index, expected);
 }
 
 /* TEXT is what the output must start with: "" for a refusal. */
@@ -446,7 +460,7 @@ static void cuts(void)
 /* bytes without a terminator, and how many */
 #define BYTES(literal) (literal), sizeof(literal) - 1
 
-/* cuts, by their offsets and lacking bytes: a name, a save with a u16 in two blocks, and a placement whose last float is cut */
+/* cuts, by their offsets and lacking bytes: a name, and a save with a u16 in two blocks */
 static void worked_cuts(void)
 {
     static const char save[] = "BSII\2\0\0\0"
@@ -454,11 +468,6 @@ static void worked_cuts(void)
                                "\3\0\0\0\0\5\0"
                                "\3\0\0\0\1\x22\0\0\0\0\0\0\0\7\0"
                                "\0\0\0\0";
-    static const char seven[] = "BSII\2\0\0\0"
-                                "\0\0\0\0\1\2\0\0\0\1\0\0\0j\x19\0\0\0\1\0\0\0w\0\0\0\0"
-                                "\2\0\0\0\0"
-                                "\0\0\x80\x3f\0\0\0\x80\0\0\0\x80\2\0\x80\x7f\0\0\0\0\0\0\xc0\x3f\0\0\0\xc0"
-                                "\0\0\0\0";
     const uint8_t *bytes = (const uint8_t *)save;
     cut("version", bytes, 5, 4, 3);
     cut("record number", bytes, 10, 8, 2);
@@ -470,7 +479,6 @@ static void worked_cuts(void)
     label = "save with a u16 in two blocks";
     /* the literals' own zeros are the end records' marks */
     reading(bytes, sizeof save, 3, (SiiReading){0, 0, 0, 1, 2, 62});
-    cut("placement of seven floats", (const uint8_t *)seven, sizeof seven, 72, 3);
 }
 
 /* The mark is there and is neither 0 nor 1, whatever stands behind it. */
@@ -502,7 +510,6 @@ static void damage(void)
 
     damaged("first byte", 0, 'b', SII_INVALID_HEADER, 0);
     damaged("fourth byte", 3, 'i', SII_INVALID_HEADER, 0);
-    damaged("version 1", 4, 1, SII_UNSUPPORTED_VERSION, 8);
     damaged("mark 2", 12, 2, SII_BAD_MARK, 12);
     damaged("prototype name not UTF-8", 21, 0xff, SII_NOT_UTF8, 21);
     damaged("field name not UTF-8", 34, 0xc3, SII_NOT_UTF8, 33);
@@ -646,6 +653,102 @@ static void the_file_with_vectors(void)
     }
 }
 
+static void set_version(uint8_t *file, uint32_t version)
+{
+    int i;
+    for (i = 0; i < 4; i++)
+        file[4 + i] = (uint8_t)(version >> 8 * i);
+}
+
+/* The version is no fault, and without placements it changes nothing. */
+static void every_version(void)
+{
+    size_t at;
+    for (at = 0; at <= VERSIONS; at++) {
+        start();
+        set_version(made, at < VERSIONS ? versions[at] : 1);
+        label = "worked file of another version";
+        reading(made, made_len, 3, (SiiReading){0, 0, 0, 1, 1, 82});
+        field(made, made_len, 3, 0, "w", (SiiField){0, 0, 0, 0x06, 65, 12});
+        converts(made, made_len, 3, worked_text);
+        cut("header alone", made, 8, 8, 4);
+        cut("header and a byte", made, 9, 8, 3);
+        cut("version without its last byte", made, 7, 4, 1);
+    }
+}
+
+/* a placement of seven floats, each of its cuts, and the same bytes in other versions: there the eighth float takes bytes of the end record */
+static void the_file_of_version_1(void)
+{
+    static const uint8_t file[] = {
+        'B', 'S', 'I', 'I', 1, 0, 0, 0,
+        0, 0, 0, 0, 1, 2, 0, 0, 0, 1, 0, 0, 0, 'j', 0x19, 0, 0, 0, 1, 0, 0, 0, 'w', 0, 0, 0, 0,
+        /* 35: the block, its id at 39, the value at 40 */
+        2, 0, 0, 0, 0,
+        0, 0, 0x80, 0x3f, 0, 0, 0, 0x80, 0, 0, 0, 0x80, 2, 0, 0x80, 0x7f, 0, 0, 0, 0, 0, 0, 0xc0, 0x3f, 0, 0, 0, 0xc0,
+        /* 68: the end record */
+        0, 0, 0, 0, 0,
+    };
+    const SiiElement seven = {
+        .kind = SII_KIND_SEVEN_F32, .a = 0x3f800000, .b = 0x80000000, .c = 0x80000000, .d = 0x7fc00000, .f = 0x3fc00000, .g = 0xc0000000};
+    uint8_t other[sizeof file];
+    size_t at, len, item;
+    label = "version 1";
+    reading(file, sizeof file, 3, (SiiReading){0, 0, 0, 1, 1, 73});
+    field(file, sizeof file, 3, 0, "w", (SiiField){0, 0, 0, 0x19, 40, 28});
+    converts(file, sizeof file, 3, "SiiNunit\n{\nj : null {\n  w: (1, -0, -0) (&7f800002; 0, &3fc00000, -2)\n}\n}\n");
+    element_in(1, 0x19, file + 40, 28, 0, seven);
+    element_in(1, 0x19, file + 40, 33, 0, seven);
+    element_in(1, 0x19, file + 40, 28, 1, no_element(SII_ABSENT, 0));
+    for (len = 0; len < 28; len++) {
+        item = len / 4 * 4;
+        cut("cut placement of version 1", file, 40 + len, 40 + item, item + 4 - len);
+        element_in(1, 0x19, file + 40, len, 0, cut_element(item, item + 4 - len));
+    }
+    element(0x19, file + 40, 28, 0, cut_element(28, 4));
+    for (at = 0; at < VERSIONS; at++) {
+        memcpy(other, file, sizeof file);
+        set_version(other, versions[at]);
+        cut("placement of seven floats in another version", other, sizeof other, 72, 3);
+    }
+}
+
+/* an array of placements of version 1, of seven floats each, and a field behind it */
+static void placements_of_version_1(void)
+{
+    static const uint8_t file[] = {
+        'B', 'S', 'I', 'I', 1, 0, 0, 0,
+        0, 0, 0, 0, 1, 2, 0, 0, 0, 1, 0, 0, 0, 'j', 0x1a, 0, 0, 0, 1, 0, 0, 0, 'w', 0x27, 0, 0, 0, 1, 0, 0, 0, 'n', 0, 0, 0, 0,
+        /* 44: the block, its id at 48, the values at 49 and 109 */
+        2, 0, 0, 0, 0,
+        2, 0, 0, 0,
+        0, 0, 0, 0x80, 0, 0, 0x80, 0x3f, 1, 0, 0xc0, 0xff, 0, 8, 0, 0x4b, 1, 0, 0, 0, 0, 0, 0, 0, 0, 0, 0, 0,
+        0, 0, 0x80, 0x7f, 0, 0, 0x80, 0xff, 0, 0, 0, 0x40, 0, 0, 0xc0, 0xbf, 0, 0, 0x80, 0x3f, 0, 0, 0, 0, 0, 0, 0, 0x80,
+        9, 0, 0, 0,
+        0, 0, 0, 0, 0,
+    };
+    const SiiElement first = {.kind = SII_KIND_SEVEN_F32, .a = 0x80000000, .b = 0x3f800000, .c = 0x7fc00000, .d = 0x4b000800, .e = 1};
+    const SiiElement second = {
+        .kind = SII_KIND_SEVEN_F32, .a = 0x7f800000, .b = 0xff800000, .c = 0x40000000, .d = 0xbfc00000, .e = 0x3f800000, .g = 0x80000000};
+    size_t len, item;
+    label = "array of version 1";
+    reading(file, sizeof file, 3, (SiiReading){0, 0, 0, 1, 1, 118});
+    field(file, sizeof file, 3, 0, "w", (SiiField){0, 0, 0, 0x1a, 49, 60});
+    field(file, sizeof file, 3, 0, "n", (SiiField){0, 0, 0, 0x27, 109, 4});
+    converts(file, sizeof file, 3,
+             "SiiNunit\n{\nj : null {\n  w: 2\n  w[0]: (-0, 1, &ffc00001) (8390656; &1, 0, 0)\n"
+             "  w[1]: (&7f800000, &ff800000, 2) (&bfc00000; 1, 0, -0)\n  n: 9\n}\n}\n");
+    element_in(1, 0x1a, file + 49, 60, 0, first);
+    element_in(1, 0x1a, file + 49, 60, 1, second);
+    element_in(1, 0x1a, file + 49, 60, 2, no_element(SII_ABSENT, 0));
+    for (len = 0; len < 60; len++) {
+        item = len / 4 * 4;
+        element_in(1, 0x1a, file + 49, len, 0, cut_element(item, item + 4 - len));
+    }
+    /* with two of eight floats the second one ends behind the field */
+    element(0x1a, file + 49, 60, 0, cut_element(60, 4));
+}
+
 /* The smallest file, and the smallest prototypes: 17 bytes each, without a name and without fields. */
 static void small_files(void)
 {
@@ -744,6 +847,8 @@ static void elements(void)
     element(0x18, BYTES("\1\0\0\0\1\0\0\0\2\0\0\0\3\0\0\0\4\0\0\0"), 0,
             (SiiElement){.kind = SII_KIND_FOUR_F32, .a = 1, .b = 2, .c = 3, .d = 4});
     element(0x19, BYTES("\1\0\0\0\2\0\0\0\3\0\0\0\4\0\0\0\5\0\0\0\6\0\0\0\7\0\0\0\x8\0\0\0"), 0,
+            (SiiElement){.kind = SII_KIND_PLACEMENT, .a = 1, .b = 2, .c = 3, .d = 4, .e = 5, .f = 6, .g = 7, .h = 8});
+    element(0x1a, BYTES("\1\0\0\0\1\0\0\0\2\0\0\0\3\0\0\0\4\0\0\0\5\0\0\0\6\0\0\0\7\0\0\0\x8\0\0\0"), 0,
             (SiiElement){.kind = SII_KIND_PLACEMENT, .a = 1, .b = 2, .c = 3, .d = 4, .e = 5, .f = 6, .g = 7, .h = 8});
     label = "whole numbers";
     element(0x11, BYTES("\1\0\0\0\xfe\xff\xff\xff\3\0\0\0"), 0, (SiiElement){.kind = SII_KIND_THREE_I32, .a = 1, .b = 0xfffffffe, .c = 3});
@@ -904,12 +1009,13 @@ static void layout(void)
 static void constants(void)
 {
     static const int refusals[] = {
-        SII_INVALID_HEADER, SII_UNSUPPORTED_VERSION, SII_MALFORMED, SII_NOT_UTF8, SII_ZERO_DIGIT, SII_UNDEFINED_PROTOTYPE, SII_UNLISTED_TYPE,
+        SII_INVALID_HEADER, 2 /* retired */, SII_MALFORMED, SII_NOT_UTF8, SII_ZERO_DIGIT, SII_UNDEFINED_PROTOTYPE, SII_UNLISTED_TYPE,
         SII_FIELD_COUNT, SII_ENUM_VALUE, SII_TABLE_FULL, SII_OUTPUT_SHORT, SII_INPUT_LONG, SII_ABSENT,
     };
     static const int kinds[] = {
         SII_KIND_STRING, SII_KIND_WORD, SII_KIND_F32, SII_KIND_TWO_F32, SII_KIND_THREE_F32, SII_KIND_THREE_I32, SII_KIND_FOUR_F32, SII_KIND_PLACEMENT,
         SII_KIND_I32, SII_KIND_U32, SII_KIND_U16, SII_KIND_I64, SII_KIND_U64, SII_KIND_BOOL, SII_KIND_ENUM, SII_KIND_ID,
+        SII_KIND_SEVEN_F32,
     };
     size_t at;
     label = "constants";
@@ -919,7 +1025,7 @@ static void constants(void)
     for (at = 0; at < sizeof kinds / sizeof kinds[0]; at++)
         equal("kind", at + 1, (uint64_t)kinds[at]);
     equal("length limit", 16777216, SII_LENGTH_LIMIT);
-    equal("version", 201, SII_VERSION_MAJOR * 10000 + SII_VERSION_MINOR * 100 + SII_VERSION_PATCH);
+    equal("version", 300, SII_VERSION_MAJOR * 10000 + SII_VERSION_MINOR * 100 + SII_VERSION_PATCH);
 }
 
 int main(void)
@@ -939,6 +1045,9 @@ int main(void)
         the_widened_file();
         the_redefined_file();
         the_file_with_vectors();
+        every_version();
+        the_file_of_version_1();
+        placements_of_version_1();
         small_files();
         the_length_limit();
         a_long_text();

@@ -11,7 +11,7 @@ SiiPrototype __real_sii_get_prototype(const uint8_t *, size_t, uint32_t *, size_
 SiiBlock __real_sii_block_at(const uint8_t *, size_t, uint32_t *, size_t, uint64_t);
 SiiNumber __real_sii_blocks_by_prototype_name(const uint8_t *, size_t, uint32_t *, size_t, const uint8_t *, size_t, uint64_t);
 SiiField __real_sii_field_of(const uint8_t *, size_t, uint32_t *, size_t, uint64_t, const uint8_t *, size_t);
-SiiElement __real_sii_element_of(uint32_t, const uint8_t *, size_t, uint64_t);
+SiiElement __real_sii_element_of(uint32_t, uint32_t, const uint8_t *, size_t, uint64_t);
 SiiText __real_sii_to_siin(const uint8_t *, size_t, uint32_t *, size_t, uint8_t *, size_t);
 
 SiiReading __wrap_sii_read(const uint8_t *file, size_t file_len, uint32_t *table, size_t words)
@@ -36,6 +36,9 @@ SiiReading __wrap_sii_read(const uint8_t *file, size_t file_len, uint32_t *table
 #elif WRONG == 21 /* a bad mark at its record */
     if (r.number == SII_BAD_MARK)
         r.offset -= 4;
+#elif WRONG == 31 /* 2 for version 1, where no more than the header is there */
+    if (r.number == SII_MALFORMED && file_len == 8 && memcmp(file + 4, "\1\0\0", 4) == 0)
+        return (SiiReading){.number = 2, .offset = 8};
 #endif
     return r;
 }
@@ -87,9 +90,16 @@ SiiField __wrap_sii_field_of(const uint8_t *file, size_t file_len, uint32_t *tab
     return r;
 }
 
-SiiElement __wrap_sii_element_of(uint32_t type_id, const uint8_t *part, size_t part_len, uint64_t index)
+SiiElement __wrap_sii_element_of(uint32_t version, uint32_t type_id, const uint8_t *part, size_t part_len, uint64_t index)
 {
-    SiiElement r = __real_sii_element_of(type_id, part, part_len, index);
+#if WRONG == 27 /* version 2 is assumed */
+    version = 2;
+#elif WRONG == 28 /* versions below 2 are read as 1 */
+    version = version < 2 ? 1 : version;
+#elif WRONG == 29 /* the first byte of the version counts */
+    version = (uint8_t)version;
+#endif
+    SiiElement r = __real_sii_element_of(version, type_id, part, part_len, index);
 #if WRONG == 11 /* a NaN as it stands */
     if (r.kind == SII_KIND_F32 && r.a == 0x7fc00000)
         r.a = 0xffc00001;
@@ -101,6 +111,9 @@ SiiElement __wrap_sii_element_of(uint32_t type_id, const uint8_t *part, size_t p
 #elif WRONG == 25 /* the element call without 0x0a and 0x17 */
     if (type_id == 0x0a || type_id == 0x17)
         return (SiiElement){.number = SII_UNLISTED_TYPE};
+#elif WRONG == 30 /* a placement of version 1 under the kind of eight floats */
+    if (r.kind == SII_KIND_SEVEN_F32)
+        r.kind = SII_KIND_PLACEMENT;
 #endif
     return r;
 }
@@ -110,6 +123,13 @@ SiiText __wrap_sii_to_siin(const uint8_t *file, size_t file_len, uint32_t *table
 #if WRONG == 20 /* an output of length 0 is looked at */
     volatile uint8_t first = output[0];
     (void)first;
+#elif WRONG == 32 /* version 1 is read as 2 */
+    static uint8_t other[128];
+    if (file_len > 4 && file_len <= sizeof other && file[4] == 1) {
+        memcpy(other, file, file_len);
+        other[4] = 2;
+        file = other;
+    }
 #endif
     SiiText r = __real_sii_to_siin(file, file_len, table, words, output, output_len);
 #if WRONG == 13 /* a terminator behind the text */

@@ -35,7 +35,8 @@ three words for each whole 17 bytes: rows-ORDER, prototypes alone, or
 blocks-ORDER, where the ORDER of the ids is rising, falling, random, low-equal,
 high-equal or reversed. Only with --write: triple, triples, quadruple or
 quadruples, a save of one vector type (0x09, 0x0a, 0x17, 0x18), two of which the
-Rust does not read.
+Rust does not read; placement or placements, one of placements (0x19, 0x1a), and
+placement-1 or placements-1, the same in version 1, which the Rust does not read.
 
 Exit status: 0 if all was measured, 1 if the two texts differ or something
 failed, 2 for bad usage.

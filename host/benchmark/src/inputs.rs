@@ -60,7 +60,7 @@ pub fn is_larger(name: &str) -> bool {
     orders::all().any(|larger| larger.name == name)
 }
 
-/// The one of that name that can be written: one of those that are measured, or of one vector type.
+/// The one of that name that can be written: one of those that are measured, or of one type.
 pub fn to_write(name: &str) -> Option<Input> {
     by_name(name).or_else(|| vectors::all().find(|input| input.name == name))
 }

@@ -22,6 +22,8 @@ pub mod kind {
     pub const BOOL: u32 = 14;
     pub const ENUM: u32 = 15;
     pub const ID: u32 = 16;
+    /// A placement in version 1.
+    pub const SEVEN_F32: u32 = 17;
 }
 
 #[repr(C)]
@@ -151,6 +153,7 @@ pub fn parts_of(kind: u32) -> usize {
         kind::TWO_F32 => 2,
         kind::THREE_F32 | kind::THREE_I32 => 3,
         kind::FOUR_F32 => 4,
+        kind::SEVEN_F32 => 7,
         kind::PLACEMENT => 8,
         _ => 0,
     }

@@ -31,8 +31,9 @@ pub enum Call<'a> {
         block: u64,
         name: &'a [u8],
     },
-    /// Takes no file and no table.
+    /// Takes no file and no table; the version is that of the file which the value stands in.
     ElementOf {
+        version: u32,
         type_id: u32,
         part: &'a [u8],
         index: u64,

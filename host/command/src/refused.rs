@@ -22,8 +22,7 @@ pub fn message(
         let sentence = sentence(content, question, refusal, None);
         return format!("sii-decode: {name}: refused {number} at {offset}: {sentence}\n").into();
     }
-    // A fault of the first eight bytes lies in no record.
-    let place = walk::place_of(content, offset).filter(|_| number > 2);
+    let place = walk::place_of(content, offset);
     let sentence = sentence(content, question, refusal, place.as_ref());
     let first =
         format!("sii-decode: {name}: refused {number} at {offset} (0x{offset:08x}): {sentence}\n");
@@ -158,9 +157,11 @@ mod tests {
     use super::*;
     use sii_decode::DataField;
 
-    fn garage() -> Vec<u8> {
+    /// Of version 2, and of version 1.
+    fn samples() -> [Vec<u8>; 2] {
         let root = std::path::Path::new(env!("CARGO_MANIFEST_DIR")).join("../..");
-        std::fs::read(root.join("samples/garage.bsii")).unwrap()
+        let read = |name| std::fs::read(root.join(name)).unwrap();
+        ["samples/garage.bsii", "samples/depot.bsii"].map(read)
     }
 
     /// How the place goes with the refusal's number.
@@ -177,7 +178,15 @@ mod tests {
             _ => None,
         };
         let field = block.as_ref().and_then(|block| block.field);
-        let kind = field.map(|(_, type_id)| DataField { type_id, part: b"" }.kind_name());
+        let kind = field.map(|(_, type_id)| {
+            let (version, part) = (2, &[][..]);
+            let field = DataField {
+                version,
+                type_id,
+                part,
+            };
+            field.kind_name()
+        });
         match number {
             3 => assert!(is_told && refusal.lacking > 0),
             6 => assert!(block.unwrap().prototype.is_none()),
@@ -188,10 +197,9 @@ mod tests {
         }
     }
 
-    /// Every byte of the sample replaced, and the sample cut at every byte.
+    /// Every byte of the samples replaced, and the samples cut at every byte.
     #[test]
     fn damaged_saves() {
-        let whole = garage();
         let mut seen = [0; 16];
         let mut try_one = |bytes: &[u8]| {
             if let Err(refusal) = sii_decode::to_siin(bytes) {
@@ -199,15 +207,18 @@ mod tests {
                 check(bytes, &refusal);
             }
         };
-        for at in 0..whole.len() {
-            try_one(&whole[..at]);
-            for byte in [0, 1, 2, 8, 0x26, 0x37, 0x7f, 0xff] {
-                let mut bytes = whole.clone();
-                bytes[at] = byte;
-                try_one(&bytes);
+        for whole in samples() {
+            for at in 0..whole.len() {
+                try_one(&whole[..at]);
+                for byte in [0, 1, 2, 8, 0x26, 0x37, 0x7f, 0xff] {
+                    let mut bytes = whole.clone();
+                    bytes[at] = byte;
+                    try_one(&bytes);
+                }
             }
         }
-        for number in [1, 2, 3, 4, 5, 6, 7, 9, 15] {
+        assert_eq!(seen[2], 0);
+        for number in [1, 3, 4, 5, 6, 7, 9, 15] {
             assert!(seen[number] > 0, "{number}: {seen:?}");
         }
     }

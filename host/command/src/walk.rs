@@ -31,13 +31,24 @@ pub struct Block<'a> {
     pub field: Option<(&'a [u8], u32)>,
 }
 
-/// Bytes from a position on.
+/// Bytes from a position on, and the version by which the floats of a placement are counted.
 struct Reader<'a> {
     content: &'a [u8],
     at: usize,
+    version: u32,
 }
 
 impl<'a> Reader<'a> {
+    /// A save that ends in front of its version has no value to read by it.
+    fn new(content: &'a [u8], at: usize) -> Reader<'a> {
+        let bytes = content.get(4..8).and_then(|bytes| bytes.try_into().ok());
+        Reader {
+            content,
+            at,
+            version: bytes.map_or(0, u32::from_le_bytes),
+        }
+    }
+
     fn bytes(&mut self, count: usize) -> Option<&'a [u8]> {
         let bytes = self.content.get(self.at..self.at.checked_add(count)?)?;
         self.at += count;
@@ -88,8 +99,16 @@ impl<'a> Reader<'a> {
 
     /// A value; none if it runs out, or if the type is unlisted.
     fn value(&mut self, type_id: u32) -> Option<()> {
-        let array = DataField { type_id, part: &[] }.is_array();
-        let count = if array { self.number()? as usize } else { 1 };
+        let field = DataField {
+            version: self.version,
+            type_id,
+            part: &[],
+        };
+        let count = if field.is_array() {
+            self.number()? as usize
+        } else {
+            1
+        };
         let size = match type_id {
             0x01 | 0x02 => return (0..count).try_for_each(|_| self.string().map(|_| ())),
             0x39..=0x3d => return (0..count).try_for_each(|_| self.id()),
@@ -99,6 +118,7 @@ impl<'a> Reader<'a> {
             0x03 | 0x04 | 0x07 | 0x31..=0x34 => 8,
             0x09 | 0x0a | 0x11 | 0x12 => 12,
             0x17 | 0x18 => 16,
+            0x19 | 0x1a if self.version == 1 => 28,
             0x19 | 0x1a => 32,
             _ => return None,
         };
@@ -137,7 +157,7 @@ pub fn place_of(content: &[u8], offset: u64) -> Option<Place<'_>> {
     if (4..8).contains(&offset) {
         return Some(Place::Version);
     }
-    let mut reader = Reader { content, at: 8 };
+    let mut reader = Reader::new(content, 8);
     let mut prototypes: HashMap<u32, Prototype> = HashMap::new();
     let mut blocks = 0;
     while reader.at <= offset {
@@ -171,7 +191,7 @@ pub fn place_of(content: &[u8], offset: u64) -> Option<Place<'_>> {
 pub fn defines(content: &[u8], name_offset: usize, field: &[u8]) -> bool {
     // in front of the name stand its length and the id
     let at = name_offset.saturating_sub(8);
-    let prototype = Reader { content, at }.prototype();
+    let prototype = Reader::new(content, at).prototype();
     prototype.is_some_and(|(_, prototype)| prototype.fields.iter().any(|(name, _)| *name == field))
 }
 
@@ -287,29 +307,29 @@ mod tests {
         assert!(!defines(&file, 1000, b"s"));
     }
 
-    /// The walk skips every type as the library does: the last value of a value's bytes is found.
+    /// The walk skips every type as the library does, in version 1 too: the last value of a value's bytes
+    /// is found.
     #[test]
-    fn every_type_of_the_sample() {
+    fn every_type_of_the_samples() {
         let root = std::path::Path::new(env!("CARGO_MANIFEST_DIR")).join("../..");
-        let bytes = std::fs::read(root.join("samples/garage.bsii")).unwrap();
-        let file = sii_decode::BsiiFile::parse(&bytes).unwrap();
+        for name in ["samples/garage.bsii", "samples/depot.bsii"] {
+            every_value(&std::fs::read(root.join(name)).unwrap());
+        }
+    }
+
+    fn every_value(bytes: &[u8]) {
+        let file = sii_decode::BsiiFile::parse(bytes).unwrap();
         let start = bytes.as_ptr() as usize;
         for block in file.blocks() {
             let name = block.prototype(&file).unwrap().name;
-            let names = Reader {
-                content: &bytes,
-                at: name.as_ptr() as usize - start - 8,
-            }
-            .prototype()
-            .unwrap()
-            .1
-            .fields;
+            let at = name.as_ptr() as usize - start - 8;
+            let names = Reader::new(bytes, at).prototype().unwrap().1.fields;
             assert!(!names.is_empty());
             for (field, type_id) in names {
                 let part = block.field(&file, field).unwrap().part;
                 let first = part.as_ptr() as usize - start;
                 for offset in [first, first + part.len() - 1] {
-                    let found = block_of(&bytes, offset as u64);
+                    let found = block_of(bytes, offset as u64);
                     assert_eq!(
                         (found.number, found.field),
                         (block.number, Some((field, type_id)))

@@ -23,9 +23,9 @@ impl Comparison {
     /// A file and a random value; see `whole` and `element`.
     pub fn file(&mut self, file: &[u8], random: &mut Random, tally: &mut Tally) -> Check {
         self.whole(file, random, tally)?;
-        let (type_id, part) = generate::element(random);
+        let (version, type_id, part) = generate::element(random);
         let index = random.below(6) as u64;
-        self.element(type_id, &part, index, tally)
+        self.element(version, type_id, &part, index, tally)
     }
 
     /// `random` decides only what is asked beyond the fixed questions.
@@ -51,8 +51,15 @@ impl Comparison {
     }
 
     /// The element call on bytes that no file vouches for.
-    pub fn element(&mut self, type_id: u32, part: &[u8], index: u64, tally: &mut Tally) -> Check {
-        element_fault(type_id, part, tally)?;
+    pub fn element(
+        &mut self,
+        version: u32,
+        type_id: u32,
+        part: &[u8],
+        index: u64,
+        tally: &mut Tally,
+    ) -> Check {
+        element_fault(version, type_id, part, tally)?;
         let Some(library) = &mut self.library else {
             return Ok(());
         };
@@ -62,6 +69,6 @@ impl Comparison {
             file: &[],
             tally,
         };
-        pair.element(type_id, part, index)
+        pair.element(version, type_id, part, index)
     }
 }

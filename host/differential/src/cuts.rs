@@ -51,6 +51,8 @@ impl Cuts {
 /// A save and what is known of it.
 struct Whole {
     made: Made,
+    /// The save's, if it is read.
+    version: u32,
     /// Words enough for it, and none too many.
     words: usize,
     /// The offset after its end record; none if it is not read.
@@ -65,7 +67,7 @@ impl Whole {
         let nothing = Parsed::default();
         let next = parsed.as_ref().ok().map(|parsed| parsed.next);
         let parsed = parsed.unwrap_or(&nothing);
-        let words = 3 * parsed.prototypes.len();
+        let (version, words) = (parsed.version, 3 * parsed.prototypes.len());
         let values = parsed.blocks.iter().flat_map(|block| &block.values);
         let values = values.map(|value| {
             let start = value.place.offset;
@@ -74,6 +76,7 @@ impl Whole {
         let values = values.collect();
         Whole {
             made,
+            version,
             words,
             next,
             values,
@@ -146,6 +149,7 @@ impl<'a, 'b> Asked<'a, 'b> {
         self.same("a whole save", String::new, found, (0, 0, 0))?;
         self.counts.saves += 1;
         self.counts.bytes += file.len() as u64;
+        self.counts.version_1 += u64::from(whole.version == 1);
         match next <= EACH {
             true => (4..next).try_for_each(|kept| self.cut(whole, next, kept))?,
             false => {
@@ -224,7 +228,7 @@ impl<'a, 'b> Asked<'a, 'b> {
         };
         let part = &whole.made.bytes[start..kept];
         let index = self.random.below(3) as u64;
-        let found = self.side.element(type_id, part, index);
+        let found = self.side.element(whole.version, type_id, part, index);
         let found = (found.number, found.offset + start as u64, found.lacking);
         let asked = || format!("type {type_id:#x} at {start}, cut at {kept}");
         self.counts.values += 1;

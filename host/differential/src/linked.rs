@@ -19,10 +19,11 @@ impl Implementation for Linked {
                 Answer::Field(library::field_of(file, table, block, name))
             }
             Call::ElementOf {
+                version,
                 type_id,
                 part,
                 index,
-            } => Answer::Element(library::element_of(type_id, part, index)),
+            } => Answer::Element(library::element_of(version, type_id, part, index)),
             Call::ToSiin => Answer::Text(library::to_siin(file, table, out)),
         }
     }

@@ -75,29 +75,29 @@ impl Pair<'_, '_> {
                 if field.number == 0 {
                     let start = field.part_offset as usize;
                     let part = &self.file[start..start + field.part_len as usize];
-                    self.elements(field.type_id, part)?;
+                    self.elements(plan.version, field.type_id, part)?;
                 }
             }
         }
         Ok(())
     }
 
-    fn elements(&mut self, type_id: u32, part: &[u8]) -> Check {
+    fn elements(&mut self, version: u32, type_id: u32, part: &[u8]) -> Check {
         let mut count = 0;
-        while count < 8 && self.model.element(type_id, part, count).number == 0 {
+        while count < 8 && self.model.element(version, type_id, part, count).number == 0 {
             count += 1;
         }
         for index in indices(count) {
-            self.element(type_id, part, index)?;
+            self.element(version, type_id, part, index)?;
         }
         Ok(())
     }
 
     /// The element call with any bytes.
-    pub fn element(&mut self, type_id: u32, part: &[u8], index: u64) -> Check {
-        let found = self.library.element(type_id, part, index);
-        let expected = self.model.element(type_id, part, index);
-        let asked = || format!("type {type_id:#x}, index {index}, {part:02x?}");
+    pub fn element(&mut self, version: u32, type_id: u32, part: &[u8], index: u64) -> Check {
+        let found = self.library.element(version, type_id, part, index);
+        let expected = self.model.element(version, type_id, part, index);
+        let asked = || format!("version {version}, type {type_id:#x}, index {index}, {part:02x?}");
         self.tally.same((WHO, "element"), asked, found, expected)
     }
 
@@ -164,8 +164,9 @@ impl Pair<'_, '_> {
 }
 
 /// A faulty value's reply is the Rust's reply to a file whose only block starts with that value.
-pub fn element_fault(type_id: u32, part: &[u8], tally: &mut Tally) -> Check {
+pub fn element_fault(version: u32, type_id: u32, part: &[u8], tally: &mut Tally) -> Check {
     let call = Call::ElementOf {
+        version,
         type_id,
         part,
         index: 0,
@@ -175,7 +176,8 @@ pub fn element_fault(type_id: u32, part: &[u8], tally: &mut Tally) -> Check {
     if type_id == 0 || !matches!(refused, 3 | 4 | 5 | 7) {
         return Ok(());
     }
-    let mut file = b"BSII\x02\0\0\0\0\0\0\0\x01\x01\0\0\0\0\0\0\0".to_vec();
+    let mut file = [b"BSII", &version.to_le_bytes()[..]].concat();
+    file.extend(b"\0\0\0\0\x01\x01\0\0\0\0\0\0\0");
     file.extend(type_id.to_le_bytes());
     let empty_list = if type_id == 0x37 { 4 } else { 0 };
     file.extend(vec![0; 4 + empty_list + 4]);
@@ -185,6 +187,6 @@ pub fn element_fault(type_id: u32, part: &[u8], tally: &mut Tally) -> Check {
     let parsed = stand_in.parse();
     stand_in.stops(&parsed, tally)?;
     let rust = parsed.err().and_then(|fault| fault.number()).unwrap_or(0);
-    let asked = || format!("type {type_id:#x}, {part:02x?}");
+    let asked = || format!("version {version}, type {type_id:#x}, {part:02x?}");
     tally.same(("model and Rust", "faulty value"), asked, refused, rust)
 }

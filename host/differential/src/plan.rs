@@ -6,6 +6,8 @@ use model::{Model, Place};
 pub const TEXT_MEMORY: u64 = 64 << 20;
 
 pub struct Plan {
+    /// The file's, if it is accepted.
+    pub version: u32,
     pub names: Vec<Vec<u8>>,
     pub ids: Vec<u32>,
     pub blocks: Vec<u64>,
@@ -18,6 +20,7 @@ pub struct Plan {
 impl Plan {
     pub fn new(model: &mut Model, file: &[u8]) -> Plan {
         let mut plan = Plan {
+            version: 0,
             names: vec![b"".to_vec(), b"nowhere".to_vec(), vec![0xff]],
             ids: vec![0, 1, 0xffff_ffff],
             blocks: vec![0, u64::MAX, 1 << 32],
@@ -27,6 +30,7 @@ impl Plan {
         };
         if let Ok(parsed) = model.parsed(file, usize::MAX) {
             let name = |place: &Place| place.of(file).to_vec();
+            plan.version = parsed.version;
             plan.names.extend(parsed.names.iter().map(name));
             plan.ids.extend(parsed.prototypes.iter().map(|p| p.id));
             plan.blocks.extend(0..=parsed.blocks.len() as u64);

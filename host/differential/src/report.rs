@@ -39,6 +39,11 @@ pub enum Exception {
     /// A block carries 0x0a or 0x17, and the Rust stops at the `todo!` of that type: it is asked about
     /// a stand-in of the file, see `stand_in.rs`.
     TodoType,
+    /// The file has version 1, which the Rust refuses: it is asked about a stand-in of the file.
+    Version1,
+    /// f1 or f3 of a placement of version 1 is minus zero or a NaN, which the stand-in's sums with 0
+    /// do not keep: the Rust's text is left out.
+    Version1Sum,
 }
 
 /// Places that are compared like all others, counted since the Rust gets there only in this build.
@@ -60,6 +65,8 @@ impl Exception {
             Exception::PlacementNan => "placement-nan",
             Exception::ElementNan => "element-nan",
             Exception::TodoType => "todo-type",
+            Exception::Version1 => "version-1",
+            Exception::Version1Sum => "version-1-sum",
         }
     }
 }

@@ -61,8 +61,9 @@ impl<'a> Side<'a> {
         self.with_table(call, file, words, &mut [])
     }
 
-    pub fn element(&mut self, type_id: u32, part: &[u8], index: u64) -> Element {
+    pub fn element(&mut self, version: u32, type_id: u32, part: &[u8], index: u64) -> Element {
         let call = Call::ElementOf {
+            version,
             type_id,
             part,
             index,

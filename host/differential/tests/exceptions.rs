@@ -3,7 +3,7 @@
 use calls::LENGTH_LIMIT;
 use differential::compare::Comparison;
 use differential::report::Tally;
-use generate::bytes::{array, block, definition, file, floats, one_value, prototype, string};
+use generate::bytes::*;
 use generate::Random;
 
 /// The summary's line of exceptions after one file, which shows no difference.
@@ -114,4 +114,34 @@ fn todo_in_a_file_above_the_limit() {
     assert_eq!(exceptions(&file), ONE);
     file.push(0);
     assert_eq!(exceptions(&file), "exceptions  length-limit: 1");
+}
+
+#[test]
+fn version_1() {
+    const VERSION: &str = "exceptions  version-1: 1";
+    let whole = worked_version_1();
+    let all = "exceptions  element-nan: 1, version-1: 1, version-1-sum: 1";
+    assert_eq!(exceptions(&whole), all);
+    for kept in 0..whole.len() {
+        let expected = if kept < 8 { NONE } else { VERSION };
+        assert_eq!(exceptions(&whole[..kept]), expected, "{kept} bytes");
+    }
+    for version in [0, 2, 3, 257, 0x0100_0001, u32::MAX] {
+        assert_eq!(exceptions(&file_of(version, &[])), NONE);
+    }
+    assert_eq!(exceptions(b"bSII\x01\0\0\0"), NONE);
+    assert_eq!(exceptions(&file_of(1, &[])), VERSION);
+    // Sums that the Rust makes as in version 1, and a type that it has no row for.
+    let fields = [definition(0x1a, b"a"), definition(0x17, b"r")];
+    let floats = |floats: [f32; 7]| floats.map(f32::to_le_bytes).concat();
+    let placements = [
+        floats([1.0, -0.0, 0.5, -1.5, 0.0, -0.0, 1e7]),
+        floats([0.0, 1.0, f32::INFINITY, 4096.0, 2.0, 3.0, 4.0]),
+    ];
+    let values = [array(&placements), vec![0; 16]].concat();
+    let records = [prototype(1, b"p", &fields), block(1, &values)];
+    assert_eq!(exceptions(&file_of(1, &records)), VERSION);
+    let mut long = whole;
+    long.resize(LENGTH_LIMIT + 1, 0);
+    assert_eq!(exceptions(&long), "exceptions  length-limit: 1");
 }

@@ -48,9 +48,18 @@ enum Fault {
     ThreesAsOne,
     SingleFourWithCommas,
     ElementUnlisted,
+    SevenAsEight,
+    BelowTwoAsOne,
+    VersionByItsFirstByte,
+    SumsInVersion1,
+    ZeroAddedInVersion1,
+    ElementAssumesTwo,
+    SevenWithAnEighth,
+    TwoForVersion1,
+    TwoForTheHeaderAlone,
 }
 
-const FAULTS: [Fault; 38] = [
+const FAULTS: [Fault; 47] = [
     Fault::RefusesEach,
     Fault::FindsNoName,
     Fault::FirstBlockForAll,
@@ -89,6 +98,15 @@ const FAULTS: [Fault; 38] = [
     Fault::ThreesAsOne,
     Fault::SingleFourWithCommas,
     Fault::ElementUnlisted,
+    Fault::SevenAsEight,
+    Fault::BelowTwoAsOne,
+    Fault::VersionByItsFirstByte,
+    Fault::SumsInVersion1,
+    Fault::ZeroAddedInVersion1,
+    Fault::ElementAssumesTwo,
+    Fault::SevenWithAnEighth,
+    Fault::TwoForVersion1,
+    Fault::TwoForTheHeaderAlone,
 ];
 
 struct Impostor {
@@ -152,6 +170,7 @@ impl Implementation for Impostor {
         let answer = self.model.answer(asked, lent);
         self.spoil_table(table, answer.number());
         let answer = self.cut_or_mark(answer, call, file);
+        let answer = self.retired(answer, call, file);
         match answer {
             Answer::Reading(answer) => Answer::Reading(self.reading(answer, file)),
             Answer::Prototype(answer) => Answer::Prototype(self.prototype(answer)),
@@ -170,9 +189,23 @@ impl Impostor {
         parsed.map_or(0, |parsed| parsed.blocks.len() as u64)
     }
 
-    /// The file with another type in each definition of one of 0x0a and 0x17.
+    /// What the model is given for a version.
+    fn version(&self, version: u32) -> u32 {
+        match (self.fault, version) {
+            (Fault::SevenAsEight, 1) => 2,
+            (Fault::BelowTwoAsOne, 0) => 1,
+            (Fault::VersionByItsFirstByte, _) => version & 0xff,
+            _ => version,
+        }
+    }
+
+    /// The file with another version, or another type in each definition of one of 0x0a and 0x17.
     fn retyped(&mut self, file: &[u8]) -> Vec<u8> {
         let mut read = file.to_vec();
+        if let Some(bytes) = read.get_mut(4..8) {
+            let version = u32::from_le_bytes(bytes.try_into().unwrap());
+            bytes.copy_from_slice(&self.version(version).to_le_bytes());
+        }
         for (at, type_id) in &self.model.in_front_of_fault(file).types {
             let other = match (self.fault, type_id) {
                 (Fault::SingleFourCounted, 0x17) => 0x18,
@@ -217,8 +250,59 @@ impl Impostor {
             {
                 Call::FieldOf { block: 0, name }
             }
+            Call::ElementOf {
+                version,
+                type_id,
+                part,
+                index,
+            } => Call::ElementOf {
+                version: match self.fault {
+                    Fault::ElementAssumesTwo => 2,
+                    _ => self.version(version),
+                },
+                type_id,
+                part,
+                index,
+            },
             call => call,
         }
+    }
+
+    /// Reply 2 where it stood.
+    fn retired(&self, answer: Answer, call: Call<'_>, file: &[u8]) -> Answer {
+        let is_version_1 = file.starts_with(b"BSII\x01\0\0\0");
+        let is_asked = match self.fault {
+            Fault::TwoForVersion1 => is_version_1,
+            Fault::TwoForTheHeaderAlone => is_version_1 && file.len() == 8,
+            _ => false,
+        };
+        match call {
+            Call::ElementOf { .. } => answer,
+            _ if is_asked => answer.refused(2, 8),
+            _ => answer,
+        }
+    }
+
+    /// A file of version 1 as one of version 2, with an f4 in each placement, which the bytes behind it
+    /// decide.
+    fn with_sums(&mut self, file: &[u8], f4: fn(&[u8]) -> &[u8]) -> Vec<u8> {
+        let parsed = self.model.parsed(file, usize::MAX).expect("it answered");
+        let (mut read, mut from) = (b"BSII\x02\0\0\0".to_vec(), 8);
+        for value in parsed.blocks.iter().flat_map(|block| &block.values) {
+            let (start, end) = (value.place.offset, value.place.offset + value.place.len);
+            let first = match value.type_id {
+                0x19 => start + 12,
+                0x1a => start + 16,
+                _ => continue,
+            };
+            for at in (first..end).step_by(28) {
+                read.extend_from_slice(&file[from..at]);
+                read.extend_from_slice(f4(&file[at..]));
+                from = at;
+            }
+        }
+        read.extend_from_slice(&file[from..]);
+        read
     }
 
     /// What is wrong about replies 3 and 15.
@@ -246,13 +330,20 @@ impl Impostor {
 
     /// Of a value that runs out, the bytes that are lacking of all of it, if the rest are zeros.
     fn lacking_of_all(&mut self, call: Call<'_>, lacking: u64) -> u64 {
-        let Call::ElementOf { type_id, part, .. } = call else {
+        let Call::ElementOf {
+            version,
+            type_id,
+            part,
+            ..
+        } = call
+        else {
             return lacking;
         };
         let mut whole = part.to_vec();
         for more in 1..=64 {
             whole.push(0);
             let call = Call::ElementOf {
+                version,
                 type_id,
                 part: &whole,
                 index: 0,
@@ -320,6 +411,7 @@ impl Impostor {
 
     fn element(&mut self, whole: Element, call: Call<'_>) -> Element {
         let Call::ElementOf {
+            version,
             type_id,
             part,
             index,
@@ -332,6 +424,7 @@ impl Impostor {
                 let mut less = part.to_vec();
                 less[..4].copy_from_slice(&(index as u32).saturating_add(1).to_le_bytes());
                 let call = Call::ElementOf {
+                    version,
                     type_id,
                     part: &less,
                     index,
@@ -347,6 +440,10 @@ impl Impostor {
                 ..whole
             },
             Fault::ElementUnlisted if matches!(type_id, 0x0a | 0x17) => Element::refused(7, 0),
+            Fault::SevenWithAnEighth if whole.kind == calls::kind::SEVEN_F32 => Element {
+                kind: calls::kind::PLACEMENT,
+                ..whole
+            },
             Fault::NanKeepsItsBits if type_id == 5 && whole.number == 0 => {
                 let bits = u32::from_le_bytes(part[..4].try_into().unwrap());
                 Element {
@@ -380,17 +477,38 @@ impl Impostor {
                 answer.length = 13;
             }
             (Fault::FirstBlocksText, 0) => {
-                out.copy_from_slice(before);
                 let text = self.first_block_repeated(file);
-                answer.length = text.len() as u64;
-                match out.get_mut(..text.len()) {
-                    Some(start) => start.copy_from_slice(&text),
-                    None => answer.number = 11,
-                }
+                answer = in_place_of_text(&text, out, before);
+            }
+            (Fault::SumsInVersion1 | Fault::ZeroAddedInVersion1, 0)
+                if file.starts_with(b"BSII\x01\0\0\0") =>
+            {
+                let f4: fn(&[u8]) -> &[u8] = match self.fault {
+                    Fault::SumsInVersion1 => |behind| &behind[..4],
+                    _ => |_| b"\0\x08\0\x4b",
+                };
+                let summed = self.with_sums(file, f4);
+                let made = self.model.whole_text(&summed, usize::MAX);
+                let (text, _, _) = made.expect("as many fields");
+                answer = in_place_of_text(&text, out, before);
             }
             _ => {}
         }
         answer
+    }
+}
+
+/// Another text than the one that was written, if there is room for it.
+fn in_place_of_text(text: &[u8], out: &mut [u8], before: &[u8]) -> Text {
+    out.copy_from_slice(before);
+    let fits = text.len() <= out.len();
+    if fits {
+        out[..text.len()].copy_from_slice(text);
+    }
+    Text {
+        number: if fits { 0 } else { 11 },
+        length: text.len() as u64,
+        ..Text::default()
     }
 }
 
@@ -424,10 +542,17 @@ fn the_model_passes_as_a_library() {
     assert_eq!(differences(None, 5000).next(), None);
 }
 
-/// Types that the Rust's reader stops at: it still says how they are read and written, by a stand-in.
+/// Types that the Rust's reader stops at, and version 1: it still says how they are read and written,
+/// by a stand-in.
 #[test]
-fn the_rust_finds_wrong_todo_types() {
+fn the_rust_finds_them_by_a_stand_in() {
     for (fault, call) in [
+        (Fault::SevenAsEight, "reading"),
+        (Fault::SumsInVersion1, "text"),
+        (Fault::ElementAssumesTwo, "element"),
+        (Fault::SevenWithAnEighth, "element"),
+        (Fault::TwoForVersion1, "reading"),
+        (Fault::TwoForTheHeaderAlone, "class of a refused file"),
         (Fault::SingleFourCounted, "reading"),
         (Fault::ThreesAsOne, "reading"),
         (Fault::SingleFourWithCommas, "text"),

@@ -18,6 +18,8 @@ enum Fault {
     OldCounts,
     OldText,
     RefusesNew,
+    /// Reads a save of version 1 as one of version 2.
+    LosesTheVersion,
     DropsALine,
     InsertedFieldsLast,
     InsertedBlocksLast,
@@ -32,7 +34,7 @@ enum Fault {
 }
 
 /// Each with the check that finds it out first.
-const FAULTS: [(Fault, &str); 18] = [
+const FAULTS: [(Fault, &str); 19] = [
     (Fault::GuessesLength, "a field after"),
     (Fault::OldNumbers, "a field after"),
     (Fault::OldPositions, "a field after"),
@@ -40,6 +42,7 @@ const FAULTS: [(Fault, &str); 18] = [
     (Fault::OldCounts, "reading"),
     (Fault::OldText, "an inserted part"),
     (Fault::RefusesNew, "reading"),
+    (Fault::LosesTheVersion, "reading"),
     (Fault::DropsALine, "the old text"),
     (Fault::InsertedFieldsLast, "an inserted part"),
     (Fault::InsertedBlocksLast, "an inserted part"),
@@ -91,8 +94,12 @@ impl Implementation for Impostor {
         } else {
             call
         };
+        let mut read = file.to_vec();
+        if is_new && self.fault == Fault::LosesTheVersion && self.new.version == 1 {
+            read[4] = 2;
+        }
         let whole = Lent {
-            file,
+            file: &read,
             table,
             out: &mut *out,
         };

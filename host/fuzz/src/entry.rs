@@ -12,8 +12,10 @@ const WRONG: &str = "SII_FUZZ_WRONG";
 static HARNESS: LazyLock<Mutex<Harness>> =
     LazyLock::new(|| Mutex::new(Harness::new(std::env::var_os(WRONG).is_some())));
 
-/// The header that all but few changes leave alone, since no file without it gets any further.
-const HEADER: &[u8] = b"BSII\x02\0\0\0";
+/// All but few changes leave the header alone, since no file without it gets any further.
+const HEADER: usize = 8;
+/// Of the versions, 1 is read in one way and all others in another.
+const HEADERS: [[u8; HEADER]; 2] = [*b"BSII\x01\0\0\0", *b"BSII\x02\0\0\0"];
 const HEADER_CHANGES: u32 = 32;
 
 extern "C" {
@@ -62,10 +64,13 @@ pub unsafe extern "C" fn test_one_input(bytes: *const u8, len: usize) -> i32 {
 /// `bytes` points to `room` bytes, of which the first `len` are the last input.
 #[export_name = "LLVMFuzzerCustomMutator"]
 pub unsafe extern "C" fn change(bytes: *mut u8, len: usize, room: usize, seed: u32) -> usize {
-    // SAFETY: the caller's duty; the slice is gone before the bytes change.
-    let is_file = len > 0 && unsafe { std::slice::from_raw_parts(bytes, len) }.starts_with(HEADER);
-    let kept = match is_file && room > HEADER.len() && !seed.is_multiple_of(HEADER_CHANGES) {
-        true => HEADER.len(),
+    let is_file = len > 0 && {
+        // SAFETY: the caller's duty; the slice is gone before the bytes change.
+        let file = unsafe { std::slice::from_raw_parts(bytes, len) };
+        HEADERS.iter().any(|header| file.starts_with(header))
+    };
+    let kept = match is_file && room > HEADER && !seed.is_multiple_of(HEADER_CHANGES) {
+        true => HEADER,
         false => 0,
     };
     // SAFETY: `kept` is at most `len` and less than `room`.

@@ -31,10 +31,11 @@ impl Harness {
         let mut random = Random::new(checksum(input), 0);
         self.comparison.whole(input, &mut random, &mut self.tally)?;
         match input {
-            [type_id, index, part @ ..] => {
-                let (type_id, index) = (u32::from(*type_id), u64::from(*index));
+            [version, type_id, index, part @ ..] => {
+                let [version, type_id] = [version, type_id].map(|byte| u32::from(*byte));
+                let index = u64::from(*index);
                 self.comparison
-                    .element(type_id, part, index, &mut self.tally)
+                    .element(version, type_id, part, index, &mut self.tally)
             }
             _ => Ok(()),
         }
@@ -42,8 +43,8 @@ impl Harness {
 }
 
 /// The bytes that `input` takes as this value.
-pub fn value_input(type_id: u8, index: u8, part: &[u8]) -> Vec<u8> {
-    [&[type_id, index], part].concat()
+pub fn value_input(version: u8, type_id: u8, index: u8, part: &[u8]) -> Vec<u8> {
+    [&[version, type_id, index], part].concat()
 }
 
 /// FNV-1a.

@@ -24,6 +24,8 @@ pub fn seeds() -> Vec<Vec<u8>> {
 
 fn value(stream: u64) -> Vec<u8> {
     let mut random = Random::new(!SEED, stream);
-    let (type_id, part) = generate::element(&mut random);
-    value_input(type_id as u8, random.below(6) as u8, &part)
+    let (version, type_id, part) = generate::element(&mut random);
+    // 257 has no byte of its own, and its first one is that of 1.
+    let version = u8::try_from(version).unwrap_or(u8::MAX);
+    value_input(version, type_id as u8, random.below(6) as u8, &part)
 }

@@ -9,7 +9,7 @@ const RARE: [u8; 4] = 0x6b1d_93e5_u32.to_le_bytes();
 
 #[test]
 fn finds_the_wrong_answer() {
-    for input in [one_value(U32, &RARE), value_input(U32 as u8, 0, &RARE)] {
+    for input in [one_value(U32, &RARE), value_input(2, U32 as u8, 0, &RARE)] {
         assert!(Harness::new(false).input(&input).is_ok());
         assert!(Harness::new(true).input(&input).is_err());
     }

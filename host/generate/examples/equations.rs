@@ -13,18 +13,21 @@ use mathlib.Core.Path.{_≡_, refl}
 use Prim.Native.Nat.{ℕ}
 use mathlib.Core.Bool.{Bool, true, false}
 use mathlib.Core.List.{List, [], _∷_}
-use Rattle.bsii_format.specs.File.{parse}
+use Rattle.bsii_format.specs.File.{BsiiFile, parse}
 use Rattle.bsii_widening.specs.Marks.{MarkedRecords, markRecords}
 use Rattle.bsii_widening.specs.Written.{Written, field, prototypeAt, blockAt, madeAll}
 use Rattle.bsii_widening.specs.Example.{fileOf}
 use Rattle.bsii_widening.proofs.Computes.{computesAll}
 use Rattle.bsii_widening.proofs.Decided.{allowed}
 
-unfoldable onRecords : List Written → MarkedRecords → Bool
-onRecords l M = allowed (madeAll l M) M
+unfoldable onRecords : ℕ → List Written → MarkedRecords → Bool
+onRecords version l M = allowed version (madeAll version l M) M
+
+unfoldable onFile : List Written → BsiiFile → Bool
+onFile l f = onRecords (f .header .value) l (markRecords (f .records))
 
 unfoldable on : List Written → List ℕ → Bool
-on l s = onRecords l (markRecords (fileOf (parse 768 s) .records))
+on l s = onFile l (fileOf (parse 768 s))
 ";
 
 fn main() {
@@ -73,7 +76,7 @@ fn equation(stored: &Stored, name: &str) -> String {
     let save = numerals(&stored.save);
     let (label, is_allowed) = (&stored.label, stored.is_allowed);
     format!(
-        "-- {label}\n{name} : on ({items}[]) {save} ≡ {is_allowed}\nunfolding computesAll on onRecords\n{name} = refl\n"
+        "-- {label}\n{name} : on ({items}[]) {save} ≡ {is_allowed}\nunfolding computesAll on onFile onRecords\n{name} = refl\n"
     )
 }
 

@@ -2,10 +2,8 @@
 //!
 //!     cargo run --offline -q -p generate --example lists > ../tests/widening/lists.txt
 
-use generate::widening::{allowed_lists, broken_lists, text};
+use generate::widening::{stored_lists, text};
 
 fn main() {
-    let mut lists = allowed_lists(4, 200);
-    lists.extend(broken_lists(1));
-    print!("{}", text(&lists));
+    print!("{}", text(&stored_lists()));
 }

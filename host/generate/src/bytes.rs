@@ -33,8 +33,19 @@ pub fn block(id: u32, values: &[u8]) -> Vec<u8> {
     [&id.to_le_bytes(), [0].as_slice(), values].concat()
 }
 
+/// A file of version 2.
 pub fn file(records: &[Vec<u8>]) -> Vec<u8> {
-    [b"BSII\x02\0\0\0".as_slice(), &records.concat(), &[0; 5]].concat()
+    file_of(2, records)
+}
+
+pub fn file_of(version: u32, records: &[Vec<u8>]) -> Vec<u8> {
+    [
+        b"BSII",
+        &version.to_le_bytes()[..],
+        &records.concat(),
+        &[0; 5],
+    ]
+    .concat()
 }
 
 /// One field `f` of one prototype `p`, and one block.
@@ -65,6 +76,21 @@ pub fn worked_vectors() -> Vec<u8> {
     let four = floats(&[0x3f80_0000, 0, 0, 0x8000_0000]);
     let values = [array(&[three]), four].concat();
     file(&[prototype(3, b"t", &fields), block(3, &values)])
+}
+
+/// One block with a placement of document 02, E12: seven f32 in a file of version 1.
+pub fn worked_version_1() -> Vec<u8> {
+    let seven = floats(&[
+        0x3f80_0000,
+        0x8000_0000,
+        0x8000_0000,
+        0x7f80_0002,
+        0,
+        0x3fc0_0000,
+        0xc000_0000,
+    ]);
+    let fields = [definition(0x19, b"w")];
+    file_of(1, &[prototype(2, b"j", &fields), block(2, &seven)])
 }
 
 pub fn named(words: &[u64]) -> Vec<u8> {

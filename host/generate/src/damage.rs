@@ -23,13 +23,17 @@ pub fn damage(random: &mut Random, made: &mut Made) {
 fn change(random: &mut Random, made: &mut Made) {
     let len = made.bytes.len();
     let at = random.below(len);
-    match random.below(10) {
+    match random.below(11) {
         0 if len > 0 => made.bytes[at] ^= 1 << random.below(8),
         1 if len > 0 => made.bytes[at] = random.pick(&[0, 1, 2, 0x37, 0x7f, 0x80, 0xfe, 0xff]),
-        2 | 3 => made.bytes.truncate(at),
+        2 => made.bytes.truncate(at),
+        3 if made.numbers.is_empty() => made.bytes.truncate(at),
+        // In front of a record, a length or a count: of a file without records, behind its header.
+        3 => made.bytes.truncate(random.pick(&made.numbers)),
         4 => splice(random, made, at),
         5 => insert(random, made, at),
         6 => delete(random, made, at),
+        7 => change_version(random, made),
         _ => change_number(random, made),
     }
 }
@@ -55,6 +59,18 @@ fn insert(random: &mut Random, made: &mut Made, at: usize) {
 fn delete(random: &mut Random, made: &mut Made, at: usize) {
     let end = (at + 1 + random.below(9)).min(made.bytes.len());
     made.bytes.drain(at..end);
+}
+
+/// From 1 to 2 or from another version to 1: a placement is then read with another number of floats,
+/// and all behind it from another byte on. A value alone has no version.
+fn change_version(random: &mut Random, made: &mut Made) {
+    if let [b'B', b'S', b'I', b'I', a, b, c, d, ..] = made.bytes[..] {
+        let version = match u32::from_le_bytes([a, b, c, d]) {
+            1 => random.pick(&[2, 0, 0x101, 0x0100_0001]),
+            _ => 1,
+        };
+        made.bytes[4..8].copy_from_slice(&u32::to_le_bytes(version));
+    }
 }
 
 /// Changes a length, a count, a type or a record number.

@@ -30,14 +30,21 @@ pub fn file(seed: u64, index: u64) -> Vec<u8> {
     made.bytes
 }
 
-/// A type and bytes for the element call, whole, cut or changed.
-pub fn element(random: &mut Random) -> (u32, Vec<u8>) {
+/// A version, a type and bytes for the element call, whole, cut or changed, or made by another version.
+pub fn element(random: &mut Random) -> (u32, u32, Vec<u8>) {
     let mut made = valid::Made::default();
-    let type_id = valid::value_alone(random, &mut made);
+    let any = |random: &mut Random| random.pick(&[0, 1, 1, 1, 2, 2, 0x101, 0xffff_ffff]);
+    let version = any(random);
+    let by = if random.chance(80) {
+        version
+    } else {
+        any(random)
+    };
+    let type_id = valid::value_alone(random, by, &mut made);
     if random.chance(50) {
         damage::damage(random, &mut made);
     } else if random.chance(50) {
         made.bytes.extend(b"rest");
     }
-    (type_id, made.bytes)
+    (version, type_id, made.bytes)
 }

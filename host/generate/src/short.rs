@@ -1,6 +1,6 @@
 //! Short inputs, all of a kind.
 
-use crate::bytes::worked_vectors;
+use crate::bytes::{worked_vectors, worked_version_1};
 use crate::valid::worked_bytes;
 use crate::{file, Random};
 
@@ -22,7 +22,7 @@ const TYPES: u64 = 0x41;
 impl Short {
     /// `count` base files of at most `longest` bytes from the generator, and the worked examples.
     pub fn new(seed: u64, count: usize, longest: usize) -> Short {
-        let mut bases = vec![worked_bytes(), worked_vectors()];
+        let mut bases = vec![worked_bytes(), worked_vectors(), worked_version_1()];
         let all = bases.len() + count;
         let mut random = Random::new(seed, 0);
         while bases.len() < all {

@@ -42,10 +42,20 @@ pub fn listed(random: &mut Random) -> u32 {
     LISTED.get(drawn).copied().unwrap_or(0x37)
 }
 
+/// 1 in a fifth of the files; in the others mostly 2, and such as share bytes with 1.
+pub fn version(random: &mut Random) -> u32 {
+    match random.chance(20) {
+        true => 1,
+        false => random.pick(&[2, 2, 2, 2, 3, 0, 0x101, 0x0100_0001, 0xffff_ffff]),
+    }
+}
+
 /// A file in the making.
 #[derive(Default)]
 pub struct Made {
     pub bytes: Vec<u8>,
+    /// By which the floats of a placement are counted.
+    version: u32,
     /// Where lengths, counts, types and record numbers stand, for aimed damage.
     pub numbers: Vec<usize>,
     /// Of these, the lengths of strings.
@@ -124,8 +134,8 @@ pub fn file(random: &mut Random) -> Made {
     } else {
         made.bytes.extend(b"BSII");
     }
-    let version = random.pick(&[2, 2, 2, 2, 3, 0, 0xffff_ffff, 0x101]);
-    made.u32(if random.chance(1) { 1 } else { version });
+    made.version = version(random);
+    made.u32(made.version);
     let most = if random.chance(2) { 40 } else { 9 };
     for _ in 0..random.below(most) {
         record(random, &mut made);
@@ -282,6 +292,7 @@ fn placement(random: &mut Random, made: &mut Made) {
     for i in 0..8 {
         made.u32(match i {
             0 | 2 => corners::coordinate(random),
+            3 if made.version == 1 => continue,
             3 => corners::sector(random),
             _ => corners::float(random),
         });
@@ -289,15 +300,19 @@ fn placement(random: &mut Random, made: &mut Made) {
 }
 
 /// A value of a listed type without a fault; not for an enum, whose value hangs on its list.
-pub fn well_formed(random: &mut Random, type_id: u32) -> Vec<u8> {
-    let mut made = Made::default();
+pub fn well_formed(random: &mut Random, version: u32, type_id: u32) -> Vec<u8> {
+    let mut made = Made {
+        version,
+        ..Made::default()
+    };
     let list = Vec::new();
     value(random, &mut made, &Definition { type_id, list });
     made.bytes
 }
 
-/// One value and its type.
-pub fn value_alone(random: &mut Random, made: &mut Made) -> u32 {
+/// One value by the version, and its type.
+pub fn value_alone(random: &mut Random, version: u32, made: &mut Made) -> u32 {
+    made.version = version;
     made.faults = random.pick(&[0, 0, 5]);
     let unlisted = random.chance(5);
     let type_id = match unlisted {

@@ -7,11 +7,13 @@ mod stored;
 mod written;
 
 pub use insertion::Insertion;
-pub use stored::{allowed_lists, broken_lists};
+pub use stored::stored_lists;
 pub use written::{lists, text, Stored, Written};
 
 use crate::save::{Prototype, Record, Save};
+use crate::valid;
 use crate::Random;
+use std::collections::BTreeSet;
 
 /// A save that converts and defines no id twice, insertions that are allowed one after the other, and
 /// perhaps one last definition of an unlisted type.
@@ -85,6 +87,27 @@ impl Widening {
         save
     }
 
+    /// The types of the values that (i) brings into blocks, and of those in the blocks of (iii).
+    pub fn inserted_types(&self) -> [BTreeSet<u32>; 2] {
+        let (mut of_values, mut of_blocks) = (BTreeSet::new(), BTreeSet::new());
+        let mut save = self.old.clone();
+        for insertion in &self.list {
+            match insertion {
+                Insertion::Field {
+                    definition, values, ..
+                } if !values.is_empty() => {
+                    of_values.insert(definition.type_id);
+                }
+                Insertion::Block { block, .. } => {
+                    of_blocks.extend(save.of(block).fields.iter().map(|field| field.type_id));
+                }
+                _ => {}
+            }
+            insertion.insert(&mut save);
+        }
+        [of_values, of_blocks]
+    }
+
     /// The first `count` insertions, which are allowed as well.
     pub fn shorter(&self, count: usize) -> Widening {
         Widening {
@@ -97,7 +120,7 @@ impl Widening {
 
 fn old_save(random: &mut Random, sizes: Sizes) -> Save {
     let mut save = Save {
-        version: random.pick(&[2, 2, 2, 2, 3, 0, 0xffff_ffff, 0x101]),
+        version: valid::version(random),
         records: Vec::new(),
         rest: Vec::new(),
     };
@@ -147,7 +170,9 @@ fn insertion(random: &mut Random, save: &Save, sizes: Sizes) -> Insertion {
 fn field(random: &mut Random, save: &Save) -> Option<Insertion> {
     let of = parts::any_prototype(random, save, |_| true)?;
     let definition = parts::new_definition(random, of, save);
-    let values = values(save, of.id, || parts::value(random, &definition));
+    let values = values(save, of.id, || {
+        parts::value(random, save.version, &definition)
+    });
     Some(Insertion::Field {
         id: of.id,
         position: random.below(of.fields.len() + 1),

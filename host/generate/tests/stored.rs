@@ -1,9 +1,7 @@
 //! The stored lists of insertions: they are read whole, and every listed type and every break is
 //! among them.
 
-use generate::widening::{
-    allowed_lists, broken_lists, lists, text, Insertion, Sizes, Stored, Widening,
-};
+use generate::widening::{lists, stored_lists, text, Sizes, Stored, Widening};
 use generate::{Random, LISTED};
 use std::collections::BTreeSet;
 
@@ -26,44 +24,37 @@ fn are_read_whole() {
 
 #[test]
 fn are_made_again() {
-    let mut made = allowed_lists(4, 200);
-    made.extend(broken_lists(1));
     assert!(
-        made == stored(),
+        stored_lists() == stored(),
         "the generator makes other lists: see examples/lists.rs"
     );
 }
 
-/// An allowed list as it was made, by its label, `list INDEX of seed SEED`.
+/// An allowed list as it was made, by its label, `list INDEX of seed SEED`; the empty one is a part of it.
 fn made(list: &Stored) -> Widening {
     let words: Vec<&str> = list.label.split(' ').collect();
     let [index, seed] = [1, 4].map(|word| words[word].parse().unwrap());
-    Widening::new(&mut Random::new(seed, index), Sizes::SMALL)
+    Widening::new(&mut Random::new(seed, index), Sizes::SMALL).shorter(list.list.len())
+}
+
+/// The types of the values that are inserted, and of those in inserted blocks.
+fn inserted_types(is_asked: fn(&Widening) -> bool) -> [BTreeSet<u32>; 2] {
+    let stored = stored();
+    let made = stored.iter().filter(|list| list.is_allowed).map(made);
+    let types = made.filter(is_asked).map(|made| made.inserted_types());
+    types.reduce(|[a, b], [c, d]| [&a | &c, &b | &d]).unwrap()
 }
 
 #[test]
 fn have_every_type() {
-    let (mut inserted, mut in_blocks) = (BTreeSet::new(), BTreeSet::new());
-    for list in stored().iter().filter(|list| list.is_allowed) {
-        let made = made(list);
-        let mut save = made.old.clone();
-        for insertion in &made.list[..list.list.len()] {
-            match insertion {
-                Insertion::Field {
-                    definition, values, ..
-                } if !values.is_empty() => {
-                    inserted.insert(definition.type_id);
-                }
-                Insertion::Block { block, .. } => {
-                    in_blocks.extend(save.of(block).fields.iter().map(|field| field.type_id));
-                }
-                _ => {}
-            }
-            insertion.insert(&mut save);
-        }
+    for types in inserted_types(|_| true) {
+        assert_eq!(types, BTreeSet::from(LISTED));
     }
-    assert_eq!(inserted, BTreeSet::from(LISTED));
-    assert_eq!(in_blocks, BTreeSet::from(LISTED));
+    let in_version_1 = inserted_types(|made| made.old.version == 1);
+    let in_others = inserted_types(|made| made.old.version != 1);
+    for types in in_version_1.iter().chain(&in_others) {
+        assert!(types.contains(&0x19) && types.contains(&0x1a));
+    }
 }
 
 #[test]
@@ -73,8 +64,8 @@ fn break_each_word_once() {
         let those = stored.iter().filter(|list| list.is_allowed == is_allowed);
         those.map(|list| &list.label).collect::<BTreeSet<_>>()
     };
-    assert_eq!((labels(true).len(), labels(false).len()), (200, 66));
-    assert_eq!(stored.len(), 266);
+    assert_eq!((labels(true).len(), labels(false).len()), (216, 70));
+    assert_eq!(stored.len(), 286);
 }
 
 #[test]

@@ -67,6 +67,11 @@ fn those(conditions: &[(bool, &str)]) -> Vec<String> {
     held.map(|(_, word)| word.to_string()).collect()
 }
 
+/// The same word for a save of version 1.
+fn in_version_1(save: &Save, word: &str) -> Option<String> {
+    (save.version == 1).then(|| format!("{word}, in version 1"))
+}
+
 /// What an insertion shows of what 01 allows.
 fn words(insertion: &Insertion, save: &Save) -> Vec<String> {
     let end = save.records.len();
@@ -95,6 +100,7 @@ fn words(insertion: &Insertion, save: &Save) -> Vec<String> {
                     "without bytes",
                 ),
             ]);
+            words.extend(in_version_1(save, &kind));
             words.push(kind);
             words
         }
@@ -124,7 +130,9 @@ fn block_words(record: usize, block: &Block, save: &Save) -> Vec<String> {
     let is_first = !save.carries(of.id);
     for field in &of.fields {
         let type_id = field.type_id;
-        words.push(format!("(iii) of type {type_id:#x}"));
+        let word = format!("(iii) of type {type_id:#x}");
+        words.extend(in_version_1(save, &word));
+        words.push(word);
         if is_first && !field.inserted && !of.inserted {
             words.push(format!("(iii) of type {type_id:#x}, old and unused"));
         }
@@ -150,8 +158,10 @@ fn leave_nothing_out() {
     for type_id in LISTED {
         for kind in [
             "(i) of type #, carried",
+            "(i) of type #, carried, in version 1",
             "(i) of type #, unused",
             "(iii) of type #",
+            "(iii) of type #, in version 1",
             "(iii) of type #, old and unused",
         ] {
             let word = kind.replace('#', &format!("{type_id:#x}"));
@@ -165,6 +175,7 @@ fn leave_nothing_out() {
         "(i) into the prototype 0",
         "unlisted, unused",
         "unlisted, carried",
+        "unlisted, carried, in version 1",
         "without bytes",
         "(ii) in front of the first record",
         "(ii) in front of the end record",

@@ -34,6 +34,8 @@ impl Place {
 pub struct Cursor<'a> {
     pub bytes: &'a [u8],
     pub at: usize,
+    /// The file's, by which the floats of a placement are counted.
+    pub version: u32,
 }
 
 impl<'a> Cursor<'a> {
@@ -159,7 +161,11 @@ fn is_utf8(bytes: &[u8]) -> bool {
 }
 
 /// The kind of a listed type's elements, and whether it is an array.
-fn listed(type_id: u32) -> Option<(u32, bool)> {
+fn listed(version: u32, type_id: u32) -> Option<(u32, bool)> {
+    let placement = match version {
+        1 => kind::SEVEN_F32,
+        _ => kind::PLACEMENT,
+    };
     Some(match type_id {
         0x01 => (kind::STRING, false),
         0x02 => (kind::STRING, true),
@@ -174,8 +180,8 @@ fn listed(type_id: u32) -> Option<(u32, bool)> {
         0x12 => (kind::THREE_I32, true),
         0x17 => (kind::FOUR_F32, false),
         0x18 => (kind::FOUR_F32, true),
-        0x19 => (kind::PLACEMENT, false),
-        0x1a => (kind::PLACEMENT, true),
+        0x19 => (placement, false),
+        0x1a => (placement, true),
         0x25 => (kind::I32, false),
         0x26 => (kind::I32, true),
         0x27 | 0x2f => (kind::U32, false),
@@ -227,7 +233,7 @@ pub fn value(
     type_id: u32,
     mut each: impl FnMut(Element),
 ) -> Result<Option<u32>, Refusal> {
-    let Some((kind, is_array)) = listed(type_id) else {
+    let Some((kind, is_array)) = listed(cursor.version, type_id) else {
         return refuse(7, cursor.at);
     };
     if !is_array {
@@ -242,8 +248,12 @@ pub fn value(
 }
 
 /// Floats are kept as floats, so there is one NaN; the text has each one's own bits.
-pub fn element_of(type_id: u32, part: &[u8], index: u64) -> Result<Element, Refusal> {
-    let mut cursor = Cursor { bytes: part, at: 0 };
+pub fn element_of(version: u32, type_id: u32, part: &[u8], index: u64) -> Result<Element, Refusal> {
+    let mut cursor = Cursor {
+        bytes: part,
+        at: 0,
+        version,
+    };
     let (mut found, mut position) = (None, 0);
     value(&mut cursor, type_id, |element| {
         if position == index {

@@ -109,10 +109,11 @@ impl Implementation for Model {
                 self.parsed(file, ids).and_then(|p| to_siin(p, file, out))
             ),
             Call::ElementOf {
+                version,
                 type_id,
                 part,
                 index,
-            } => answer!(Element, layout::element_of(type_id, part, index)),
+            } => answer!(Element, layout::element_of(version, type_id, part, index)),
         }
     }
 }

@@ -31,6 +31,7 @@ pub struct BlockRecord {
 
 #[derive(Default)]
 pub struct Parsed {
+    pub version: u32,
     /// The definitions in force, after reading the last ones, one for each distinct id.
     pub prototypes: Vec<PrototypeRecord>,
     pub blocks: Vec<BlockRecord>,
@@ -57,10 +58,13 @@ impl Parsed {
         if !file.starts_with(b"BSII") {
             return refuse(1, 0);
         }
-        let mut cursor = Cursor { bytes: file, at: 4 };
-        if cursor.u32()? == 1 {
-            return refuse(2, 8);
-        }
+        let mut cursor = Cursor {
+            bytes: file,
+            at: 4,
+            version: 0,
+        };
+        self.version = cursor.u32()?;
+        cursor.version = self.version;
         while !self.record(&mut cursor, capacity)? {}
         self.next = cursor.at;
         Ok(())

@@ -1,7 +1,7 @@
 //! The text form.
 
 use crate::layout::{refuse, value, word_text, Cursor, Place, Refusal};
-use crate::lookup::{BlockRecord, Definition, Parsed, Value};
+use crate::lookup::{BlockRecord, Definition, Parsed};
 use calls::{kind, Element};
 use std::fmt::{Display, Write};
 
@@ -71,22 +71,27 @@ fn write_block(
     write_id(sink, block.id.of(file));
     sink.put(b" {\n");
     for (value, field) in block.values.iter().zip(&last.fields) {
-        write_field(sink, file, value, field)?;
+        let mut cursor = Cursor {
+            bytes: file,
+            at: value.place.offset,
+            version: parsed.version,
+        };
+        write_field(sink, &mut cursor, value.type_id, field)?;
     }
     sink.put(b"}\n");
     Ok(())
 }
 
+/// The value that the cursor stands at, by its type and the last definition.
 fn write_field(
     sink: &mut Sink,
-    file: &[u8],
-    field: &Value,
+    cursor: &mut Cursor<'_>,
+    type_id: u32,
     last: &Definition,
 ) -> Result<(), Refusal> {
+    let (file, at) = (cursor.bytes, cursor.at);
     let mut elements = Vec::new();
-    let at = field.place.offset;
-    let mut cursor = Cursor { bytes: file, at };
-    let count = value(&mut cursor, field.type_id, |element| elements.push(element))?;
+    let count = value(cursor, type_id, |element| elements.push(element))?;
     let name = last.name.of(file);
     if let Some(count) = count {
         sink.put(b"  ");
@@ -149,6 +154,11 @@ fn write_element(sink: &mut Sink, file: &[u8], element: &Element) {
         kind::THREE_I32 => {
             let [a, b, c] = [0, 1, 2].map(|i| element.parts[i] as i32);
             sink.show(format_args!("({a}, {b}, {c})"));
+        }
+        kind::SEVEN_F32 => {
+            write_floats(sink, &f32s[..3], &[", ", ", "]);
+            sink.put(b" ");
+            write_floats(sink, &f32s[3..7], &["; ", ", ", ", "]);
         }
         kind::PLACEMENT => write_placement(sink, f32s),
         other => unreachable!("kind {other}"),

@@ -1,4 +1,5 @@
-//! Document 01's worked bytes, and offsets and lacking bytes that no other side gives.
+//! Document 01's worked bytes, those of 02's requests, and offsets and lacking bytes that no other
+//! side gives.
 
 use calls::{kind, Call, Element, Implementation, Lent, Text};
 use model::Model;
@@ -132,8 +133,9 @@ fn faults_and_their_offsets() {
     for len in 4..8 {
         assert_eq!(cut(len), format!("refused 3 at 4 lacking {}", 8 - len));
     }
-    assert_eq!(text_of(b"BSII\x01\0\0\0"), "refused 2 at 8");
     assert_eq!(cut(8), "refused 3 at 8 lacking 4");
+    let version_1 = text_of(b"BSII\x01\0\0\0");
+    assert_eq!(version_1, "refused 3 at 8 lacking 4");
     assert_eq!(cut(12), "refused 3 at 12 lacking 1");
     assert_eq!(cut(22), "refused 3 at 22 lacking 4");
     // The block stands at 35, its id at 39, the string's length at 40, its bytes at 44.
@@ -159,8 +161,8 @@ fn bytes(hex: &str) -> Vec<u8> {
 /// A save with a u16 in two blocks.
 const SAVE_A: &str = "425349490200000000000000010300000001000000742b000000010000006e00000000\
                       030000000005000300000001220000000000000007000000000000";
-/// A placement of seven floats: the eighth takes four bytes of the end record.
-const SEVEN: &str = "4253494902000000000000000102000000010000006a19000000010000007700000000\
+/// A placement of seven floats, in version 1.
+const SEVEN: &str = "4253494901000000000000000102000000010000006a19000000010000007700000000\
                      02000000000000803f00000080000000800200807f000000000000c03f000000c00000000000";
 
 #[test]
@@ -172,7 +174,95 @@ fn worked_cuts() {
     let name = "4253494902000000000000000103000000050000006162";
     assert_eq!(worked(name), "refused 3 at 21 lacking 3");
     assert_eq!(worked(&SAVE_A[..82]), "refused 3 at 40 lacking 1");
-    assert_eq!(worked(SEVEN), "refused 3 at 72 lacking 3");
+}
+
+fn with_version(file: &[u8], version: u32) -> Vec<u8> {
+    [&file[..4], &version.to_le_bytes(), &file[8..]].concat()
+}
+
+#[test]
+fn worked_version_1() {
+    let file = bytes(SEVEN);
+    let text = "SiiNunit\n{\nj : null {\n  w: (1, -0, -0) (&7f800002; 0, &3fc00000, -2)\n}\n}\n";
+    assert_eq!(text_of(&file), text);
+    // With another version the eighth float takes four bytes of the end record.
+    for version in [0, 2, 3, 257, 0x0100_0001, u32::MAX] {
+        let found = text_of(&with_version(&file, version));
+        assert_eq!(found, "refused 3 at 72 lacking 3");
+    }
+    // Each of the seven is one item: the value stands from 40 to 68.
+    for kept in 40..68 {
+        let (at, lacking) = (kept / 4 * 4, 4 - kept % 4);
+        let expected = format!("refused 3 at {at} lacking {lacking}");
+        assert_eq!(text_of(&file[..kept]), expected);
+    }
+    let part = &file[40..68];
+    let found = element_in(1, 0x19, part, 0);
+    let seven = [
+        0x3f80_0000,
+        0x8000_0000,
+        0x8000_0000,
+        0x7fc0_0000,
+        0,
+        0x3fc0_0000,
+        0xc000_0000,
+        0,
+    ];
+    assert_eq!((found.number, found.kind), (0, kind::SEVEN_F32));
+    assert_eq!(found.parts, seven);
+    assert_eq!(element_in(1, 0x19, part, 1), Element::refused(13, 0));
+    assert_eq!(element_in(2, 0x19, part, 0), cut(28, 4));
+    assert_eq!(element_in(1, 0x19, &part[..27], 0), cut(24, 1));
+}
+
+/// What version 1 and the others differ in: placements, and nothing else.
+#[test]
+fn versions() {
+    let zeros = [0; 32];
+    for version in [0, 1, 2, 257, 0x0100_0001, u32::MAX] {
+        let (kind, size) = match version {
+            1 => (kind::SEVEN_F32, 28),
+            _ => (kind::PLACEMENT, 32),
+        };
+        let single = element_in(version, 0x19, &zeros[..size], 0);
+        assert_eq!((single.number, single.kind), (0, kind));
+        let short = element_in(version, 0x19, &zeros[..size - 1], 0);
+        assert_eq!(short, cut(size as u64 - 4, 1));
+        let two = [&[2, 0, 0, 0][..], &zeros[..size], &zeros[..size]].concat();
+        let second = element_in(version, 0x1a, &two, 1);
+        assert_eq!((second.number, second.kind), (0, kind));
+        assert_eq!(element_in(version, 0x1a, &two, 2), Element::refused(13, 0));
+        let short = element_in(version, 0x1a, &two[..two.len() - 1], 0);
+        assert_eq!(short, cut(two.len() as u64 - 4, 1));
+        // Every other type answers as in version 2.
+        for type_id in (0..0x40).filter(|type_id| !matches!(type_id, 0x19 | 0x1a)) {
+            for part in [&two[..], &zeros, &zeros[..3], b""] {
+                let expected = element(type_id, part, 0);
+                assert_eq!(element_in(version, type_id, part, 0), expected);
+            }
+        }
+    }
+}
+
+/// An array, each element with seven floats, and the field behind it.
+#[test]
+fn placements_of_version_1() {
+    let floats = |floats: [f32; 7]| floats.map(f32::to_le_bytes).concat();
+    let first = floats([-0.0, 0.5, f32::NAN, 8_390_656.0, 1.0, 2.0, -0.0]);
+    let second = floats([1e7, -1e7, f32::INFINITY, -1.5, 0.0, 0.0, 3.0]);
+    let value = [&[2, 0, 0, 0][..], &first, &second, &[1]].concat();
+    let block = [&[1, 0, 0, 0, 0], &value[..]].concat();
+    let fields = [(0x1a, "a"), (0x35, "b")];
+    let file = with_version(&file(&[prototype(1, "p", &fields), block]), 1);
+    let lines = [
+        "  a: 2",
+        "  a[0]: (-0, &3f000000, &7fc00000) (8390656; 1, 2, -0)",
+        "  a[1]: (10000000, -10000000, &7f800000) (&bfc00000; 0, 0, 3)",
+        "  b: true",
+    ];
+    let lines = lines.join("\n");
+    let text = format!("SiiNunit\n{{\np : null {{\n{lines}\n}}\n}}\n");
+    assert_eq!(text_of(&file), text);
 }
 
 /// One block with an array of three f32 and a single four f32.
@@ -293,7 +383,12 @@ fn needed_length_beyond_32_bits() {
 }
 
 fn element(type_id: u32, part: &[u8], index: u64) -> Element {
+    element_in(2, type_id, part, index)
+}
+
+fn element_in(version: u32, type_id: u32, part: &[u8], index: u64) -> Element {
     let call = Call::ElementOf {
+        version,
         type_id,
         part,
         index,

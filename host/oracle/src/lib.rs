@@ -40,7 +40,7 @@ pub fn parse(content: &[u8]) -> Result<BsiiFile<'_>, Fault> {
     match panics::caught(|| BsiiFile::parse(content))? {
         Ok(file) => Ok(file),
         Err(ParseError::InvalidHeader) => Err(Fault::Number(1)),
-        Err(ParseError::UnsupportedVersion) => Err(Fault::Number(2)),
+        Err(ParseError::UnsupportedVersion) => Err(Fault::Version),
         Err(ParseError::InvalidInput) => Err(Fault::Number(3)),
     }
 }

@@ -8,6 +8,8 @@ use std::sync::Once;
 #[derive(Clone, Debug, PartialEq, Eq)]
 pub enum Fault {
     Number(u32),
+    /// UnsupportedVersion, of version 1: document 02 reads it, and no reply has this class any more.
+    Version,
     /// The reader's `todo!` at a value of this type, which is reply 7 for an unlisted one.
     Todo(u32),
     /// A panic that document 01 has no number for.
@@ -19,7 +21,7 @@ impl Fault {
         match self {
             Fault::Number(number) => Some(*number),
             Fault::Todo(_) => Some(7),
-            Fault::Unknown(_) => None,
+            Fault::Version | Fault::Unknown(_) => None,
         }
     }
 }

@@ -22,7 +22,8 @@ fn text(parts: &[&[u8]]) -> Fault {
 #[test]
 fn classes() {
     assert_eq!(reading(&[b""]), Fault::Number(1));
-    assert_eq!(reading(&[b"BSII\x01\0\0\0"]), Fault::Number(2));
+    assert_eq!(reading(&[b"BSII\x01\0\0\0"]), Fault::Version);
+    assert_eq!(Fault::Version.number(), None);
     for len in 4..8 {
         assert_eq!(reading(&[&b"BSII\x02\0\0\0"[..len]]), Fault::Number(3));
     }

@@ -1,8 +1,8 @@
-//! What the Rust says about a file; of types that its reader stops at, by a stand-in.
+//! What the Rust says about a file; of version 1 and of types that its reader stops at, by a stand-in.
 
 use answers::{Answer, LookUp};
 use differential::stand_in::StandIn;
-use oracle::{BsiiFile, DataBlock, DataValue};
+use oracle::{BsiiFile, DataBlock};
 
 /// The names that are looked up in one file.
 const NAMES: usize = 2;
@@ -27,11 +27,7 @@ pub fn answer(file: &[u8]) -> Option<Answer> {
             })
         }
     };
-    let values = parsed.data_blocks.iter().flat_map(|block| &block.data);
-    if values
-        .flat_map(placements)
-        .any(|(f1, f3)| f1.is_nan() || f3.is_nan())
-    {
+    if stand_in.has_open_sums(&parsed) {
         return None;
     }
     let (reply, text) = match oracle::to_siin(&parsed) {
@@ -46,15 +42,6 @@ pub fn answer(file: &[u8]) -> Option<Answer> {
         text: text.into_bytes(),
         look_ups: look_ups(&parsed),
     })
-}
-
-/// f1 and f3 of a value's placements.
-fn placements(value: &DataValue<'_>) -> Vec<(f32, f32)> {
-    match value {
-        DataValue::FloatVec8(p) => vec![(p.0, p.2)],
-        DataValue::FloatVec8Array(all) => all.iter().map(|p| (p.0, p.2)).collect(),
-        _ => Vec::new(),
-    }
 }
 
 /// Names that have blocks come first.

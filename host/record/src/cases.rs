@@ -20,6 +20,7 @@ pub fn cases() -> Vec<(String, Vec<u8>)> {
     floats::floats(&mut cases);
     types::integers(&mut cases);
     floats::placements(&mut cases);
+    floats::placements_of_version_1(&mut cases);
     words::ids(&mut cases);
     strings::strings(&mut cases);
     strings::not_utf8(&mut cases);

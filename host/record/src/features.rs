@@ -20,6 +20,9 @@ pub fn features(entry: &Entry) -> BTreeSet<String> {
         let last = &parsed.prototypes[&block.prototype_id];
         for (data, definition) in block.data.iter().zip(last.fields()) {
             value(&mut found, definition.type_id(), data);
+            if stand_in.is_version_1() {
+                placements(&mut found, data);
+            }
         }
     }
     found
@@ -41,6 +44,14 @@ fn value(found: &mut BTreeSet<String>, last: u32, value: &DataValue<'_>) {
         DataValue::Id(one) => id(found, kind, one),
         DataValue::IdArray(all) => all.iter().for_each(|one| id(found, kind, one)),
         _ => {}
+    }
+}
+
+/// Of version 1.
+fn placements(found: &mut BTreeSet<String>, value: &DataValue<'_>) {
+    if let DataValue::FloatVec8(_) | DataValue::FloatVec8Array(_) = value {
+        let count = value.get_array_length();
+        found.insert(format!("seven floats, {count:?} elements"));
     }
 }
 

@@ -15,5 +15,6 @@ fn stored_list() {
         "run: cargo run --release --offline --example record -- {stored}"
     );
     let replies: BTreeSet<u32> = entries.iter().map(|entry| entry.answer.reply).collect();
-    assert!(replies.into_iter().eq(0..=9));
+    // 2 is retired.
+    assert!(replies.into_iter().eq([0, 1, 3, 4, 5, 6, 7, 8, 9]));
 }

@@ -126,14 +126,14 @@ fn text(content: &[u8], table: &mut [u32]) -> Result<Vec<u8>, Refusal> {
     Ok(text)
 }
 
-/// The SiiNunit text of a save, without a [`BsiiFile`] before: one reading less. Refused with 1 to
+/// The SiiNunit text of a save, without a [`BsiiFile`] before: one reading less. Refused with 1, 3 to
 /// 12 and 15; with 10 and 11 if there is no memory for the table or the text.
 pub fn to_siin(content: &[u8]) -> Result<Vec<u8>, Refusal> {
     with_table(content, |table| text(content, table)).map(|(text, _)| text)
 }
 
 impl<'a> BsiiFile<'a> {
-    /// Reads the whole file. Refused with 1 to 7, 12 and 15, and with 10 if there is no memory for the
+    /// Reads the whole file. Refused with 1, 3 to 7, 12 and 15, and with 10 if there is no memory for the
     /// table; what passes is refused by the questions below with 13 only, and by the text with 8, 9
     /// and 11.
     pub fn parse(content: &'a [u8]) -> Result<Self, Refusal> {
@@ -155,7 +155,8 @@ impl<'a> BsiiFile<'a> {
         &self.content[..4]
     }
 
-    /// The version of the format; every one but 1 is read.
+    /// The version of the format. In version 1 a placement has seven floats, in every other one
+    /// eight; nothing else hangs on it.
     pub fn version(&self) -> u32 {
         let [_, _, _, _, a, b, c, d] = *self.content.first_chunk().unwrap();
         u32::from_le_bytes([a, b, c, d])
@@ -233,6 +234,7 @@ impl<'a> BsiiFile<'a> {
         let answer = library::field_of(self.content, &mut table, block, name.as_ref());
         answered(answer.number, answer.offset, answer.lacking)?;
         Ok(DataField {
+            version: self.version(),
             type_id: answer.type_id,
             part: self.place(answer.part_offset, answer.part_len),
         })

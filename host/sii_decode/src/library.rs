@@ -32,7 +32,13 @@ extern "C" {
         name: *const u8,
         name_len: usize,
     ) -> Field;
-    fn sii_element_of(type_id: u32, part: *const u8, len: usize, index: u64) -> Element;
+    fn sii_element_of(
+        version: u32,
+        type_id: u32,
+        part: *const u8,
+        len: usize,
+        index: u64,
+    ) -> Element;
     fn sii_to_siin(
         file: *const u8,
         len: usize,
@@ -82,10 +88,11 @@ pub fn field_of(file: &[u8], table: &mut [u32], block: u64, name: &[u8]) -> Fiel
     unsafe { sii_field_of(file, len, table, words, block, name.as_ptr(), name.len()) }
 }
 
-/// `sii_element_of`: an element of a value.
-pub fn element_of(type_id: u32, part: &[u8], index: u64) -> Element {
+/// `sii_element_of`: an element of a value. `version` is that of the file which the value stands in:
+/// with 1 a placement has seven floats, with every other number eight.
+pub fn element_of(version: u32, type_id: u32, part: &[u8], index: u64) -> Element {
     // SAFETY: as in `read`.
-    unsafe { sii_element_of(type_id, part.as_ptr(), part.len(), index) }
+    unsafe { sii_element_of(version, type_id, part.as_ptr(), part.len(), index) }
 }
 
 /// `sii_to_siin`: the text, if the output has room for it.

@@ -10,7 +10,7 @@ use std::fmt;
 /// `Debug`, and is for the user to read.
 #[derive(Clone, Copy, PartialEq, Eq)]
 pub struct Refusal {
-    /// From 1 to 13, or 15.
+    /// From 1 to 13, but not 2, which is retired; or 15.
     pub number: u32,
     /// The byte that it is about; for 10 to 13 it says nothing about the bytes there.
     pub offset: u64,
@@ -37,7 +37,6 @@ impl Refusal {
 fn words(number: u32) -> &'static str {
     match number {
         1 => "this is not a BSII file: its first four bytes are not BSII",
-        2 => "the file has version 1 of the format, which is not read",
         4 => "a string is not UTF-8",
         5 => "an encoded word has a digit 0, which stands for no character",
         6 => "a block is of a prototype that is not defined in front of it",

@@ -28,7 +28,9 @@ pub enum DataValue<'a> {
     Int32Vec3((i32, i32, i32)),
     /// 0x17 and 0x18.
     FloatVec4((f32, f32, f32, f32)),
-    /// 0x19 and 0x1a.
+    /// 0x19 and 0x1a, in a save of version 1: the text shows these seven as they are.
+    FloatVec7((f32, f32, f32, f32, f32, f32, f32)),
+    /// 0x19 and 0x1a, in a save of any other version.
     FloatVec8(Placement),
     /// 0x25 and 0x26.
     Int32(i32),
@@ -50,7 +52,7 @@ pub enum DataValue<'a> {
 
 impl DataValue<'_> {
     /// What it is, in a word: `string`, `word`, `f32`, `two-f32`, `three-f32`, `three-i32`,
-    /// `four-f32`, `placement`, `i32`, `u32`, `u16`, `i64`, `u64`, `bool`, `enum` or `id`.
+    /// `four-f32`, `seven-f32`, `placement`, `i32`, `u32`, `u16`, `i64`, `u64`, `bool`, `enum` or `id`.
     pub fn kind_name(&self) -> &'static str {
         match self {
             DataValue::String(_) => "string",
@@ -60,6 +62,7 @@ impl DataValue<'_> {
             DataValue::FloatVec3(_) => "three-f32",
             DataValue::Int32Vec3(_) => "three-i32",
             DataValue::FloatVec4(_) => "four-f32",
+            DataValue::FloatVec7(_) => "seven-f32",
             DataValue::FloatVec8(_) => "placement",
             DataValue::Int32(_) => "i32",
             DataValue::UInt32(_) => "u32",
@@ -83,6 +86,9 @@ impl fmt::Display for DataValue<'_> {
             DataValue::FloatVec3((a, b, c)) => write!(out, "{a} {b} {c}"),
             DataValue::Int32Vec3((a, b, c)) => write!(out, "{a} {b} {c}"),
             DataValue::FloatVec4((a, b, c, d)) => write!(out, "{a} {b} {c} {d}"),
+            DataValue::FloatVec7((a, b, c, d, e, f, g)) => {
+                write!(out, "{a} {b} {c} {d} {e} {f} {g}")
+            }
             DataValue::FloatVec8((a, b, c, d, e, f, g, h)) => {
                 write!(out, "{a} {b} {c} {d} {e} {f} {g} {h}")
             }
@@ -97,9 +103,14 @@ impl fmt::Display for DataValue<'_> {
     }
 }
 
-/// A block's value under a name: its type, and the bytes of the file that encode it.
+/// A block's value under a name: its type, the bytes of the file that encode it, and the version by
+/// which they are read.
 #[derive(Clone, Copy, Debug, PartialEq, Eq)]
 pub struct DataField<'a> {
+    /// The save's, as [`BsiiFile::version`](crate::BsiiFile::version) gives it. With 1 a placement
+    /// (0x19 and 0x1a) has seven floats, with every other number eight; for other types it has no
+    /// effect.
+    pub version: u32,
     /// The type with which the block was read.
     pub type_id: u32,
     /// Of a string with its length, of an array with its count.
@@ -139,6 +150,7 @@ impl<'a> DataField<'a> {
             0x09 | 0x0a => "three-f32",
             0x11 | 0x12 => "three-i32",
             0x17 | 0x18 => "four-f32",
+            0x19 | 0x1a if self.version == 1 => "seven-f32",
             0x19 | 0x1a => "placement",
             0x25 | 0x26 => "i32",
             0x27 | 0x28 | 0x2f => "u32",
@@ -155,7 +167,7 @@ impl<'a> DataField<'a> {
     /// Element `index`, from 0; a single value has element 0 only. The offset of a refusal counts
     /// from the part's first byte. The whole value is read for it: `elements` is the way to all.
     pub fn element(&self, index: u64) -> Result<DataValue<'a>, Refusal> {
-        let answer = library::element_of(self.type_id, self.part, index);
+        let answer = library::element_of(self.version, self.type_id, self.part, index);
         answered(&answer).map(|()| value_of(&answer, self.part))
     }
 
@@ -167,6 +179,7 @@ impl<'a> DataField<'a> {
             (false, _) => (1, self.part),
         };
         Elements {
+            version: self.version,
             type_id: self.type_id,
             array: self.is_array(),
             left,
@@ -178,6 +191,7 @@ impl<'a> DataField<'a> {
 /// The elements of a value from front to back.
 #[derive(Clone, Debug)]
 pub struct Elements<'a> {
+    version: u32,
     type_id: u32,
     array: bool,
     left: u32,
@@ -191,7 +205,7 @@ impl<'a> Iterator for Elements<'a> {
         self.left = self.left.checked_sub(1)?;
         // An array's type is the single one's plus 1.
         let single = self.type_id - u32::from(self.array);
-        let answer = library::element_of(single, self.rest, 0);
+        let answer = library::element_of(self.version, single, self.rest, 0);
         answered(&answer).ok()?;
         let value = value_of(&answer, self.rest);
         self.rest = &self.rest[size_of(&answer)..];
@@ -220,6 +234,7 @@ fn size_of(answer: &Element) -> usize {
         kind::WORD | kind::TWO_F32 | kind::I64 | kind::U64 => 8,
         kind::THREE_F32 | kind::THREE_I32 => 12,
         kind::FOUR_F32 => 16,
+        kind::SEVEN_F32 => 28,
         kind::PLACEMENT => 32,
         _ => (answer.place_offset + answer.place_len) as usize,
     }
@@ -240,6 +255,7 @@ fn value_of<'a>(answer: &Element, part: &'a [u8]) -> DataValue<'a> {
         kind::THREE_F32 => DataValue::FloatVec3((a, b, c)),
         kind::THREE_I32 => DataValue::Int32Vec3((i, j, k)),
         kind::FOUR_F32 => DataValue::FloatVec4((a, b, c, d)),
+        kind::SEVEN_F32 => DataValue::FloatVec7((a, b, c, d, e, f, g)),
         kind::PLACEMENT => DataValue::FloatVec8((a, b, c, d, e, f, g, h)),
         kind::I32 => DataValue::Int32(answer.value as i32),
         kind::U32 => DataValue::UInt32(answer.value as u32),

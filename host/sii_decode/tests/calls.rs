@@ -38,9 +38,9 @@ fn one_field(type_id: u32, value: &[u8]) -> Vec<u8> {
     file
 }
 
-fn garage() -> Vec<u8> {
-    let root = Path::new(env!("CARGO_MANIFEST_DIR")).join("../..");
-    std::fs::read(root.join("samples/garage.bsii")).unwrap()
+fn sample(name: &str) -> Vec<u8> {
+    let samples = Path::new(env!("CARGO_MANIFEST_DIR")).join("../../samples");
+    std::fs::read(samples.join(name)).unwrap()
 }
 
 #[test]
@@ -113,7 +113,7 @@ fn refusals_of_a_file() {
     let cases: [(Vec<u8>, Refusal); 13] = [
         (vec![], refusal(1, 0)),
         (b"BSIJ\x02\0\0\0".to_vec(), refusal(1, 0)),
-        (b"BSII\x01\0\0\0".to_vec(), refusal(2, 8)),
+        (b"BSII\x01\0\0\0".to_vec(), cut(8, 4)),
         (b"BSII\x01".to_vec(), cut(4, 3)),
         (worked_bytes()[..81].to_vec(), cut(81, 1)),
         (worked_bytes()[..54].to_vec(), cut(53, 7)),
@@ -134,7 +134,15 @@ fn refusals_of_a_file() {
 /// The lacking bytes count in the part.
 #[test]
 fn values_that_run_out() {
-    let element = |type_id, part: &'static [u8]| DataField { type_id, part }.element(0);
+    let version = 2;
+    let element = |type_id, part: &'static [u8]| {
+        let field = DataField {
+            version,
+            type_id,
+            part,
+        };
+        field.element(0)
+    };
     assert_eq!(element(0x31, b"\x01\x02\x03\x04\x05"), Err(cut(0, 3)));
     assert_eq!(element(0x28, b"\x02\0\0\0\x01\0\0\0\x02"), Err(cut(8, 3)));
     assert_eq!(element(0x01, b"\x05\0\0\0ab"), Err(cut(4, 3)));
@@ -208,6 +216,37 @@ fn vectors() {
     assert_eq!(to_siin(&bytes[..60]), Err(cut(57, 1)));
 }
 
+/// A placement of seven floats, by field, element and text; with another version the eighth one takes
+/// bytes of the end record.
+#[test]
+fn version_1() {
+    let bytes = generate::bytes::worked_version_1();
+    let file = BsiiFile::parse(&bytes).unwrap();
+    assert_eq!(file.version(), 1);
+    let seven = file.field(0, "w").unwrap();
+    let found = (seven.version, seven.type_id, seven.part);
+    assert_eq!(found, (1, 0x19, &bytes[40..68]));
+    assert_eq!(seven.kind_name(), "seven-f32");
+    let element = seven.element(0).unwrap();
+    assert_eq!(element.to_string(), "1 -0 -0 NaN 0 1.5 -2");
+    assert!(matches!(element, DataValue::FloatVec7(_)));
+    let shown: Vec<_> = seven.elements().map(|value| value.to_string()).collect();
+    assert_eq!(shown, ["1 -0 -0 NaN 0 1.5 -2"]);
+    assert_eq!(seven.element(1), Err(refusal(13, 0)));
+    let part = &seven.part[..27];
+    assert_eq!(DataField { part, ..seven }.element(0), Err(cut(24, 1)));
+    for version in [0, 2, 257, u32::MAX] {
+        let eight = DataField { version, ..seven };
+        assert_eq!(eight.kind_name(), "placement");
+        assert_eq!(eight.element(0), Err(cut(28, 4)));
+        let mut other = bytes.clone();
+        other[4..8].copy_from_slice(&version.to_le_bytes());
+        assert_eq!(to_siin(&other), Err(cut(72, 3)));
+    }
+    let text = "SiiNunit\n{\nj : null {\n  w: (1, -0, -0) (&7f800002; 0, &3fc00000, -2)\n}\n}\n";
+    assert_eq!(to_siin(&bytes).unwrap(), text.as_bytes());
+}
+
 /// So many of the smallest prototypes: as many as their bytes allow.
 fn prototypes(count: u32) -> Vec<u8> {
     let mut bytes = b"BSII\x02\0\0\0".to_vec();
@@ -256,12 +295,12 @@ fn texts_of_every_length() {
 
 #[test]
 fn each_refusal_has_a_sentence() {
-    let numbers = (1..=13).chain([15]);
+    let numbers = (1..=13).filter(|number| *number != 2).chain([15]);
     let sentences: Vec<_> = numbers.map(|n| refusal(n, 0).sentence()).collect();
     for (at, sentence) in sentences.iter().enumerate() {
         assert!(!sentences[..at].contains(sentence));
     }
-    for none in [0, 14, 16] {
+    for none in [0, 2, 14, 16] {
         assert!(!sentences.contains(&refusal(none, 0).sentence()));
     }
     let shown = [cut(81, 1), cut(53, 7), refusal(15, 12)].map(|refusal| refusal.to_string());
@@ -286,6 +325,8 @@ fn values_are_shown() {
     assert_eq!(shown(DataValue::Int32Vec3((1, -2, 3))), "1 -2 3");
     let four = DataValue::FloatVec4((1.0, 2.0, 3.0, f32::NAN));
     assert_eq!(shown(four), "1 2 3 NaN");
+    let seven = (1.0, 2.0, 3.0, 4.0, 5.0, 6.0, -0.5);
+    assert_eq!(shown(DataValue::FloatVec7(seven)), "1 2 3 4 5 6 -0.5");
     let placement = (1.0, 2.0, 3.0, 4.0, 5.0, 6.0, 7.0, 8.5);
     assert_eq!(shown(DataValue::FloatVec8(placement)), "1 2 3 4 5 6 7 8.5");
     assert_eq!(shown(DataValue::Int32(-1)), "-1");
@@ -380,7 +421,7 @@ fn the_raw_calls() {
     assert_eq!(number.number, 13);
     let field: Field = library::field_of(&bytes, &mut table, 0, b"km");
     assert_eq!((field.type_id, field.part_offset), (0x27, 61));
-    let element: Element = library::element_of(0x27, &bytes[61..65], 0);
+    let element: Element = library::element_of(2, 0x27, &bytes[61..65], 0);
     assert_eq!((element.kind, element.value), (kind::U32, 300));
     let text: Text = library::to_siin(&bytes, &mut table, &mut out);
     assert_eq!((text.number, text.length), (0, 73));
@@ -426,8 +467,9 @@ fn elements_of_random_values() {
     let mut random = Random::new(1, 1);
     let (mut whole, mut longest) = (0, 0);
     for _ in 0..20_000 {
-        let (type_id, bytes) = generate::element(&mut random);
+        let (version, type_id, bytes) = generate::element(&mut random);
         let field = DataField {
+            version,
             type_id,
             part: &bytes,
         };
@@ -445,7 +487,7 @@ fn elements_of_random_values() {
 
 #[test]
 fn every_type_of_the_sample() {
-    let bytes = garage();
+    let bytes = sample("garage.bsii");
     let file = BsiiFile::parse(&bytes).unwrap();
     let names = [
         "label",
@@ -494,4 +536,21 @@ fn every_type_of_the_sample() {
         .collect();
     types.sort();
     assert_eq!(types, generate::LISTED);
+}
+
+#[test]
+fn the_sample_of_version_1() {
+    let bytes = sample("depot.bsii");
+    let file = BsiiFile::parse(&bytes).unwrap();
+    assert_eq!((file.version(), file.block_count()), (1, 1));
+    for (name, type_id, count) in [("gate", 0x19, 1), ("bays", 0x1a, 2)] {
+        let field = file.field(0, name).unwrap();
+        let kind = (field.version, field.type_id, field.kind_name());
+        assert_eq!(kind, (1, type_id, "seven-f32"));
+        assert_eq!(field.elements().count(), count);
+        walk_is_the_call(field);
+    }
+    let slots = file.field(0, "slots").unwrap().element(0);
+    assert_eq!(slots, Ok(DataValue::UInt32(2)));
+    assert_eq!(file.to_siin().unwrap(), sample("depot.sii"));
 }

@@ -18,6 +18,8 @@ pub struct Counts {
     /// Of these, saves that are read, and their bytes.
     pub saves: u64,
     pub bytes: u64,
+    /// Of these saves, those of version 1.
+    pub version_1: u64,
     /// Files that damage has made run out.
     pub damaged: u64,
     pub cuts: u64,
@@ -36,6 +38,7 @@ impl Counts {
         self.files += other.files;
         self.saves += other.saves;
         self.bytes += other.bytes;
+        self.version_1 += other.version_1;
         self.damaged += other.damaged;
         self.cuts += other.cuts;
         self.longer += other.longer;
@@ -50,8 +53,8 @@ impl Counts {
         let mut text = String::new();
         let _ = writeln!(
             text,
-            "files       {}: {saves} saves ({bytes} bytes), {} that run out",
-            self.files, self.damaged
+            "files       {}: {saves} saves ({bytes} bytes, {} of version 1), {} that run out",
+            self.files, self.version_1, self.damaged
         );
         let _ = writeln!(
             text,

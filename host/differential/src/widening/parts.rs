@@ -43,10 +43,10 @@ fn block_parts(model: &mut Model, save: &Save, block: &Block) -> Vec<Part> {
     let of = save.of(block);
     let head = bytes::prototype(1, &of.name, &[]);
     let empty = [&1u32.to_le_bytes(), &block.id[..]].concat();
-    let mut parts = vec![old(&inner(model, &[head, empty], 0))];
+    let mut parts = vec![old(&inner(model, save, &[head, empty], 0))];
     for (field, value) in of.fields.iter().zip(&block.values) {
         parts.push(Part {
-            text: lines(model, field, &value.bytes),
+            text: lines(model, save, field, &value.bytes),
             inserted: value.inserted,
         });
     }
@@ -55,14 +55,17 @@ fn block_parts(model: &mut Model, save: &Save, block: &Block) -> Vec<Part> {
 }
 
 /// A field's lines.
-fn lines(model: &mut Model, field: &Definition, value: &[u8]) -> Vec<u8> {
+fn lines(model: &mut Model, save: &Save, field: &Definition, value: &[u8]) -> Vec<u8> {
     let of = bytes::prototype(1, b"", &[field.bytes()]);
-    inner(model, &[of, bytes::block(1, value)], " : null {\n".len())
+    let records = [of, bytes::block(1, value)];
+    inner(model, save, &records, " : null {\n".len())
 }
 
-/// The text of a save of one block, from `start` on in the block's, without what closes it.
-fn inner(model: &mut Model, records: &[Vec<u8>], start: usize) -> Vec<u8> {
-    let made = model.whole_text(&bytes::file(records), usize::MAX);
+/// The text of a save of one block, of the same version, from `start` on in the block's, without what
+/// closes it.
+fn inner(model: &mut Model, save: &Save, records: &[Vec<u8>], start: usize) -> Vec<u8> {
+    let alone = bytes::file_of(save.version, records);
+    let made = model.whole_text(&alone, usize::MAX);
     let (text, _, _) = made.expect("a part of a save that converts");
     text[OPENING.len() + start..text.len() - 2 * CLOSING.len()].to_vec()
 }

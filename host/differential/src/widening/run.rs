@@ -18,6 +18,8 @@ const ENOUGH: u64 = 1000;
 #[derive(Default)]
 pub struct Counts {
     pub lists: u64,
+    /// Of these, into saves of version 1.
+    pub version_1: u64,
     pub bytes: u64,
     /// (i), (ii) and (iii).
     pub insertions: [u64; 3],
@@ -33,6 +35,7 @@ pub struct Counts {
 impl Counts {
     pub fn add(&mut self, made: &Widening) {
         self.lists += 1;
+        self.version_1 += u64::from(made.old.version == 1);
         let mut save = made.old.clone();
         for insertion in &made.list {
             self.nested += insertion.is_nested(&save) as u64;
@@ -64,7 +67,11 @@ impl Counts {
         let [fields, prototypes, blocks] = self.insertions;
         let all = fields + prototypes + blocks;
         let mut text = String::new();
-        let _ = writeln!(text, "lists       {} ({} bytes)", self.lists, self.bytes);
+        let _ = writeln!(
+            text,
+            "lists       {} ({} bytes), {} into saves of version 1",
+            self.lists, self.bytes, self.version_1
+        );
         let _ = writeln!(
             text,
             "insertions  {all}: {fields} definitions with {} values, {prototypes} prototypes, \

@@ -98,14 +98,14 @@ pub fn prototype(random: &mut Random, save: &Save, most: usize) -> Prototype {
     }
 }
 
-/// A well-formed value; an enum's stands in its list.
-pub fn value(random: &mut Random, field: &Definition) -> Vec<u8> {
+/// A value that is well-formed by the version; an enum's stands in its list.
+pub fn value(random: &mut Random, version: u32, field: &Definition) -> Vec<u8> {
     match field.type_id {
         0x37 => {
             let (number, _) = field.list[random.below(field.list.len())];
             number.to_le_bytes().to_vec()
         }
-        type_id => valid::well_formed(random, type_id),
+        type_id => valid::well_formed(random, version, type_id),
     }
 }
 
@@ -121,13 +121,13 @@ fn has_blocks(of: &Prototype) -> bool {
 pub fn block(random: &mut Random, save: &Save) -> Option<Block> {
     let of = any_prototype(random, save, has_blocks)?;
     let value = |field: &Definition| Value {
-        bytes: value(random, field),
+        bytes: value(random, save.version, field),
         inserted: false,
     };
     let values = of.fields.iter().map(value).collect();
     Some(Block {
         prototype: of.id,
-        id: valid::well_formed(random, 0x39),
+        id: valid::well_formed(random, save.version, 0x39),
         values,
         inserted: false,
     })

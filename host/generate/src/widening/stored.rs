@@ -40,28 +40,36 @@ fn stored(made: &Widening, label: String, list: Vec<Written>, is_allowed: bool) 
     })
 }
 
-/// `count` lists that 01 allows, the empty one first.
-pub fn allowed_lists(seed: u64, count: usize) -> Vec<Stored> {
-    let mut lists = Vec::new();
-    for index in 0.. {
-        let mut made = Widening::new(&mut Random::new(seed, index), Sizes::SMALL);
-        if lists.is_empty() {
-            made.list.clear();
-        } else if made.list.is_empty() {
-            continue;
-        }
-        let label = format!("list {index} of seed {seed}");
-        lists.extend(stored(&made, label, made.written(), true));
-        if lists.len() == count {
-            break;
-        }
-    }
+/// All of them: the empty list, lists with every listed type, lists that bring placements into saves of
+/// version 1, and the broken ones.
+pub fn stored_lists() -> Vec<Stored> {
+    let mut lists = allowed_lists(71, 200, |made| !made.list.is_empty());
+    lists[0].list.clear();
+    lists.extend(allowed_lists(1, 16, has_placements_of_version_1));
+    lists.extend(broken_lists(1));
     lists
+}
+
+fn has_placements_of_version_1(made: &Widening) -> bool {
+    let is_placement = |type_id: &u32| matches!(type_id, 0x19 | 0x1a);
+    let types = made.inserted_types();
+    made.old.version == 1 && types.iter().flatten().any(is_placement)
+}
+
+/// `count` lists that 01 allows, of those that are asked for.
+fn allowed_lists(seed: u64, count: usize, is_asked: fn(&Widening) -> bool) -> Vec<Stored> {
+    let all = (0..).map(|index| {
+        let made = Widening::new(&mut Random::new(seed, index), Sizes::SMALL);
+        (format!("list {index} of seed {seed}"), made)
+    });
+    let asked = all.filter(|(_, made)| is_asked(made));
+    let short = asked.filter_map(|(label, made)| stored(&made, label, made.written(), true));
+    short.take(count).collect()
 }
 
 /// Lists that break one word of 01: with their last insertion, one for each of the breaks,
 /// and one with their order.
-pub fn broken_lists(seed: u64) -> Vec<Stored> {
+fn broken_lists(seed: u64) -> Vec<Stored> {
     let mut lists = Vec::new();
     for (number, (label, make)) in breaks().iter().enumerate() {
         let found = (0..).find_map(|index| {

@@ -1,7 +1,8 @@
 //! Floats, and the sums of placements.
 
 use super::Cases;
-use crate::bytes::{array, floats as bytes_of, one_value};
+use crate::bytes::*;
+use crate::bytes::{definition as field, floats as bytes_of};
 
 /// Bits of floats: zeros, whole and other numbers, the limit of 10,000,000, the least and largest of
 /// each class, infinities, NaNs.
@@ -71,6 +72,45 @@ pub fn placements(cases: &mut Cases) {
     ];
     let label = "placement with NaNs where nothing is added";
     cases.add(label, one_value(0x19, &bytes_of(&nans)));
+}
+
+/// Seven floats, of which none is added to: the same classes as above, but in the places of f1 and f3, where
+/// the Rust's stand-in adds 0, no NaN and no minus zero. Then other fields behind them, read by version 1
+/// and by others.
+pub fn placements_of_version_1(cases: &mut Cases) {
+    let is_kept = |bits: &u32| *bits != 0x8000_0000 && !f32::from_bits(*bits).is_nan();
+    let kept: Vec<u32> = FLOATS.into_iter().filter(is_kept).collect();
+    let seven = |i: usize| {
+        let mut bits = [0, 1, 2, 3, 4, 5, 6].map(|k| FLOATS[(5 * i + k) % FLOATS.len()]);
+        bits[0] = kept[2 * i % kept.len()];
+        bits[2] = kept[(2 * i + 1) % kept.len()];
+        bytes_of(&bits)
+    };
+    let in_version_1 = |type_id: u32, value: &[u8]| {
+        let fields = [field(type_id, b"f")];
+        file_of(1, &[prototype(1, b"p", &fields), block(1, value)])
+    };
+    for i in 0..kept.len().div_ceil(2) {
+        let whole = in_version_1(0x19, &seven(i));
+        cases.add(format!("version 1, placement {i}"), whole);
+    }
+    for count in [0, 1, 5] {
+        let all: Vec<_> = (0..count).map(seven).collect();
+        let whole = in_version_1(0x1a, &array(&all));
+        let label = format!("version 1, {count} placements");
+        cases.add(label.clone(), whole.clone());
+        if count > 0 {
+            cases.cut(format!("{label}, last byte cut"), &whole, 1);
+            cases.cut(format!("{label}, an element cut"), &whole, 28);
+        }
+    }
+    let fields = [field(0x1a, b"a"), field(0x19, b"b"), field(0x01, b"s")];
+    let values = [array(&[seven(3), seven(4)]), seven(5), string(b"behind")].concat();
+    let records = [prototype(1, b"p", &fields), block(1, &values)];
+    for version in [1, 0, 2, 0x101, 0x0100_0001] {
+        let label = format!("placements of seven read by version {version}");
+        cases.add(label, file_of(version, &records));
+    }
 }
 
 /// A placement with these, and some floats that are not added to.

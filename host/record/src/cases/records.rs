@@ -1,7 +1,7 @@
 //! The worked bytes, headers, record numbers and marks.
 
 use super::Cases;
-use crate::bytes::{block, prototype, worked_vectors};
+use crate::bytes::{block, prototype, worked_vectors, worked_version_1};
 
 /// The worked file, with bytes after it, and cuts: none of the lengths whose answer depends on the
 /// Rust's build.
@@ -19,6 +19,19 @@ pub fn worked(cases: &mut Cases) {
     for len in [49, 50, 60, 65, 80] {
         let label = format!("worked vectors, first {len}");
         cases.add(label, vectors[..len].to_vec());
+    }
+    // Whole it has a minus zero that the Rust's sum with 0 loses.
+    let seven = worked_version_1();
+    for len in [40, 41, 52, 67, 68, 72] {
+        let label = format!("worked placement of version 1, first {len}");
+        cases.add(label, seven[..len].to_vec());
+    }
+    for version in [0u32, 2, 3, 0x101] {
+        let file = [&seven[..4], &version.to_le_bytes(), &seven[8..]].concat();
+        cases.add(
+            format!("worked placement of seven in version {version}"),
+            file,
+        );
     }
 }
 

@@ -33,7 +33,7 @@ impl Field {
             definition.list = vec![(5, b"five".to_vec()), (0, b"".to_vec())];
         }
         let value = |block: &Block| match block.prototype == of.id {
-            true => parts::value(random, &definition),
+            true => parts::value(random, save.version, &definition),
             false => Vec::new(),
         };
         let values = save.blocks().map(value).collect();

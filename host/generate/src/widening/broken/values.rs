@@ -5,6 +5,7 @@ use super::Break;
 use crate::bytes::{array, named, string};
 use crate::corners;
 use crate::save::{Definition, Save};
+use crate::valid;
 use crate::widening::written::Written;
 use crate::{Random, ARRAYS};
 
@@ -76,6 +77,30 @@ const CHANGES: &[(&str, &[u32], Change)] = &[
     ),
 ];
 
+/// Placements with the floats of another version.
+const PLACEMENTS: &[(&str, bool, u32)] = &[
+    (
+        "(i) with a placement of eight floats in version 1",
+        true,
+        0x19,
+    ),
+    (
+        "(i) with placements of eight floats in version 1",
+        true,
+        0x1a,
+    ),
+    (
+        "(i) with a placement of seven floats, not in version 1",
+        false,
+        0x19,
+    ),
+    (
+        "(i) with placements of seven floats, not in version 1",
+        false,
+        0x1a,
+    ),
+];
+
 /// Unlisted types, some of them beside listed ones.
 const UNLISTED: &[(&str, u32)] = &[
     ("(i) of the unlisted type 0x08, carried", 0x08),
@@ -91,6 +116,17 @@ pub fn breaks() -> impl Iterator<Item = (&'static str, Break)> {
         let make: Break = Box::new(|random, save, _| changed(random, save, types, *change));
         (*label, make)
     });
+    let placements = PLACEMENTS.iter().map(|(label, in_version_1, type_id)| {
+        let make: Break = Box::new(|random, save, _| {
+            let other: Change = match in_version_1 {
+                true => |random, field, _| by_version(random, 2, field),
+                false => |random, field, _| by_version(random, 1, field),
+            };
+            let is_asked = (save.version == 1) == *in_version_1;
+            is_asked.then(|| changed(random, save, &[*type_id], other))?
+        });
+        (*label, make)
+    });
     let unlisted = UNLISTED.iter().map(|(label, type_id)| {
         let make: Break = Box::new(|random, save, _| {
             let number = Field::new(random, save, true, &[0x27])?;
@@ -103,7 +139,7 @@ pub fn breaks() -> impl Iterator<Item = (&'static str, Break)> {
         choice.with(|field| field.definition.list.clear())
     });
     let empty = ("(i) with an enum's value and an empty list", empty);
-    changes.chain([empty]).chain(unlisted)
+    changes.chain(placements).chain([empty]).chain(unlisted)
 }
 
 /// With the value of one block changed.
@@ -119,6 +155,12 @@ fn changed(random: &mut Random, save: &Save, types: &[u32], change: Change) -> O
 
 fn cut(_: &mut Random, _: &Definition, value: &[u8]) -> Option<Vec<u8>> {
     Some(value[..value.len() - 1].to_vec())
+}
+
+/// An array without elements is the same in all versions.
+fn by_version(random: &mut Random, version: u32, field: &Definition) -> Option<Vec<u8>> {
+    let value = valid::well_formed(random, version, field.type_id);
+    Some(value).filter(|value| value.len() > 4)
 }
 
 fn longer(_: &mut Random, _: &Definition, value: &[u8]) -> Option<Vec<u8>> {

@@ -1,10 +1,12 @@
-//! Writes the sample save to standard output:
+//! Writes a sample save to standard output:
 //!
-//!     cargo run --offline -q -p generate --example garage > ../samples/garage.bsii
+//!     cargo run --offline -q -p generate --example samples -- garage > ../samples/garage.bsii
+//!     cargo run --offline -q -p generate --example samples -- depot > ../samples/depot.bsii
 //!
-//! Nothing in it comes from a game: the names and values are made up, so that a small save shows
+//! Nothing in them comes from a game: the names and values are made up, so that a small save shows
 //! each of the 34 listed types once in its first block, an enum, both kinds of ids, a prototype
-//! that is used twice and one that is not used at all.
+//! that is used twice and one that is not used at all; and a smaller one, of version 1, what differs
+//! there: a placement, an array of them, and a field behind them.
 
 use generate::bytes::*;
 use std::io::Write;
@@ -36,7 +38,7 @@ fn unit(prototype: u32, id: Vec<u8>, values: &[Vec<u8>]) -> Vec<u8> {
 }
 
 /// The garage's fields: type, name, value.
-fn garage() -> Vec<(u32, &'static str, Vec<u8>)> {
+fn garage_fields() -> Vec<(u32, &'static str, Vec<u8>)> {
     // The fourth number of a placement is its sector: 2048 in both directions is the middle.
     let middle = 2048.0 * 4096.0 + 2048.0;
     let spot = |x, z, sector| singles(&[x, 0.5, z, sector, 1.0, 0.0, 0.0, -0.0]);
@@ -123,10 +125,10 @@ fn garage() -> Vec<(u32, &'static str, Vec<u8>)> {
     ]
 }
 
-fn main() {
+fn garage() -> Vec<u8> {
     let states: [(u32, &[u8]); 3] = [(0, b"sold"), (3, b"in use"), (5, b"closed")];
     let (mut definitions, mut values) = (Vec::new(), Vec::new());
-    for (type_id, name, value) in garage() {
+    for (type_id, name, value) in garage_fields() {
         definitions.push(match type_id {
             0x37 => choice(name.as_bytes(), &states),
             _ => definition(type_id, name.as_bytes()),
@@ -135,13 +137,44 @@ fn main() {
     }
     let truck = [definition(0x01, b"plate"), definition(0x27, b"km")];
     let truck_of = |plate: &[u8], km: u32| [string(plate), km.to_le_bytes().to_vec()];
-    let save = file(&[
+    file(&[
         prototype(1, b"garage", &definitions),
         prototype(2, b"truck", &truck),
         unit(1, id("garage.dresden"), &values),
         unit(2, nameless(0x1_2b40_f8a0), &truck_of(b"DD_KS_12", 81_250)),
         prototype(3, b"trailer", &[]),
         unit(2, nameless(0), &truck_of(b"DD KS 13", u32::MAX)),
-    ]);
+    ])
+}
+
+fn depot() -> Vec<u8> {
+    let fields = [
+        definition(0x01, b"label"),
+        definition(0x19, b"gate"),
+        definition(0x1a, b"bays"),
+        definition(0x27, b"slots"),
+    ];
+    let values = [
+        string(b"Dresden Nord"),
+        singles(&[-18344.0, 0.5, 2048.0, 1.0, 0.0, -0.0, 0.25]),
+        array(&[
+            singles(&[1.0, -0.0, 3.5, -1.0, 0.0, 0.0, 0.0]),
+            singles(&[10000001.0, 0.0, 20.0, 8390656.0, 0.0, 1.0, 0.0]),
+        ]),
+        2u32.to_le_bytes().to_vec(),
+    ];
+    let depot = prototype(1, b"depot", &fields);
+    file_of(1, &[depot, unit(1, id("depot.nord"), &values)])
+}
+
+fn main() {
+    let save = match std::env::args().nth(1).as_deref() {
+        Some("garage") => garage(),
+        Some("depot") => depot(),
+        _ => {
+            eprintln!("which sample? garage or depot");
+            std::process::exit(2);
+        }
+    };
     std::io::stdout().write_all(&save).unwrap();
 }
