@@ -12,7 +12,7 @@ use Rattle.bsii_format.specs.Reader.{Result, ok, fault, shortAt, bytes, after, 
 use Rattle.bsii_format.specs.Numbers.{number}
 use Rattle.bsii_format.specs.Utf8.{utf8}
 use Rattle.bsii_format.specs.Strings.{strParser, idParser}
-use Rattle.bsii_format.specs.Types.{Kind, Numeric, float, floatVec2, floatVec3, floatVec4, floatVec8, int32, int32Vec3, uint32, uint16, int64, uint64, bool, enum, width, arity, numbers, string, id, one, many}
+use Rattle.bsii_format.specs.Types.{Kind, Numeric, float, floatVec2, floatVec3, floatVec4, floatVec7, floatVec8, int32, int32Vec3, uint32, uint16, int64, uint64, bool, enum, width, arity, numbers, string, id, one, many}
 use Rattle.bsii_format.specs.Values.{Element, nums, str, ident, Value, single, array, elementParser, shapeParser}
 use Rattle.bsii_format.specs.BlockText.{orRefuse}
 use Rattle.bsii_format.specs.Calls.{dString, dId, numericDatum, datumOf, datum, Placed, placed, elementsOf, ofValue}
@@ -63,6 +63,7 @@ numbers-refuse float = refl
 numbers-refuse floatVec2 = refl
 numbers-refuse floatVec3 = refl
 numbers-refuse floatVec4 = refl
+numbers-refuse floatVec7 = refl
 numbers-refuse floatVec8 = refl
 numbers-refuse int32 = refl
 numbers-refuse int32Vec3 = refl

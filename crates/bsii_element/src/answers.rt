@@ -3,6 +3,7 @@ use bsii_float::floats::Placement;
 use bsii_float::floats::Vec2;
 use bsii_float::floats::Vec3;
 use bsii_float::floats::Vec4;
+use bsii_float::floats::Vec7;
 use bsii_string::answers::Refusal;
 
 pub struct Int3 {
@@ -20,6 +21,7 @@ pub enum Element {
     FloatVec2(Vec2),
     FloatVec3(Vec3),
     FloatVec4(Vec4),
+    FloatVec7(Vec7),
     FloatVec8(Placement),
     Int32(i32),
     Int32Vec3(Int3),

@@ -104,14 +104,14 @@ fn in_array(part: &[u8], kind: Kind, index: usize) -> Element
 }
 
 // The element at the index of the value that the slice starts with. The value is read whole before the index is looked at.
-pub fn element(type_id: u32, part: &[u8], index: usize) -> Element
-    ensures { λ r. ⌜ elementIs r ≡ elementCall «type_id» (now (part .entry)) index ⌝ }
+pub fn element(version: u32, type_id: u32, part: &[u8], index: usize) -> Element
+    ensures { λ r. ⌜ elementIs r ≡ elementCall version «type_id» (now (part .entry)) index ⌝ }
 {
-    let shape = shape_of(type_id);
+    let shape = shape_of(version, type_id);
     match shape {
         Shape::One(kind) => single(part, kind, index),
         Shape::Many(kind) => {
-            let whole = value_parser(part, 0, type_id);
+            let whole = value_parser(part, 0, version, type_id);
             match whole {
                 Parsed::Next(_) => in_array(part, kind, index),
                 Parsed::Fault(f) => Element::Refused(f),

@@ -7,12 +7,14 @@ use bsii_float::floats::Bits3;
 use bsii_float::floats::bits2_at;
 use bsii_float::floats::bits3_at;
 use bsii_float::floats::bits4_at;
+use bsii_float::floats::bits7_at;
 use bsii_float::floats::float_of;
 use bsii_float::floats::placement_bits_at;
 use bsii_float::floats::placement_of;
 use bsii_float::floats::vec2_of;
 use bsii_float::floats::vec3_of;
 use bsii_float::floats::vec4_of;
+use bsii_float::floats::vec7_of;
 use bsii_string::answers::Parsed;
 use bsii_string::at::u8_at;
 use bsii_string::at::u16_at;
@@ -57,6 +59,7 @@ fn numeric_of(raw: &[u8], n: Numeric) -> Element
         Numeric::FloatVec2 => Element::FloatVec2(vec2_of(bits2_at(raw))),
         Numeric::FloatVec3 => Element::FloatVec3(vec3_of(bits3_at(raw))),
         Numeric::FloatVec4 => Element::FloatVec4(vec4_of(bits4_at(raw))),
+        Numeric::FloatVec7 => Element::FloatVec7(vec7_of(bits7_at(raw))),
         Numeric::FloatVec8 => Element::FloatVec8(placement_of(placement_bits_at(raw))),
         Numeric::Int32 => Element::Int32(signed32(u32_at(raw, 0))),
         Numeric::Int32Vec3 => Element::Int32Vec3(int3_of(bits3_at(raw))),

@@ -7,7 +7,7 @@ use lib.ListN.{length, drop}
 use Rattle.bsii_format.specs.Replies.{unlistedType, Fault, refused, short}
 use Rattle.bsii_format.specs.Reader.{fault, after, _>>=_, _<$>_, fail, bytes, repeat}
 use Rattle.bsii_format.specs.Numbers.{number}
-use Rattle.bsii_format.specs.Types.{float, floatVec2, floatVec3, floatVec4, floatVec8, int32, int32Vec3, uint32, uint16, int64, uint64, bool, enum, width, arity, Kind, numbers, string, encodedString, id, Shape, one, many, shapeOf}
+use Rattle.bsii_format.specs.Types.{float, floatVec2, floatVec3, floatVec4, floatVec7, floatVec8, int32, int32Vec3, uint32, uint16, int64, uint64, bool, enum, width, arity, Kind, numbers, string, encodedString, id, Shape, one, many, shapeOf}
 use Rattle.bsii_format.proofs.Positions.{moved-on}
 use Rattle.bsii_string.specs.Answers.{endOf, uncheckedStr}
 use Rattle.bsii_string.specs.declared.answers.Parsed.the-variants.{Next}
@@ -28,6 +28,7 @@ element-none (numbers float) = refl
 element-none (numbers floatVec2) = refl
 element-none (numbers floatVec3) = refl
 element-none (numbers floatVec4) = refl
+element-none (numbers floatVec7) = refl
 element-none (numbers floatVec8) = refl
 element-none (numbers int32) = refl
 element-none (numbers int32Vec3) = refl
@@ -50,6 +51,6 @@ shape-none none = (refused unlistedType 0, refl)
 shape-none (some (one k)) = (short 0 (first k), element-none k)
 shape-none (some (many k)) = (short 0 4, refl)
 
-pub value-moves : (t : ℕ) (s : List ℕ) (at : ℕ) {n : ℕ} → Next n ≡ endOf (uncheckedValue t at (drop at s)) → (at < n) × (n ≤ length s)
+pub value-moves : (version t : ℕ) (s : List ℕ) (at : ℕ) {n : ℕ} → Next n ≡ endOf (uncheckedValue version t at (drop at s)) → (at < n) × (n ≤ length s)
 unfolding uncheckedValue
-value-moves t s at e = moved-on (unchecked-value-exact t) (shape-none (shapeOf t) .1) s at (next-is (uncheckedValue t at (drop at s)) e .2)
+value-moves version t s at e = moved-on (unchecked-value-exact version t) (shape-none (shapeOf version t) .1) s at (next-is (uncheckedValue version t at (drop at s)) e .2)

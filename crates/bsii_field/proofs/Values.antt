@@ -29,7 +29,7 @@ use Rattle.bsii_field.specs.Answers.{foundIs, ValueAt}
 
 -- ---- a value that was accepted, and those behind it
 
-pub record ValueStep (s : List ℕ) (at type next end : ℕ) (vs : List DataValue) (n : ℕ) (t : List ℕ) (m : ℕ) (u : List ℕ) : Type 0 where
+pub record ValueStep (version : ℕ) (s : List ℕ) (at type next end : ℕ) (vs : List DataValue) (n : ℕ) (t : List ℕ) (m : ℕ) (u : List ℕ) : Type 0 where
   pub value : DataValue
   pub typed : type ≡ value .typeId
   pub size : end - at ≡ length (value .raw)
@@ -38,14 +38,14 @@ pub record ValueStep (s : List ℕ) (at type next end : ℕ) (vs : List DataValu
   pub fields : Fields
   pub values : List DataValue
   pub read : fieldsParser next (drop next s) ≡ ok fields n t
-  pub carried : dataValuesParser (fields .fields) end (drop end s) ≡ ok values m u
+  pub carried : dataValuesParser version (fields .fields) end (drop end s) ≡ ok values m u
   pub list : vs ≡ value ∷ values
 
-module _ (s : List ℕ) (field at : ℕ) {l : Fields} {n : ℕ} {t : List ℕ} (read : fieldsParser field (drop field s) ≡ ok l n t)
-    {vs : List DataValue} {m : ℕ} {u : List ℕ} (carried : dataValuesParser (l .fields) at (drop at s) ≡ ok vs m u)
+module _ (version : ℕ) (s : List ℕ) (field at : ℕ) {l : Fields} {n : ℕ} {t : List ℕ} (read : fieldsParser field (drop field s) ≡ ok l n t)
+    {vs : List DataValue} {m : ℕ} {u : List ℕ} (carried : dataValuesParser version (l .fields) at (drop at s) ≡ ok vs m u)
     {type a b next : ℕ} (e : Field type a b next ≡ entryOf (field + 8) (entryWith uncheckedStr field (drop field s))) where
-  step-of : (y : FieldTurn s field type a b next l n t) (w : Turn (with (y .field) (take (next - field) (drop field s))) (y .rest .fields) s at vs m u)
-      → ValueStep s at type next (w .end) vs n t m u
+  step-of : (y : FieldTurn s field type a b next l n t) (w : Turn version (with (y .field) (take (next - field) (drop field s))) (y .rest .fields) s at vs m u)
+      → ValueStep version s at type next (w .end) vs n t m u
   step-of y w =
       let g = value-good (with (y .field) (take (next - field) (drop field s))) at (drop at s) (w .value) (w .end) (drop (w .end) s) (w .first) in
       let size : w .end - at ≡ length (w .value .raw) = omega (arith, g .2) in
@@ -62,19 +62,19 @@ module _ (s : List ℕ) (field at : ℕ) {l : Fields} {n : ℕ} {t : List ℕ} (
         list = w .both;
       }
 
-  step-end : (end : ℕ) × (endOf (uncheckedValue type at (drop at s)) ≡ Next end) × ValueStep s at type next end vs n t m u
+  step-end : (end : ℕ) × (endOf (uncheckedValue version type at (drop at s)) ≡ Next end) × ValueStep version s at type next end vs n t m u
   unfolding consField
   step-end =
       let y = turn-field s field read e in
       let w = turn (with (y .field) (take (next - field) (drop field s))) (y .rest .fields) s at
-      (ap (λ (z : Fields). dataValuesParser (z .fields) at (drop at s)) (sym (y .list)) ∙ carried) in
-      (w .end, ap (λ z. endOf (uncheckedValue z at (drop at s))) (y .typed) ∙ w .past, step-of y w)
+      (ap (λ (z : Fields). dataValuesParser version (z .fields) at (drop at s)) (sym (y .list)) ∙ carried) in
+      (w .end, ap (λ z. endOf (uncheckedValue version z at (drop at s))) (y .typed) ∙ w .past, step-of y w)
 
-  pub step : {end : ℕ} → Next end ≡ endOf (uncheckedValue type at (drop at s)) → ValueStep s at type next end vs n t m u
-  step h = let q = step-end in subst (λ (k : ℕ). ValueStep s at type next k vs n t m u) (sym (next-same (h ∙ q .1))) (q .2)
+  pub step : {end : ℕ} → Next end ≡ endOf (uncheckedValue version type at (drop at s)) → ValueStep version s at type next end vs n t m u
+  step h = let q = step-end in subst (λ (k : ℕ). ValueStep version s at type next k vs n t m u) (sym (next-same (h ∙ q .1))) (q .2)
 
   -- what was accepted is not refused
-  pub step-fault : {P : Type 0} {f : Refusal} → Fault f ≡ endOf (uncheckedValue type at (drop at s)) → P
+  pub step-fault : {P : Type 0} {f : Refusal} → Fault f ≡ endOf (uncheckedValue version type at (drop at s)) → P
   step-fault h = next≢fault (sym (h ∙ step-end .1))
 
 -- ---- the list of values with their places
@@ -103,19 +103,19 @@ part-is s at type end v t l b = rw (t, b, l)
 
 -- ---- the loop: `passed` values of those from `start` on are passed, and the others stand from `at` on
 
-pub record Rest (s : List ℕ) (field at left : ℕ) (there : Option (Placed DataValue)) (n : ℕ) (t : List ℕ) (m : ℕ) (u : List ℕ) : Type 0 where
+pub record Rest (version : ℕ) (s : List ℕ) (field at left : ℕ) (there : Option (Placed DataValue)) (n : ℕ) (t : List ℕ) (m : ℕ) (u : List ℕ) : Type 0 where
   pub fields : Fields
   pub values : List DataValue
   pub read : fieldsParser field (drop field s) ≡ ok fields n t
-  pub carried : dataValuesParser (fields .fields) at (drop at s) ≡ ok values m u
+  pub carried : dataValuesParser version (fields .fields) at (drop at s) ≡ ok values m u
   pub same : getElem? (places at values) left ≡ there
 
-pub record Going (s : List ℕ) (fields start index field at passed : ℕ) : Type 0 where
+pub record Going (version : ℕ) (s : List ℕ) (fields start index field at passed : ℕ) : Type 0 where
   pub rest : (l : Fields) (n : ℕ) (t : List ℕ) → fieldsParser fields (drop fields s) ≡ ok l n t
-      → (vs : List DataValue) (m : ℕ) (u : List ℕ) → dataValuesParser (l .fields) start (drop start s) ≡ ok vs m u
-      → Rest s field at (index - passed) (getElem? (places start vs) index) n t m u
+      → (vs : List DataValue) (m : ℕ) (u : List ℕ) → dataValuesParser version (l .fields) start (drop start s) ≡ ok vs m u
+      → Rest version s field at (index - passed) (getElem? (places start vs) index) n t m u
 
-pub go-start : {s : List ℕ} {fields start index : ℕ} → Going s fields start index fields start 0
+pub go-start : {version : ℕ} {s : List ℕ} {fields start index : ℕ} → Going version s fields start index fields start 0
 go-start {start = start} {index = index} = record {
   rest = λ l n t e vs m u f.
       let all : index - 0 ≡ index = omega arith in
@@ -128,49 +128,49 @@ value-is e = (cc, cc)
 none≢value : {P : Type 0} {t at next : ℕ} → _≡_ {A = FoundValue} NoValue (Value t at next) → P
 none≢value e = let z : _≡_ {A = ℕ} 0 1 = cc in let f : ⊥ = omega arith in absurd f
 
-module _ {s : List ℕ} {fields start index field at passed : ℕ} (k : Going s fields start index field at passed) where
-  pub go-last : {n : ℕ} → Last n ≡ entryOf (field + 8) (entryWith uncheckedStr field (drop field s)) → ValueAt s fields start index NoValue
+module _ {version : ℕ} {s : List ℕ} {fields start index field at passed : ℕ} (k : Going version s fields start index field at passed) where
+  pub go-last : {n : ℕ} → Last n ≡ entryOf (field + 8) (entryWith uncheckedStr field (drop field s)) → ValueAt version s fields start index NoValue
   go-last e = record {
     answer = λ l n t h vs m u f.
         let x = k .rest l n t h vs m u f in
-        let none = done (ap (λ fs. dataValuesParser fs at (drop at s)) (sym (turn-last s field (x .read) e .0)) ∙ x .carried) in
+        let none = done version (ap (λ fs. dataValuesParser version fs at (drop at s)) (sym (turn-last s field (x .read) e .0)) ∙ x .carried) in
         ap (Option·map fieldAnswer) (sym (no-place at (index - passed)) ∙ ap (λ ws. getElem? (places at ws) (index - passed)) (sym (none .0)) ∙ x .same);
     inside = λ t a n f. none≢value f;
   }
 
-  pub go-bad : {f : Refusal} → Bad f ≡ entryOf (field + 8) (entryWith uncheckedStr field (drop field s)) → ValueAt s fields start index NoValue
+  pub go-bad : {f : Refusal} → Bad f ≡ entryOf (field + 8) (entryWith uncheckedStr field (drop field s)) → ValueAt version s fields start index NoValue
   go-bad e = record {
     answer = λ l n t h vs m u f. turn-bad s field (k .rest l n t h vs m u f .read) e;
     inside = λ t a n f. none≢value f;
   }
 
   module _ {type a b next : ℕ} (e : Field type a b next ≡ entryOf (field + 8) (entryWith uncheckedStr field (drop field s))) where
-    pub go-fault : {f : Refusal} → Fault f ≡ endOf (uncheckedValue type at (drop at s)) → ValueAt s fields start index NoValue
+    pub go-fault : {f : Refusal} → Fault f ≡ endOf (uncheckedValue version type at (drop at s)) → ValueAt version s fields start index NoValue
     go-fault h = record {
-      answer = λ l n t f vs m u g. let x = k .rest l n t f vs m u g in step-fault s field at (x .read) (x .carried) e h;
+      answer = λ l n t f vs m u g. let x = k .rest l n t f vs m u g in step-fault version s field at (x .read) (x .carried) e h;
       inside = λ t a n f. none≢value f;
     }
 
-    module _ {end : ℕ} (h : Next end ≡ endOf (uncheckedValue type at (drop at s))) where
-      pub go-here : passed ≡ index → ValueAt s fields start index (Value type at end)
+    module _ {end : ℕ} (h : Next end ≡ endOf (uncheckedValue version type at (drop at s))) where
+      pub go-here : passed ≡ index → ValueAt version s fields start index (Value type at end)
       go-here z = record {
         answer = λ l n t f vs m u g.
             let x = k .rest l n t f vs m u g in
-            let y = step s field at (x .read) (x .carried) e h in
+            let y = step version s field at (x .read) (x .carried) e h in
             let none : index - passed ≡ 0 = omega arith in
             part-is s at type end (y .value) (y .typed) (y .size) (y .bytes)
             ∙ ap (Option·map fieldAnswer) (sym (first-place at (y .value) (y .values) none) ∙ ap (λ ws. getElem? (places at ws) (index - passed)) (sym (y .list)) ∙ x .same);
         inside = λ t a n f.
-            let q = value-moves type s at h in
+            let q = value-moves version type s at h in
             let p = value-is f in
             (omega (arith, q, p), omega (arith, q, p));
       }
 
-      pub go-on : passed < index → Going s fields start index next end (passed + 1)
+      pub go-on : passed < index → Going version s fields start index next end (passed + 1)
       go-on z = record {
         rest = λ l n t f vs m u g.
             let x = k .rest l n t f vs m u g in
-            let y = step s field at (x .read) (x .carried) e h in
+            let y = step version s field at (x .read) (x .carried) e h in
             let fewer : index - (passed + 1) ≡ index - passed - 1 = omega arith in
             record {
               fields = y .fields;

@@ -69,24 +69,24 @@ seek-named last name j k (b ∷ l) = go (isNamed name (getPrototype (b .it .prot
 
 -- ---- what it found
 
-pub record WasFound (s : List ℕ) (last : List Prototype) (o : Option Numbered) (b : Block) : Type 0 where
+pub record WasFound (version : ℕ) (s : List ℕ) (last : List Prototype) (o : Option Numbered) (b : Block) : Type 0 where
   pub block : Placed DataBlock
-  pub parts : BlockIs s last b block
+  pub parts : BlockIs version s last b block
   pub found : o ≡ some (record { number = b .number; of = block })
 
-was-found : {s : List ℕ} {last : List Prototype} {o : Option Numbered} {r : BlockAt} → Sought s last o r → (b : Block) → r ≡ ABlock b → WasFound s last o b
-was-found {s} {last} {o} (sought {b = c} x i e) b z = let y : c ≡ b = cc in subst (WasFound s last o) y (record { block = x; parts = i; found = e })
+was-found : {version : ℕ} {s : List ℕ} {last : List Prototype} {o : Option Numbered} {r : BlockAt} → Sought version s last o r → (b : Block) → r ≡ ABlock b → WasFound version s last o b
+was-found {version} {s} {last} {o} (sought {b = c} x i e) b z = let y : c ≡ b = cc in subst (WasFound version s last o) y (record { block = x; parts = i; found = e })
 was-found (missed e) b z = let y : _≡_ {A = ℕ} 0 1 = cc in let f : ⊥ = omega arith in absurd f
 
-was-missed : {s : List ℕ} {last : List Prototype} {o : Option Numbered} {r : BlockAt} → Sought s last o r → r ≡ NoBlock → o ≡ none
+was-missed : {version : ℕ} {s : List ℕ} {last : List Prototype} {o : Option Numbered} {r : BlockAt} → Sought version s last o r → r ≡ NoBlock → o ≡ none
 was-missed (sought x i e) z = let y : _≡_ {A = ℕ} 0 1 = cc in let f : ⊥ = omega arith in absurd f
 was-missed (missed e) z = e
 
-module _ {s t : List ℕ} {a : Totals} {t′ : List ℕ} (w : WasRead s t a t′) {any : Bool} {name : List ℕ} {k : ℕ} {r : BlockAt} (h : Seeks s 8 t′ (a .rows) any name k r) where
-  here : Sought s (prototypesOf (w .file .records)) (seekIn (prototypesOf (w .file .records)) any name 0 k (blocksOf (w .file))) r
-  here = subst (λ l. Sought s (prototypesOf (w .file .records)) (seekIn (prototypesOf (w .file .records)) any name 0 k l) r) (blocks-are w) (h .seeks _ _ _ (walk-first w))
+module _ {s t : List ℕ} {a : Totals} {t′ : List ℕ} (w : WasRead s t a t′) {any : Bool} {name : List ℕ} {k : ℕ} {r : BlockAt} (h : Seeks (a .version) s 8 t′ (a .rows) any name k r) where
+  here : Sought (a .version) s (prototypesOf (w .file .records)) (seekIn (prototypesOf (w .file .records)) any name 0 k (blocksOf (w .file))) r
+  here = subst (λ l. Sought (a .version) s (prototypesOf (w .file .records)) (seekIn (prototypesOf (w .file .records)) any name 0 k l) r) (blocks-are w) (h .seeks _ _ _ (walk-first w))
 
-  pub block-found : {b : Block} → r ≡ ABlock b → WasFound s (prototypesOf (w .file .records)) (seekIn (prototypesOf (w .file .records)) any name 0 k (blocksOf (w .file))) b
+  pub block-found : {b : Block} → r ≡ ABlock b → WasFound (a .version) s (prototypesOf (w .file .records)) (seekIn (prototypesOf (w .file .records)) any name 0 k (blocksOf (w .file))) b
   block-found {b} z = was-found here b z
 
   pub block-missed : r ≡ NoBlock → seekIn (prototypesOf (w .file .records)) any name 0 k (blocksOf (w .file)) ≡ none
@@ -118,16 +118,16 @@ head-number s at {k} {n} {r} e = let q = after-ok (leU32 at (drop at s)) _ e in 
     go false v i t h = let z = ok-val h in cc
 
 module _ {s : List ℕ} {b : Block} {q : Parsed} (e : q ≡ endOf (uncheckedId (b .id) (drop (b .id) s))) where
-  id-ends : (last : List Prototype) (x : Placed DataBlock) → BlockIs s last b x → q ≡ Next (b .id + length (x .it .id .raw))
+  id-ends : {version : ℕ} (last : List Prototype) (x : Placed DataBlock) → BlockIs version s last b x → q ≡ Next (b .id + length (x .it .id .raw))
   id-ends last x i = e ∙ id-same (b .id) (drop (b .id) s) (i .id)
 
   pub answered-fault : {f : Refusal} → q ≡ Fault f → (v : BlockReply) → BlockAnswered s b v
-  answered-fault y v = record { answers = λ last x i. next≢fault (sym (id-ends last x i) ∙ y) }
+  answered-fault y v = record { answers = λ version last x i. next≢fault (sym (id-ends last x i) ∙ y) }
 
   pub answered : {m k : ℕ} → q ≡ Next m → k ≡ numberAt 4 s (b .at) → BlockAnswered s b (block.Block k (b .id) (m - b .id))
   unfolding blockAnswer
   answered {m} {k} y z = record {
-    answers = λ last x i.
+    answers = λ version last x i.
         let j : m ≡ b .id + length (x .it .id .raw) = next-same (sym y ∙ id-ends last x i) in
         let l : m - b .id ≡ length (x .it .id .raw) = omega (arith, j) in
         ap gives (made (z ∙ head-number s (b .at) (i .head)) (i .idPlace) l);
@@ -144,7 +144,7 @@ module _ {s t : List ℕ} {r : Walked} {t′ : List ℕ} (h : ReadFile s t r t�
   unfolding blockCall
   block-refused k q = sym (unread-refuses (λ f at. orAbsent (Option·map blockAnswer (getElem? (blocksOf f) k))) h q)
 
-  module _ {a : Totals} (q : r ≡ Done a) {name : List ℕ} {k : ℕ} {p : BlockAt} (x : Seeks s 8 t′ (a .rows) true name k p) where
+  module _ {a : Totals} (q : r ≡ Done a) {name : List ℕ} {k : ℕ} {p : BlockAt} (x : Seeks (a .version) s 8 t′ (a .rows) true name k p) where
     is-block : {o : Option Numbered} → seekIn (prototypesOf (was-read h q .file .records)) true name 0 k (blocksOf (was-read h q .file)) ≡ o
         → blockCall (length t) s k ≡ orAbsent (Option·map blockAnswer (Option·map (λ (y : Numbered). y .of) o))
     unfolding blockCall
@@ -159,14 +159,14 @@ module _ {s t : List ℕ} {r : Walked} {t′ : List ℕ} (h : ReadFile s t r t�
 
     pub block-answers : {b : Block} → p ≡ ABlock b → {v : BlockReply} → BlockAnswered s b v → blockIs v ≡ blockCall (length t) s k
     unfolding orRefuse
-    block-answers z v = let f = block-found (was-read h q) x z in v .answers _ (f .block) (f .parts) ∙ sym (is-block (f .found))
+    block-answers z v = let f = block-found (was-read h q) x z in v .answers _ _ (f .block) (f .parts) ∙ sym (is-block (f .found))
 
 module _ {s t : List ℕ} {r : Walked} {t′ : List ℕ} (h : ReadFile s t r t′) where
   pub number-refused : (name : List ℕ) (k : ℕ) {f : Refusal} → r ≡ Stopped f → numberIs (number.Refused f) ≡ namedBlockCall (length t) s name k
   unfolding namedBlockCall
   number-refused name k q = sym (unread-refuses (λ f at. orAbsent (getElem? (blocksByPrototypeName name f) k)) h q)
 
-  module _ {a : Totals} (q : r ≡ Done a) {name : List ℕ} {k : ℕ} {p : BlockAt} (x : Seeks s 8 t′ (a .rows) false name k p) where
+  module _ {a : Totals} (q : r ≡ Done a) {name : List ℕ} {k : ℕ} {p : BlockAt} (x : Seeks (a .version) s 8 t′ (a .rows) false name k p) where
     is-number : {o : Option Numbered} → seekIn (prototypesOf (was-read h q .file .records)) false name 0 k (blocksOf (was-read h q .file)) ≡ o
         → namedBlockCall (length t) s name k ≡ orAbsent (Option·map (λ (y : Numbered). y .number) o)
     unfolding namedBlockCall blocksByPrototypeName

@@ -38,11 +38,11 @@ pub record WasRead (s t : List ℕ) (a : Totals) (t′ : List ℕ) : Type 0 wher
   pub file : BsiiFile
   pub parsed : parse (length t) s ≡ ok file (a .next) (drop (a .next) s)
   pub kept : Kept s t′ (a .rows) (prototypesIn (placedRecords file) [])
-  pub counted : a ≡ totalsOf (a .rows) (file .records) (a .next)
+  pub counted : a ≡ totalsOf (file .header .value) (a .rows) (file .records) (a .next)
 
 pub was-read : {s t : List ℕ} {r : Walked} {t′ : List ℕ} {a : Totals} → ReadFile s t r t′ → r ≡ Done a → WasRead s t a t′
 was-read {s} {t} {t′ = t′} {a = a} (read f {rows = rows} {n = n} e k l) q =
-    let same : totalsOf rows (f .records) n ≡ a = cc in
+    let same : totalsOf (f .header .value) rows (f .records) n ≡ a = cc in
     subst (λ (x : Totals). WasRead s t x t′) same (record { file = f; parsed = e; kept = k; counted = refl })
 was-read (unread e l) q = done≢stopped (sym q)
 

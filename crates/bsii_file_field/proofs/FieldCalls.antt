@@ -54,9 +54,9 @@ next-nowhere z n = record { is = λ m y. next≢fault (sym y ∙ z) }
 novalue≢value : {P : Type 0} {t a n : ℕ} → _≡_ {A = FoundValue} NoValue (Value t a n) → P
 novalue≢value e = let y : _≡_ {A = ℕ} 0 1 = cc in let f : ⊥ = omega arith in absurd f
 
-module _ {s : List ℕ} {b : Block} {name : List ℕ} {h : Parsed} (e : h ≡ endOf (uncheckedHead (b .last) (drop (b .last) s))) {f : ℕ} (o : NextOf h f) {i : Index} (x : IndexOf s f name i) where
+module _ {version : ℕ} {s : List ℕ} {b : Block} {name : List ℕ} {h : Parsed} (e : h ≡ endOf (uncheckedHead (b .last) (drop (b .last) s))) {f : ℕ} (o : NextOf h f) {i : Index} (x : IndexOf s f name i) where
   -- what the definitions' own search gives
-  under-is : (last : List Prototype) (y : Placed DataBlock) → BlockIs s last b y
+  under-is : (last : List Prototype) (y : Placed DataBlock) → BlockIs version s last b y
       → fieldUnder name y (getPrototype (y .it .prototypeId) last) ≡ atIndex (placed (λ (v : DataValue). length (v .raw)) (valuesOffset (y .offset) (y .it)) (y .it .values)) (indexIs i)
   unfolding fieldUnder
   under-is last y q =
@@ -64,7 +64,7 @@ module _ {s : List ℕ} {b : Block} {name : List ℕ} {h : Parsed} (e : h ≡ en
       let w = x .first _ _ _ (ap (λ (n : ℕ). fieldsParser n (drop n s)) z ∙ q .named .list) in
       ap (fieldUnder name y) (q .lastIs) ∙ ap (atIndex (placed (λ (v : DataValue). length (v .raw)) (valuesOffset (y .offset) (y .it)) (y .it .values))) (sym w)
 
-  pub field-absent : i ≡ Absent → FieldFound s b name NoValue
+  pub field-absent : i ≡ Absent → FieldFound version s b name NoValue
   unfolding atIndex
   field-absent z = record {
     answers = λ last y q. sym (ap (Option·map fieldAnswer) (under-is last y q ∙ ap (λ j. atIndex (placed (λ (v : DataValue). length (v .raw)) (valuesOffset (y .offset) (y .it)) (y .it .values)) (indexIs j)) z));
@@ -72,8 +72,8 @@ module _ {s : List ℕ} {b : Block} {name : List ℕ} {h : Parsed} (e : h ≡ en
   }
 
   module _ {j : ℕ} (z : i ≡ At j) {h₂ : Parsed} (e₂ : h₂ ≡ endOf (uncheckedHead (b .under) (drop (b .under) s))) {g : ℕ} (o₂ : NextOf h₂ g)
-      {h₃ : Parsed} (e₃ : h₃ ≡ endOf (uncheckedId (b .id) (drop (b .id) s))) {start : ℕ} (o₃ : NextOf h₃ start) {r : FoundValue} (v : ValueAt s g start j r) where
-    pub field-value : FieldFound s b name r
+      {h₃ : Parsed} (e₃ : h₃ ≡ endOf (uncheckedId (b .id) (drop (b .id) s))) {start : ℕ} (o₃ : NextOf h₃ start) {r : FoundValue} (v : ValueAt version s g start j r) where
+    pub field-value : FieldFound version s b name r
     unfolding atIndex valuesOffset
     field-value = record {
       answers = λ last y q.
@@ -81,7 +81,7 @@ module _ {s : List ℕ} {b : Block} {name : List ℕ} {h : Parsed} (e : h ≡ en
           let c : start ≡ b .id + length (y .it .id .raw) = o₃ .is _ (e₃ ∙ id-same (b .id) (drop (b .id) s) (q .id)) in
           let d : start ≡ valuesOffset (y .offset) (y .it) = c ∙ ap (λ (n : ℕ). n + length (y .it .id .raw)) (q .idPlace) in
           let w = v .answer _ _ _ (ap (λ (n : ℕ). fieldsParser n (drop n s)) a ∙ q .inForce .list) (y .it .values) _ _
-          (ap (λ (n : ℕ). dataValuesParser (q .p .fields) n (drop n s)) c ∙ q .values) in
+          (ap (λ (n : ℕ). dataValuesParser version (q .p .fields) n (drop n s)) c ∙ q .values) in
           w ∙ ap (λ (n : ℕ). Option·map fieldAnswer (getElem? (placed (λ (v : DataValue). length (v .raw)) n (y .it .values)) j)) d
           ∙ sym (ap (Option·map fieldAnswer) (under-is last y q ∙ ap (λ j. atIndex (placed (λ (v : DataValue). length (v .raw)) (valuesOffset (y .offset) (y .it)) (y .it .values)) (indexIs j)) z));
       inside = v .inside;
@@ -95,15 +95,15 @@ field-is {a = a} {n = n} {a′ = a′} {n′ = n′} e = let i : a ≡ a′ = cc
 refused≢field : {P : Type 0} {f : Refusal} {t a n : ℕ} → _≡_ {A = FieldReply} (Refused f) (Field t a n) → P
 refused≢field e = let y : _≡_ {A = ℕ} 0 1 = cc in let f : ⊥ = omega arith in absurd f
 
-module _ {s : List ℕ} {b : Block} {name : List ℕ} {r : FoundValue} (h : FieldFound s b name r) where
-  pub placed-absent : r ≡ NoValue → FieldPlaced s b name (Refused (refusedAt absent 0))
+module _ {version : ℕ} {s : List ℕ} {b : Block} {name : List ℕ} {r : FoundValue} (h : FieldFound version s b name r) where
+  pub placed-absent : r ≡ NoValue → FieldPlaced version s b name (Refused (refusedAt absent 0))
   unfolding orRefuse
   placed-absent z = record {
     answers = λ last y q. ap (λ o. orAbsent (foundIs s o)) (sym z) ∙ ap orAbsent (h .answers last y q);
     inside = λ t a n w. refused≢field w;
   }
 
-  pub placed-value : {t a n : ℕ} → r ≡ Value t a n → FieldPlaced s b name (Field t a (n - a))
+  pub placed-value : {t a n : ℕ} → r ≡ Value t a n → FieldPlaced version s b name (Field t a (n - a))
   unfolding orRefuse
   placed-value {t} {a} {n} z = record {
     answers = λ last y q. ap (λ o. orAbsent (foundIs s o)) (sym z) ∙ ap orAbsent (h .answers last y q);
@@ -120,7 +120,7 @@ module _ {s t : List ℕ} {k : ℕ} {name : List ℕ} {r : Walked} {t′ : List 
   unfolding fieldCall
   field-refused q = record { reply = sym (unread-refuses (λ f at. orAbsent (fieldOf k name f)) h q); inside = λ t a n w. refused≢field w }
 
-  module _ {a : Totals} (q : r ≡ Done a) {p : BlockAt} (x : Seeks s 8 t′ (a .rows) true name k p) where
+  module _ {a : Totals} (q : r ≡ Done a) {p : BlockAt} (x : Seeks (a .version) s 8 t′ (a .rows) true name k p) where
     is-field : {o : Option Numbered} → seekIn (prototypesOf (was-read h q .file .records)) true name 0 k (blocksOf (was-read h q .file)) ≡ o
         → fieldCall (length t) s k name ≡ orAbsent (Option·map fieldAnswer (fieldIn name (prototypesOf (was-read h q .file .records)) (Option·map (λ (y : Numbered). y .of) o)))
     unfolding fieldCall fieldOf
@@ -134,7 +134,7 @@ module _ {s t : List ℕ} {k : ℕ} {name : List ℕ} {r : Walked} {t′ : List 
     unfolding orRefuse fieldIn
     field-missing z = record { reply = sym (is-field (block-missed (was-read h q) x z)); inside = λ t a n w. refused≢field w }
 
-    pub field-answers : {b : Block} → p ≡ ABlock b → {v : FieldReply} → FieldPlaced s b name v → FieldRead (length t) s k name v
+    pub field-answers : {b : Block} → p ≡ ABlock b → {v : FieldReply} → FieldPlaced (a .version) s b name v → FieldRead (length t) s k name v
     unfolding orRefuse fieldIn
     field-answers z v = let f = block-found (was-read h q) x z in record { reply = v .answers _ (f .block) (f .parts) ∙ sym (is-field (f .found)); inside = v .inside }
 

@@ -2,7 +2,7 @@
 use bsii_string::at::u32_at;
 ghost use mathlib.Core.Path.{_≡_};
 ghost use lib.Ieee.{binary32, ofBits};
-ghost use Rattle.bsii_float.specs.Bits.{bitsOf, vec2Of, vec3Of, vec4Of, placementOf, bits2At, bits3At, bits4At, placementBitsAt};
+ghost use Rattle.bsii_float.specs.Bits.{bitsOf, vec2Of, vec3Of, vec4Of, vec7Of, placementOf, bits2At, bits3At, bits4At, bits7At, placementBitsAt};
 
 pub struct Vec2 {
     pub a: f32,
@@ -20,6 +20,17 @@ pub struct Vec4 {
     pub b: f32,
     pub c: f32,
     pub d: f32,
+}
+
+// A position and a turn, as version 1 has them.
+pub struct Vec7 {
+    pub a: f32,
+    pub b: f32,
+    pub c: f32,
+    pub d: f32,
+    pub e: f32,
+    pub f: f32,
+    pub g: f32,
 }
 
 // A position, a sector and a turn, as they stand in the file.
@@ -50,6 +61,16 @@ pub struct Bits4 {
     pub b: u32,
     pub c: u32,
     pub d: u32,
+}
+
+pub struct Bits7 {
+    pub a: u32,
+    pub b: u32,
+    pub c: u32,
+    pub d: u32,
+    pub e: u32,
+    pub f: u32,
+    pub g: u32,
 }
 
 pub struct PlacementBits {
@@ -110,6 +131,20 @@ pub fn vec4_of(bits: Bits4) -> Vec4
     }
 }
 
+pub fn vec7_of(bits: Bits7) -> Vec7
+    ensures { λ r. ⌜ r ≡ vec7Of bits ⌝ }
+{
+    Vec7 {
+        a: float_of(bits.a),
+        b: float_of(bits.b),
+        c: float_of(bits.c),
+        d: float_of(bits.d),
+        e: float_of(bits.e),
+        f: float_of(bits.f),
+        g: float_of(bits.g),
+    }
+}
+
 pub fn placement_of(bits: PlacementBits) -> Placement
     ensures { λ r. ⌜ r ≡ placementOf bits ⌝ }
 {
@@ -153,6 +188,20 @@ pub fn bits4_at(raw: &[u8]) -> Bits4
         b: u32_at(raw, 4),
         c: u32_at(raw, 8),
         d: u32_at(raw, 12),
+    }
+}
+
+pub fn bits7_at(raw: &[u8]) -> Bits7
+    ensures { λ r. ⌜ r ≡ bits7At (now (raw .entry)) ⌝ }
+{
+    Bits7 {
+        a: u32_at(raw, 0),
+        b: u32_at(raw, 4),
+        c: u32_at(raw, 8),
+        d: u32_at(raw, 12),
+        e: u32_at(raw, 16),
+        f: u32_at(raw, 20),
+        g: u32_at(raw, 24),
     }
 }
 

@@ -191,17 +191,17 @@ module _ (s : List ℕ) (at : ℕ) (k : Kind) (d : Definition) {old : List ℕ} 
       size = h .size ∙ same (then (then w₁ w₂) w₃);
     }
 
-module _ (s : List ℕ) (at type : ℕ) (d : Definition) {old : List ℕ} {to : ℕ} where
-  pub field-unlisted : shapeOf type ≡ none → FieldWritten s at type d old to Absent old
+module _ {version : ℕ} (s : List ℕ) (at type : ℕ) (d : Definition) {old : List ℕ} {to : ℕ} where
+  pub field-unlisted : shapeOf version type ≡ none → FieldWritten version s at type d old to Absent old
   unfolding valueParser shapeParser fail
   field-unlisted e = record { writes = λ v n f g q. fault≢ok (ap (λ (o : Option Shape). shapeParser o at (drop at s)) (sym e) ∙ f); size = refl }
 
-  pub field-array : {k : Kind} → shapeOf type ≡ some (many k) → {r : Lines} {new : List ℕ} → ArrayWritten s at k d old to r new → FieldWritten s at type d old to r new
+  pub field-array : {k : Kind} → shapeOf version type ≡ some (many k) → {r : Lines} {new : List ℕ} → ArrayWritten s at k d old to r new → FieldWritten version s at type d old to r new
   unfolding valueParser
   field-array e w = record { writes = λ v n f. w .writes v n (ap (λ (o : Option Shape). shapeParser o at (drop at s)) (sym e) ∙ f); size = w .size }
 
-  pub field-single : {k : Kind} → shapeOf type ≡ some (one k) → {p : ℕ} {mid : List ℕ} → Wrote old to (ascii "  " ++ nameOf s d ++ ascii ": ") p mid
-      → {r : Lines} {new : List ℕ} → RestWritten s at k d mid p r new → FieldWritten s at type d old to r new
+  pub field-single : {k : Kind} → shapeOf version type ≡ some (one k) → {p : ℕ} {mid : List ℕ} → Wrote old to (ascii "  " ++ nameOf s d ++ ascii ": ") p mid
+      → {r : Lines} {new : List ℕ} → RestWritten s at k d mid p r new → FieldWritten version s at type d old to r new
   unfolding valueParser shapeParser valueText
   field-single {k} e {p} {mid} w {r} {new} h = record {
     writes = λ v n f g q.

@@ -12,14 +12,14 @@ use lib.ListN.{length, take, drop, getD}
 use Rattle.bsii_format.specs.Reader.{ok, WellFormed, repeat, verify, _<$>_}
 use Rattle.bsii_format.specs.Numbers.{number, leU64}
 use Rattle.bsii_format.specs.Strings.{strParser, spelled, low63, encodedStrParser, idParser}
-use Rattle.bsii_format.specs.Types.{Numeric, float, floatVec2, floatVec3, floatVec4, floatVec8, int32, int32Vec3, uint32, uint16, int64, uint64, bool, enum, width, arity, numbers, string, encodedString, id}
+use Rattle.bsii_format.specs.Types.{Numeric, float, floatVec2, floatVec3, floatVec4, floatVec7, floatVec8, int32, int32Vec3, uint32, uint16, int64, uint64, bool, enum, width, arity, numbers, string, encodedString, id}
 use Rattle.bsii_format.specs.Values.{Element, nums, str, word, ident, elementParser}
 use Rattle.bsii_format.specs.Prototypes.{EnumValue}
 use Rattle.bsii_format.specs.Text.{stringText, enumString, numericText, elementText}
 use Rattle.bsii_format.proofs.Readers.{map-ok, ok-val, after-ok, cond-ok, is-true}
 use Rattle.bsii_value.specs.Kinds.{numericIs}
 use Rattle.bsii_value.specs.declared.types.Numeric.{Numeric as Number}
-use Rattle.bsii_value.specs.declared.types.Numeric.the-variants.{Float, FloatVec2, FloatVec3, FloatVec4, FloatVec8, Int32, Int32Vec3, UInt32, UInt16, Int64, UInt64, Bool as Truth, Enum}
+use Rattle.bsii_value.specs.declared.types.Numeric.the-variants.{Float, FloatVec2, FloatVec3, FloatVec4, FloatVec7, FloatVec8, Int32, Int32Vec3, UInt32, UInt16, Int64, UInt64, Bool as Truth, Enum}
 use Rattle.bsii_value.proofs.types.Numeric.{the-type}
 use Rattle.bsii_string.proofs.Keys.{every, keyed}
 use Rattle.bsii_prototype.proofs.Names.{checked, named}
@@ -45,6 +45,7 @@ NoEnum float = Unit {0}
 NoEnum floatVec2 = Unit {0}
 NoEnum floatVec3 = Unit {0}
 NoEnum floatVec4 = Unit {0}
+NoEnum floatVec7 = Unit {0}
 NoEnum floatVec8 = Unit {0}
 NoEnum int32 = Unit {0}
 NoEnum int32Vec3 = Unit {0}
@@ -62,6 +63,7 @@ any-list float h enums l = (_, refl, refl)
 any-list floatVec2 h enums l = (_, refl, refl)
 any-list floatVec3 h enums l = (_, refl, refl)
 any-list floatVec4 h enums l = (_, refl, refl)
+any-list floatVec7 h enums l = (_, refl, refl)
 any-list floatVec8 h enums l = (_, refl, refl)
 any-list int32 h enums l = (_, refl, refl)
 any-list int32Vec3 h enums l = (_, refl, refl)
@@ -163,13 +165,14 @@ module _ (raw s : List ℕ) (d : Definition) {old : List ℕ} {at : ℕ} where
 -- ---- the kind by its case
 
 -- every case but the enum's
-pub other : (n : Number) → OneOf (0 ∷ 1 ∷ 2 ∷ 3 ∷ 4 ∷ 5 ∷ 6 ∷ 7 ∷ 8 ∷ 9 ∷ 10 ∷ 11 ∷ []) (tagOf the-type n) → NoEnum (numericIs n)
+pub other : (n : Number) → OneOf (0 ∷ 1 ∷ 2 ∷ 3 ∷ 4 ∷ 5 ∷ 6 ∷ 7 ∷ 8 ∷ 9 ∷ 10 ∷ 11 ∷ 12 ∷ []) (tagOf the-type n) → NoEnum (numericIs n)
 unfolding every
-other Enum h = keyed (λ x. ltb x 12) (0 ∷ 1 ∷ 2 ∷ 3 ∷ 4 ∷ 5 ∷ 6 ∷ 7 ∷ 8 ∷ 9 ∷ 10 ∷ 11 ∷ []) 12 tt h
+other Enum h = keyed (λ x. ltb x 13) (0 ∷ 1 ∷ 2 ∷ 3 ∷ 4 ∷ 5 ∷ 6 ∷ 7 ∷ 8 ∷ 9 ∷ 10 ∷ 11 ∷ 12 ∷ []) 13 tt h
 other Float h = tt
 other FloatVec2 h = tt
 other FloatVec3 h = tt
 other FloatVec4 h = tt
+other FloatVec7 h = tt
 other FloatVec8 h = tt
 other Int32 h = tt
 other Int32Vec3 h = tt

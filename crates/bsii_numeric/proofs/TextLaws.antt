@@ -1,24 +1,26 @@
 -- The parts of a value that is made of several numbers, and what bits that were made floats are in the text.
 use Prim.Native.Nat.{ℕ, _<_}
-use mathlib.Core.Path.{_≡_, refl, ap, _∙_}
+use mathlib.Core.Path.{_≡_, refl, ap, ap₂, _∙_}
 use mathlib.Core.List.{List, _++_, append-assoc}
 use native.Mathlib.Omega.{arith}
 use lib.IntN.{ℤ, pos, negsuc}
 use lib.Ieee.{Float, binary32, ofBits}
 use Rattle.bsii_format.specs.Ascii.{ascii}
-use Rattle.bsii_format.specs.Floats.{floatText, vec2Text, vec3Text, vec4Text, coefficient, floorMod, floorDiv, placementText}
-use Rattle.bsii_float.specs.Bits.{bitsOf, vec2Of, vec3Of, vec4Of, placementOf}
+use Rattle.bsii_format.specs.Floats.{floatText, vec2Text, vec3Text, vec4Text, coefficient, floorMod, floorDiv, placementText, vec7Text}
+use Rattle.bsii_float.specs.Bits.{bitsOf, vec2Of, vec3Of, vec4Of, vec7Of, placementOf}
 use Rattle.bsii_float.specs.declared.floats.Vec2.{Vec2}
 use Rattle.bsii_float.specs.declared.floats.Bits2.{Bits2}
 use Rattle.bsii_float.specs.declared.floats.Vec3.{Vec3}
 use Rattle.bsii_float.specs.declared.floats.Bits3.{Bits3}
 use Rattle.bsii_float.specs.declared.floats.Vec4.{Vec4}
 use Rattle.bsii_float.specs.declared.floats.Bits4.{Bits4}
+use Rattle.bsii_float.specs.declared.floats.Vec7.{Vec7}
+use Rattle.bsii_float.specs.declared.floats.Bits7.{Bits7}
 use Rattle.bsii_float.specs.declared.floats.Placement.{Placement}
 use Rattle.bsii_float.specs.declared.floats.PlacementBits.{PlacementBits}
 use Rattle.bsii_float.proofs.Bits.{bits-back}
 use Rattle.bsii_float.proofs.Sums.{sum-text}
-use Rattle.bsii_numeric.specs.Floats.{floatWith, vec2With, vec3With, vec4With, inSector, positionOf, placementWith, bits2Text, bits3Text, bits4Text, placementBitsText}
+use Rattle.bsii_numeric.specs.Floats.{floatWith, vec2With, vec3With, vec4With, vec7With, inSector, positionOf, placementWith, bits2Text, bits3Text, bits4Text, bits7Text, placementBitsText}
 
 -- ---- parts as they are written
 
@@ -63,6 +65,15 @@ pub vec4-back : {x : Vec4} {v w : Bits4} → x ≡ vec4Of v → v ≡ w → v .a
     → vec4With x v ≡ bits4Text w
 unfolding vec4With
 vec4-back {v = v} e z h k l m = ap (λ x. vec4With x v) e ∙ cc (bits-back (v .a) h, bits-back (v .b) k, bits-back (v .c) l, bits-back (v .d) m) ∙ ap bits4Text z
+
+pub vec7-back : {x : Vec7} {v w : Bits7} → x ≡ vec7Of v → v ≡ w → v .a < 0x1_0000_0000 → v .b < 0x1_0000_0000 → v .c < 0x1_0000_0000
+    → v .d < 0x1_0000_0000 → v .e < 0x1_0000_0000 → v .f < 0x1_0000_0000 → v .g < 0x1_0000_0000 → vec7With x v ≡ bits7Text w
+unfolding vec7With vec7Text
+vec7-back {v = v} i z a b c d e f g =
+    ap (λ x. vec7With x v) i
+    ∙ ap₂ (λ (x y : List ℕ). x ++ ascii " " ++ y) (vec3-back {v = record { a = v .a; b = v .b; c = v .c }} refl refl a b c)
+    (vec4-back {v = record { a = v .d; b = v .e; c = v .f; d = v .g }} refl refl d e f g)
+    ∙ ap bits7Text z
 
 sector-below : (c : ℤ) → floorMod c 4096 < 4096
 unfolding floorMod

@@ -3,7 +3,7 @@ use Prim.Native.Nat.{ℕ}
 use mathlib.Core.List.{List, [], _∷_, _++_}
 use lib.Ieee.{Float, binary32, add, ofInt}
 use Rattle.bsii_format.specs.Ascii.{ascii}
-use Rattle.bsii_format.specs.Floats.{floatText, vec2Text, vec3Text, vec4Text, placementText, floorMod, floorDiv, coefficient, sectorOffset, quieted}
+use Rattle.bsii_format.specs.Floats.{floatText, vec2Text, vec3Text, vec4Text, vec7Text, placementText, floorMod, floorDiv, coefficient, sectorOffset, quieted}
 use Rattle.bsii_format.specs.Text.{int32Text}
 use Rattle.bsii_float.specs.Bits.{bitsOf}
 use Rattle.bsii_float.specs.declared.floats.Vec2.{Vec2}
@@ -12,6 +12,8 @@ use Rattle.bsii_float.specs.declared.floats.Vec3.{Vec3}
 use Rattle.bsii_float.specs.declared.floats.Bits3.{Bits3}
 use Rattle.bsii_float.specs.declared.floats.Vec4.{Vec4}
 use Rattle.bsii_float.specs.declared.floats.Bits4.{Bits4}
+use Rattle.bsii_float.specs.declared.floats.Vec7.{Vec7}
+use Rattle.bsii_float.specs.declared.floats.Bits7.{Bits7}
 use Rattle.bsii_float.specs.declared.floats.Placement.{Placement}
 use Rattle.bsii_float.specs.declared.floats.PlacementBits.{PlacementBits}
 
@@ -26,6 +28,11 @@ vec3With v n = vec3Text (floatWith (v .a) (n .a)) (floatWith (v .b) (n .b)) (flo
 
 unfoldable pub vec4With : Vec4 → Bits4 → List ℕ
 vec4With v n = vec4Text (floatWith (v .a) (n .a)) (floatWith (v .b) (n .b)) (floatWith (v .c) (n .c)) (floatWith (v .d) (n .d))
+
+unfoldable pub vec7With : Vec7 → Bits7 → List ℕ
+vec7With v n =
+    vec3With (record { a = v .a; b = v .b; c = v .c }) (record { a = n .a; b = n .b; c = n .c })
+    ++ ascii " " ++ vec4With (record { a = v .d; b = v .e; c = v .f; d = v .g }) (record { a = n .d; b = n .e; c = n .f; d = n .g })
 
 -- a coordinate in a sector
 abbrev pub inSector : Float → ℕ → Float
@@ -58,6 +65,9 @@ bits3Text v = vec3Text (floatText (v .a)) (floatText (v .b)) (floatText (v .c))
 
 abbrev pub bits4Text : Bits4 → List ℕ
 bits4Text v = vec4Text (floatText (v .a)) (floatText (v .b)) (floatText (v .c)) (floatText (v .d))
+
+abbrev pub bits7Text : Bits7 → List ℕ
+bits7Text v = vec7Text (v .a ∷ v .b ∷ v .c ∷ v .d ∷ v .e ∷ v .f ∷ v .g ∷ [])
 
 abbrev pub placementBitsText : PlacementBits → List ℕ
 placementBitsText v = placementText (v .a ∷ v .b ∷ v .c ∷ v .d ∷ v .e ∷ v .f ∷ v .g ∷ v .h ∷ [])

@@ -2,11 +2,13 @@
 use bsii_float::floats::Bits2;
 use bsii_float::floats::Bits3;
 use bsii_float::floats::Bits4;
+use bsii_float::floats::Bits7;
 use bsii_float::floats::Placement;
 use bsii_float::floats::PlacementBits;
 use bsii_float::floats::Vec2;
 use bsii_float::floats::Vec3;
 use bsii_float::floats::Vec4;
+use bsii_float::floats::Vec7;
 use bsii_float::floats::bits_of;
 use bsii_float::placement::quiet;
 use bsii_float::placement::sector_sum;
@@ -23,7 +25,7 @@ ghost use Rattle.bsii_format.specs.Ascii.{ascii};
 ghost use Rattle.bsii_format.specs.Digits.{decimal};
 ghost use Rattle.bsii_format.specs.Floats.{bitsText, minusIf};
 ghost use Rattle.bsii_window.specs.Window.{Wrote};
-ghost use Rattle.bsii_numeric.specs.Floats.{floatWith, vec2With, vec3With, vec4With, placementWith, positionOf, positionBits, rotationOf, rotationBits};
+ghost use Rattle.bsii_numeric.specs.Floats.{floatWith, vec2With, vec3With, vec4With, vec7With, placementWith, positionOf, positionBits, rotationOf, rotationBits};
 
 fn write_bits(out: &mut [u8], at: usize, n: u32) -> usize
     ensures { λ r. ⌜ Wrote (now (out .entry)) at (bitsText n) r (now (out .exit)) ⌝ }
@@ -101,6 +103,37 @@ pub fn write_float_vec4(out: &mut [u8], at: usize, v: Vec4, nan: Bits4) -> usize
     let c = write_further(out, b, v.c, nan.c);
     let d = write_further(out, c, v.d, nan.d);
     put(out, d, b')')
+}
+
+// A placement of version 1, as it stands: no sum is made.
+pub fn write_float_vec7(out: &mut [u8], at: usize, v: Vec7, nan: Bits7) -> usize
+    ensures { λ r. ⌜ Wrote (now (out .entry)) at (vec7With v nan) r (now (out .exit)) ⌝ }
+{
+    let three = Vec3 {
+        a: v.a,
+        b: v.b,
+        c: v.c,
+    };
+    let three_nan = Bits3 {
+        a: nan.a,
+        b: nan.b,
+        c: nan.c,
+    };
+    let four = Vec4 {
+        a: v.d,
+        b: v.e,
+        c: v.f,
+        d: v.g,
+    };
+    let four_nan = Bits4 {
+        a: nan.d,
+        b: nan.e,
+        c: nan.f,
+        d: nan.g,
+    };
+    let first = write_vec3(out, at, three, three_nan);
+    let next = put(out, first, b' ');
+    write_float_vec4(out, next, four, four_nan)
 }
 
 // The position with its sector.

@@ -1,6 +1,7 @@
 // Values that are one or more numbers, by the bytes that were accepted for them.
 use crate::floats::write_float;
 use crate::floats::write_float_vec4;
+use crate::floats::write_float_vec7;
 use crate::floats::write_float_vec8;
 use crate::floats::write_vec2;
 use crate::floats::write_vec3;
@@ -8,12 +9,14 @@ use bsii_float::floats::Bits3;
 use bsii_float::floats::bits2_at;
 use bsii_float::floats::bits3_at;
 use bsii_float::floats::bits4_at;
+use bsii_float::floats::bits7_at;
 use bsii_float::floats::float_of;
 use bsii_float::floats::placement_bits_at;
 use bsii_float::floats::placement_of;
 use bsii_float::floats::vec2_of;
 use bsii_float::floats::vec3_of;
 use bsii_float::floats::vec4_of;
+use bsii_float::floats::vec7_of;
 use bsii_string::at::u8_at;
 use bsii_string::at::u16_at;
 use bsii_string::at::u32_at;
@@ -33,9 +36,9 @@ ghost use Rattle.bsii_format.specs.Floats.{floatText};
 ghost use Rattle.bsii_format.specs.Text.{int32Text};
 ghost use Rattle.bsii_value.specs.Kinds.{numericIs};
 ghost use Rattle.bsii_string.specs.NumbersAt.{numberAt};
-ghost use Rattle.bsii_float.specs.Bits.{bits2At, bits3At, bits4At, placementBitsAt};
+ghost use Rattle.bsii_float.specs.Bits.{bits2At, bits3At, bits4At, bits7At, placementBitsAt};
 ghost use Rattle.bsii_window.specs.Window.{Wrote};
-ghost use Rattle.bsii_numeric.specs.Floats.{bits2Text, bits3Text, bits4Text, placementBitsText, int3Text};
+ghost use Rattle.bsii_numeric.specs.Floats.{bits2Text, bits3Text, bits4Text, bits7Text, placementBitsText, int3Text};
 ghost use Rattle.bsii_numeric.specs.Written.{NumericWritten};
 
 fn write_further_int(out: &mut [u8], at: usize, n: u32) -> usize
@@ -89,6 +92,13 @@ fn write_vec4_at(out: &mut [u8], at: usize, raw: &[u8]) -> usize
     write_float_vec4(out, at, vec4_of(v), v)
 }
 
+fn write_vec7_at(out: &mut [u8], at: usize, raw: &[u8]) -> usize
+    ensures { λ r. ⌜ Wrote (now (out .entry)) at (bits7Text (bits7At (now (raw .entry)))) r (now (out .exit)) ⌝ }
+{
+    let v = bits7_at(raw);
+    write_float_vec7(out, at, vec7_of(v), v)
+}
+
 fn write_vec8_at(out: &mut [u8], at: usize, raw: &[u8]) -> usize
     ensures { λ r. ⌜ Wrote (now (out .entry)) at (placementBitsText (placementBitsAt (now (raw .entry)))) r (now (out .exit)) ⌝ }
 {
@@ -105,6 +115,7 @@ pub fn write_numeric(out: &mut [u8], at: usize, raw: &[u8], kind: Numeric) -> us
         Numeric::FloatVec2 => return write_vec2_at(out, at, raw),
         Numeric::FloatVec3 => return write_vec3_at(out, at, raw),
         Numeric::FloatVec4 => return write_vec4_at(out, at, raw),
+        Numeric::FloatVec7 => return write_vec7_at(out, at, raw),
         Numeric::FloatVec8 => return write_vec8_at(out, at, raw),
         Numeric::Int32 => return write_i32(out, at, u32_at(raw, 0)),
         Numeric::Int32Vec3 => return write_int_vec3(out, at, bits3_at(raw)),

@@ -35,15 +35,15 @@ use Rattle.bsii_output.specs.declared.text.TextReply.the-variants.{Text,
 
 -- ---- the table after a walk
 
-stand-again : {s t : List ℕ} {rooms rows : ℕ} {last : List Prototype} {rest : List Record} {t′ : List ℕ} → WalkAt s rooms rows last t 8 [] rest → Entered (DefinedAt s) t′ rows [] last
-    → WalkAt s rooms rows last t′ 8 [] rest
+stand-again : {version : ℕ} {s t : List ℕ} {rooms rows : ℕ} {last : List Prototype} {rest : List Record} {t′ : List ℕ} → WalkAt version s rooms rows last t 8 [] rest → Entered (DefinedAt s) t′ rows [] last
+    → WalkAt version s rooms rows last t′ 8 [] rest
 stand-again w e = record { end = w .end; n = w .n; reads = w .reads; entered = e; lasts = w .lasts }
 
-module _ {s t : List ℕ} {rows : ℕ} {old : List ℕ} {e : ℕ} {t′ new : List ℕ} (h : BsiiWritten s 8 t rows old (To e) t′ new) where
-  pub serves : {rooms : ℕ} {last : List Prototype} {rest : List Record} → WalkAt s rooms rows last t 8 [] rest → WalkAt s rooms rows last t′ 8 [] rest
+module _ {version : ℕ} {s t : List ℕ} {rows : ℕ} {old : List ℕ} {e : ℕ} {t′ new : List ℕ} (h : BsiiWritten version s 8 t rows old (To e) t′ new) where
+  pub serves : {rooms : ℕ} {last : List Prototype} {rest : List Record} → WalkAt version s rooms rows last t 8 [] rest → WalkAt version s rooms rows last t′ 8 [] rest
   serves {rooms} {last} {rest} w = stand-again w (h .writes rooms last rest w .1)
 
-  pub read-again : Readable s 8 t rows → Readable s 8 t′ rows
+  pub read-again : Readable version s 8 t rows → Readable version s 8 t′ rows
   read-again w = record { short = w .short; inside = w .inside; rooms = w .rooms; last = w .last; rest = w .rest; standing = serves (w .standing) }
 
 -- ---- the text that was measured
@@ -63,19 +63,19 @@ fitting : (old x new : List ℕ) → length x ≤ length old → new ≡ x ++ dr
 unfolding textAnswer
 fitting old x new h e = rw (le-leb (length x) (length old) h) (ap (λ (o : List ℕ). record { reply = gives (length x); needed = 0; output = o }) e)
 
-module _ (s t : List ℕ) (rows : ℕ) (old : List ℕ) (end : ℕ) where
-  pub measured-early : end < 0x8000_0000_0000_0000 → (r : TextReply) → TextWritten s t rows old end r old
+module _ {version : ℕ} (s t : List ℕ) (rows : ℕ) (old : List ℕ) (end : ℕ) where
+  pub measured-early : end < 0x8000_0000_0000_0000 → (r : TextReply) → TextWritten version s t rows old end r old
   measured-early h r = record { answers = λ rooms last rest w x e f. absurd (omega arith) }
 
-  pub measured-long : {f : Refusal} → f ≡ refusedAt outputShort 0 → length old < end - 0x8000_0000_0000_0000 → TextWritten s t rows old end (Refused f (end - 0x8000_0000_0000_0000)) old
+  pub measured-long : {f : Refusal} → f ≡ refusedAt outputShort 0 → length old < end - 0x8000_0000_0000_0000 → TextWritten version s t rows old end (Refused f (end - 0x8000_0000_0000_0000)) old
   measured-long a h = record {
     answers = λ rooms last rest w x e f.
         let z : end - 0x8000_0000_0000_0000 ≡ length x = omega arith in
         ap₂ (λ (f : Refusal) (n : ℕ). textIs (Refused f n) old) a z ∙ too-long old x (omega arith);
   }
 
-  pub measured-fits : 0x8000_0000_0000_0000 ≤ end → end - 0x8000_0000_0000_0000 ≤ length old → {r : Texts} {t′ new : List ℕ} → BsiiWritten s 8 t rows old r t′ new
-      → TextWritten s t rows old end (Text (end - 0x8000_0000_0000_0000)) new
+  pub measured-fits : 0x8000_0000_0000_0000 ≤ end → end - 0x8000_0000_0000_0000 ≤ length old → {r : Texts} {t′ new : List ℕ} → BsiiWritten version s 8 t rows old r t′ new
+      → TextWritten version s t rows old end (Text (end - 0x8000_0000_0000_0000)) new
   measured-fits a h {r} {t′} {new} b = record {
     answers = λ rooms last rest w x e f.
         let z : end - 0x8000_0000_0000_0000 ≡ length x = omega arith in
@@ -94,18 +94,18 @@ empty [] h = refl
 empty (x ∷ l) h = absurd (omega arith)
 
 -- a walk by its answer
-walk-by : {s t : List ℕ} {rows : ℕ} {old : List ℕ} {x r : Texts} {t′ new : List ℕ} → x ≡ r → BsiiWritten s 8 t rows old x t′ new → BsiiWritten s 8 t rows old r t′ new
-walk-by {s} {t} {rows} {old} {x} {r} {t′} {new} e h = subst (λ (y : Texts). BsiiWritten s 8 t rows old y t′ new) e h
+walk-by : {version : ℕ} {s t : List ℕ} {rows : ℕ} {old : List ℕ} {x r : Texts} {t′ new : List ℕ} → x ≡ r → BsiiWritten version s 8 t rows old x t′ new → BsiiWritten version s 8 t rows old r t′ new
+walk-by {version} {s} {t} {rows} {old} {x} {r} {t′} {new} e h = subst (λ (y : Texts). BsiiWritten version s 8 t rows old y t′ new) e h
 
 -- the measuring walk was lent nothing of the output
-module _ (s t : List ℕ) (rows : ℕ) (old : List ℕ) {m : Texts} {t′ lent : List ℕ} (h : BsiiWritten s 8 t rows [] m t′ lent) where
+module _ {version : ℕ} (s t : List ℕ) (rows : ℕ) (old : List ℕ) {m : Texts} {t′ lent : List ℕ} (h : BsiiWritten version s 8 t rows [] m t′ lent) where
   untouched : lent ++ old ≡ old
   untouched = ap (λ (l : List ℕ). l ++ old) (empty lent (h .size))
 
-  pub measured-again : {e : ℕ} → m ≡ To e → Readable s 8 t rows → Readable s 8 t′ rows
+  pub measured-again : {e : ℕ} → m ≡ To e → Readable version s 8 t rows → Readable version s 8 t′ rows
   measured-again z w = read-again (walk-by z h) w
 
-  pub text-refused : {f : Refusal} → m ≡ Not f → TextRead s t rows old (Refused f 0) (lent ++ old)
+  pub text-refused : {f : Refusal} → m ≡ Not f → TextRead version s t rows old (Refused f 0) (lent ++ old)
   unfolding textAnswer
   text-refused {f} z = record { answers = λ rooms last rest w b. go (framedText last rest) (walk-by z h .writes rooms last rest w .0) }
     where
@@ -113,10 +113,10 @@ module _ (s t : List ℕ) (rows : ℕ) (old : List ℕ) {m : Texts} {t′ lent :
       go (gives x) a = absurd a
       go (refuses x) a = rw (a, untouched) refl
 
-  pub text-measured : {e : ℕ} → m ≡ To e → {r : TextReply} {new : List ℕ} → TextWritten s t′ rows (lent ++ old) e r new → TextRead s t rows old r new
+  pub text-measured : {e : ℕ} → m ≡ To e → {r : TextReply} {new : List ℕ} → TextWritten version s t′ rows (lent ++ old) e r new → TextRead version s t rows old r new
   text-measured {e} z {r} {new} v = record { answers = λ rooms last rest w b. go rooms last rest w b (framedText last rest) refl (walk-by z h .writes rooms last rest w .0) }
     where
-      go : (rooms : ℕ) (last : List Prototype) (rest : List Record) (w : WalkAt s rooms rows last t 8 [] rest) → ((x : List ℕ) → framedText last rest ≡ gives x → length x < 0x4000_0000_0000_0000)
+      go : (rooms : ℕ) (last : List Prototype) (rest : List Record) (w : WalkAt version s rooms rows last t 8 [] rest) → ((x : List ℕ) → framedText last rest ≡ gives x → length x < 0x4000_0000_0000_0000)
           → (o : Reply (List ℕ)) → framedText last rest ≡ o → TextsAre [] 0x8000_0000_0000_0000 o (To e) lent → textIs r new ≡ textAnswer old o
       go rooms last rest w b (refuses f) q a = absurd a
       go rooms last rest w b (gives x) q a =
@@ -139,7 +139,7 @@ module _ (s t out : List ℕ) {r : Walked} {t′ : List ℕ} (h : ReadFile s t r
         read-answers (λ f at. fileText valueText f) w
         ∙ ap (λ (k : ℕ). joined (joined (gives fileOpening) (recordsText valueText (prototypesOf (w .file .records)) k (w .file .records))) (gives closing)) (file-parts (length t) s (w .parsed) .header)
 
-    pub call-answers : ((i : ℕ) → getD s i 0 < 256) → {reply : TextReply} {new : List ℕ} → TextRead s t′ (n .rows) out reply new → textIs reply new ≡ textCall (length t) s out
+    pub call-answers : ((i : ℕ) → getD s i 0 < 256) → {reply : TextReply} {new : List ℕ} → TextRead (n .version) s t′ (n .rows) out reply new → textIs reply new ≡ textCall (length t) s out
     unfolding textCall
     call-answers bytes v =
         let w = was-read h z in

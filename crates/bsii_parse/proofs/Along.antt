@@ -42,7 +42,7 @@ bytes-snoc [] i = rw length-append (omega arith)
 bytes-snoc (x ∷ l) i = rw (length-append, length-append) (omega (arith, bytes-snoc l i))
 
 -- the records `so` were passed from `start` on, and the walk stands at p with the table t; t₀ is the table that came in
-pub record Along (s : List ℕ) (start : ℕ) (t₀ : List ℕ) (p : Progress) (t : List ℕ) : Type 0 where
+pub record Along (version : ℕ) (s : List ℕ) (start : ℕ) (t₀ : List ℕ) (p : Progress) (t : List ℕ) : Type 0 where
   pub so : List Record
   pub place : p .at ≡ start + length (recordsBytes so)
   pub inside : p .at ≤ length s
@@ -51,16 +51,16 @@ pub record Along (s : List ℕ) (start : ℕ) (t₀ : List ℕ) (p : Progress) (
   pub size : length t ≡ length t₀
   pub few : p .rows ≤ p .at
   pub kept : Growing s t (p .rows) (defsFrom start so)
-  pub rest : recordsAt (length t₀ / 3) [] start s ≡ behind so (recordsAt (length t₀ / 3) (bare (defsFrom start so)) (p .at) s)
+  pub rest : recordsAt version (length t₀ / 3) [] start s ≡ behind so (recordsAt version (length t₀ / 3) (bare (defsFrom start so)) (p .at) s)
 
 behind-none : (q : Result Records) → q ≡ behind [] q
 unfolding behind
 behind-none (ok q at r) = refl
 behind-none (fault f) = refl
 
-pub along-start : (s : List ℕ) (start : ℕ) (t : List ℕ) → start ≤ length s → Along s start t (record { at = start; rows = 0; blocks = 0 }) t
+pub along-start : {version : ℕ} (s : List ℕ) (start : ℕ) (t : List ℕ) → start ≤ length s → Along version s start t (record { at = start; rows = 0; blocks = 0 }) t
 unfolding recordsBytes blockCount prototypesIn placed
-along-start s start t h = record {
+along-start {version} s start t h = record {
   so = [];
   place = sym (add-zero start);
   inside = h;
@@ -69,10 +69,10 @@ along-start s start t h = record {
   size = refl;
   few = omega arith;
   kept = growing-none s t;
-  rest = behind-none (recordsAt (length t / 3) [] start s);
+  rest = behind-none (recordsAt version (length t / 3) [] start s);
 }
 
-pub along-ready : {s : List ℕ} {start : ℕ} {t₀ : List ℕ} {p : Progress} {t : List ℕ} → length s ≤ lengthLimit → Along s start t₀ p t → Ready s p t
+pub along-ready : {version : ℕ} {s : List ℕ} {start : ℕ} {t₀ : List ℕ} {p : Progress} {t : List ℕ} → length s ≤ lengthLimit → Along version s start t₀ p t → Ready s p t
 along-ready h a = record { short = h; inside = a .inside; counted = a .counted; rows = a .kept .holds .valid; few = a .few }
 
 go≢end : {P : Type 0} {q : Progress} {n : ℕ} → _≡_ {A = ReadStep} (Go q) (End n) → P
@@ -98,24 +98,24 @@ distinct-more (prototype p) env = go (isSome (getPrototype (p .id) env))
 distinct-more (block b) env = omega arith
 
 -- one more record; the position rises, so the loop ends
-pub record Further (s : List ℕ) (start : ℕ) (t₀ : List ℕ) (p q : Progress) (t : List ℕ) : Type 0 where
+pub record Further (version : ℕ) (s : List ℕ) (start : ℕ) (t₀ : List ℕ) (p q : Progress) (t : List ℕ) : Type 0 where
   pub on : p .at < q .at
-  pub along : Along s start t₀ q t
+  pub along : Along version s start t₀ q t
 
-module _ {s : List ℕ} {start : ℕ} {t₀ : List ℕ} {p : Progress} {t : List ℕ} (a : Along s start t₀ p t) where
+module _ {version : ℕ} {s : List ℕ} {start : ℕ} {t₀ : List ℕ} {p : Progress} {t : List ℕ} (a : Along version s start t₀ p t) where
   rooms : length t / 3 ≡ length t₀ / 3
   rooms = ap (λ m. m / 3) (a .size)
 
   -- the records from `start` on, by what the rest is read as
-  from-here : {q : Result Records} → recordsAt (length t / 3) (bare (defsFrom start (a .so))) (p .at) s ≡ q → recordsAt (length t₀ / 3) [] start s ≡ behind (a .so) q
-  from-here e = a .rest ∙ ap (behind (a .so)) (ap (λ m. recordsAt m (bare (defsFrom start (a .so))) (p .at) s) (sym rooms) ∙ e)
+  from-here : {q : Result Records} → recordsAt version (length t / 3) (bare (defsFrom start (a .so))) (p .at) s ≡ q → recordsAt version (length t₀ / 3) [] start s ≡ behind (a .so) q
+  from-here e = a .rest ∙ ap (behind (a .so)) (ap (λ m. recordsAt version m (bare (defsFrom start (a .so))) (p .at) s) (sym rooms) ∙ e)
 
-  pub along-step : {r : ReadStep} {t′ : List ℕ} → StepMeets s p t (defsFrom start (a .so)) r t′ → {q : Progress} → r ≡ Go q → Further s start t₀ p q t′
+  pub along-step : {r : ReadStep} {t′ : List ℕ} → StepMeets version s p t (defsFrom start (a .so)) r t′ → {q : Progress} → r ≡ Go q → Further version s start t₀ p q t′
   unfolding blockCount
   along-step {t′ = t′} (passed i {n = n} {rows = rows} e on inside place kept size) z =
       let defs : defsFrom start (a .so ++ (i ∷ [])) ≡ consPrototype (p .at) i (defsFrom start (a .so)) =
       defs-snoc start (a .so) i [] ∙ ap (λ m. consPrototype m i (defsFrom start (a .so))) (sym (a .place)) in
-      subst (λ w. Further s start t₀ p w t′) (go-inj z) (record {
+      subst (λ w. Further version s start t₀ p w t′) (go-inj z) (record {
         on = on;
         along = record {
           so = a .so ++ (i ∷ []);
@@ -134,9 +134,9 @@ module _ {s : List ℕ} {start : ℕ} {t₀ : List ℕ} {p : Progress} {t : List
             on,
           );
           kept = subst (λ w. Growing s t′ rows w) (sym defs) kept;
-          rest = from-here (e ∙ ap (λ m. behind (i ∷ []) (recordsAt m (bare (consPrototype (p .at) i (defsFrom start (a .so)))) n s)) rooms)
-              ∙ behind-behind (a .so) (i ∷ []) (recordsAt (length t₀ / 3) (bare (consPrototype (p .at) i (defsFrom start (a .so)))) n s)
-              ∙ ap (λ w. behind (a .so ++ (i ∷ [])) (recordsAt (length t₀ / 3) (bare w) n s)) (sym defs);
+          rest = from-here (e ∙ ap (λ m. behind (i ∷ []) (recordsAt version m (bare (consPrototype (p .at) i (defsFrom start (a .so)))) n s)) rooms)
+              ∙ behind-behind (a .so) (i ∷ []) (recordsAt version (length t₀ / 3) (bare (consPrototype (p .at) i (defsFrom start (a .so)))) n s)
+              ∙ ap (λ w. behind (a .so ++ (i ∷ [])) (recordsAt version (length t₀ / 3) (bare w) n s)) (sym defs);
         };
       })
     where
@@ -146,22 +146,22 @@ module _ {s : List ℕ} {start : ℕ} {t₀ : List ℕ} {p : Progress} {t : List
   along-step (ended e) z = go≢end (sym z)
   along-step (refused e l) z = go≢refused (sym z)
 
-  pub along-end : {r : ReadStep} {t′ : List ℕ} → StepMeets s p t (defsFrom start (a .so)) r t′ → {n : ℕ} → r ≡ End n
-      → Walks s start t₀ (Done (record { rows = p .rows; blocks = p .blocks; next = n })) t′
+  pub along-end : {r : ReadStep} {t′ : List ℕ} → StepMeets version s p t (defsFrom start (a .so)) r t′ → {n : ℕ} → r ≡ End n
+      → Walks version s start t₀ (Done (record { version = version; rows = p .rows; blocks = p .blocks; next = n })) t′
   along-end (passed i e on inside place kept size) z = go≢end z
   along-end (refused e l) z = end≢refused (sym z)
   along-end (ended {l = l} {n = m} e) {n} z =
       let here : m ≡ n = cc in
       let q : Records = record { records = a .so; end = l } in
-      let all : recordsAt (length t₀ / 3) [] start s ≡ ok q m (drop m s) = from-here e ∙ last l m in
-      subst (λ k. Walks s start t₀ (Done (record { rows = p .rows; blocks = p .blocks; next = k })) t) here
-      (subst (λ k. Walks s start t₀ (Done (record { rows = p .rows; blocks = k; next = m })) t) (sym (a .blocks)) (done q all (a .kept) (a .size)))
+      let all : recordsAt version (length t₀ / 3) [] start s ≡ ok q m (drop m s) = from-here e ∙ last l m in
+      subst (λ k. Walks version s start t₀ (Done (record { version = version; rows = p .rows; blocks = p .blocks; next = k })) t) here
+      (subst (λ k. Walks version s start t₀ (Done (record { version = version; rows = p .rows; blocks = k; next = m })) t) (sym (a .blocks)) (done q all (a .kept) (a .size)))
     where
       last : (l : List ℕ) (m : ℕ) → behind (a .so) (ok (record { records = []; end = l }) m (drop m s)) ≡ ok (record { records = a .so; end = l }) m (drop m s)
       last l m = unfold behind in ap (λ w. ok (record { records = w; end = l }) m (drop m s)) (append-nil (a .so))
 
-  pub along-stop : {r : ReadStep} {t′ : List ℕ} → StepMeets s p t (defsFrom start (a .so)) r t′ → {f : Refusal} → r ≡ Refused f → Walks s start t₀ (Stopped f) t′
+  pub along-stop : {r : ReadStep} {t′ : List ℕ} → StepMeets version s p t (defsFrom start (a .so)) r t′ → {f : Refusal} → r ≡ Refused f → Walks version s start t₀ (Stopped f) t′
   unfolding behind
   along-stop (passed i e on inside place kept size) z = go≢refused z
   along-stop (ended e) z = end≢refused z
-  along-stop {t′ = t′} (refused {f = x} e l) {f} z = let same : x ≡ f = cc in subst (λ w. Walks s start t₀ (Stopped w) t′) same (stopped (from-here e) (l ∙ a .size))
+  along-stop {t′ = t′} (refused {f = x} e l) {f} z = let same : x ≡ f = cc in subst (λ w. Walks version s start t₀ (Stopped w) t′) same (stopped (from-here e) (l ∙ a .size))

@@ -35,47 +35,47 @@ then-same rooms env start K K′ (ok (more i) at s) h =
     (map-same (consRecord i) (K (define i env)) (K′ (define i env)) at s (h i at s refl))
 then-same rooms env start K K′ (fault f) h = refl
 
-pub records-fuel : (rooms n m : ℕ) (env : List Prototype) (at : ℕ) (s : List ℕ) → length s ≤ n → length s ≤ m → recordsFrom rooms n env at s ≡ recordsFrom rooms m env at s
+pub records-fuel : (version rooms n m : ℕ) (env : List Prototype) (at : ℕ) (s : List ℕ) → length s ≤ n → length s ≤ m → recordsFrom version rooms n env at s ≡ recordsFrom version rooms m env at s
 unfolding recordsFrom exhausted after
-records-fuel rooms zero zero env at s h k = refl
-records-fuel rooms zero (suc m) env at [] h k = rw (record-empty env at)
-records-fuel rooms zero (suc m) env at (x ∷ s) h k = absurd (omega arith)
-records-fuel rooms (suc n) zero env at [] h k = rw (record-empty env at)
-records-fuel rooms (suc n) zero env at (x ∷ s) h k = absurd (omega arith)
-records-fuel rooms (suc n) (suc m) env at s h k =
-    then-same rooms env at (λ e. recordsFrom rooms n e) (λ e. recordsFrom rooms m e) (recordParser env at s)
-    (λ i at′ r e. records-fuel rooms n m (define i env) at′ r (less n h i at′ r e) (less m k i at′ r e))
+records-fuel version rooms zero zero env at s h k = refl
+records-fuel version rooms zero (suc m) env at [] h k = rw (record-empty version env at)
+records-fuel version rooms zero (suc m) env at (x ∷ s) h k = absurd (omega arith)
+records-fuel version rooms (suc n) zero env at [] h k = rw (record-empty version env at)
+records-fuel version rooms (suc n) zero env at (x ∷ s) h k = absurd (omega arith)
+records-fuel version rooms (suc n) (suc m) env at s h k =
+    then-same rooms env at (λ e. recordsFrom version rooms n e) (λ e. recordsFrom version rooms m e) (recordParser version env at s)
+    (λ i at′ r e. records-fuel version rooms n m (define i env) at′ r (less n h i at′ r e) (less m k i at′ r e))
   where
-    less : (n : ℕ) → length s ≤ suc n → (i : Record) (at′ : ℕ) (r : List ℕ) → recordParser env at s ≡ ok (more i) at′ r → length r ≤ n
-    less n h i at′ r e = let z = shorter (record-exact env) (record-empty env 0) at s (more i) at′ r e in omega arith
+    less : (n : ℕ) → length s ≤ suc n → (i : Record) (at′ : ℕ) (r : List ℕ) → recordParser version env at s ≡ ok (more i) at′ r → length r ≤ n
+    less n h i at′ r e = let z = shorter (record-exact version env) (record-empty version env 0) at s (more i) at′ r e in omega arith
 
 -- ---- the records from a position on, and one step of them
 
-module _ (rooms : ℕ) (env : List Prototype) (at : ℕ) (s : List ℕ) where
-  unfolded : recordsAt rooms env at s ≡ after (recordParser env at (drop at s)) (recordsThen rooms env at (λ e. recordsFrom rooms (length (drop at s)) e))
+module _ (version rooms : ℕ) (env : List Prototype) (at : ℕ) (s : List ℕ) where
+  unfolded : recordsAt version rooms env at s ≡ after (recordParser version env at (drop at s)) (recordsThen rooms env at (λ e. recordsFrom version rooms (length (drop at s)) e))
   unfolding recordsFrom
-  unfolded = records-fuel rooms (length (drop at s)) (suc (length (drop at s))) env at (drop at s) (omega arith) (omega arith)
+  unfolded = records-fuel version rooms (length (drop at s)) (suc (length (drop at s))) env at (drop at s) (omega arith) (omega arith)
 
-  pub records-fault : {f : Fault} → recordParser env at (drop at s) ≡ fault f → recordsAt rooms env at s ≡ fault f
+  pub records-fault : {f : Fault} → recordParser version env at (drop at s) ≡ fault f → recordsAt version rooms env at s ≡ fault f
   unfolding after
   records-fault e = unfolded ∙ rw e
 
-  pub records-end : {l : List ℕ} {n : ℕ} {r : List ℕ} → recordParser env at (drop at s) ≡ ok (end l) n r → recordsAt rooms env at s ≡ ok (record { records = []; end = l }) n r
+  pub records-end : {l : List ℕ} {n : ℕ} {r : List ℕ} → recordParser version env at (drop at s) ≡ ok (end l) n r → recordsAt version rooms env at s ≡ ok (record { records = []; end = l }) n r
   unfolding after recordsThen success
   records-end e = unfolded ∙ rw e
 
-  pub records-full : {i : Record} {n : ℕ} {r : List ℕ} → recordParser env at (drop at s) ≡ ok (more i) n r → hasRoom rooms env i ≡ false → recordsAt rooms env at s ≡ faultAt tableFull at
+  pub records-full : {i : Record} {n : ℕ} {r : List ℕ} → recordParser version env at (drop at s) ≡ ok (more i) n r → hasRoom rooms env i ≡ false → recordsAt version rooms env at s ≡ faultAt tableFull at
   unfolding after recordsThen
   records-full e h = unfolded ∙ rw (e, h)
 
-  pub records-more : {i : Record} {n : ℕ} → recordParser env at (drop at s) ≡ ok (more i) n (drop n s) → hasRoom rooms env i ≡ true
-      → recordsAt rooms env at s ≡ behind (i ∷ []) (recordsAt rooms (define i env) n s)
+  pub records-more : {i : Record} {n : ℕ} → recordParser version env at (drop at s) ≡ ok (more i) n (drop n s) → hasRoom rooms env i ≡ true
+      → recordsAt version rooms env at s ≡ behind (i ∷ []) (recordsAt version rooms (define i env) n s)
   unfolding after recordsThen _<$>_ _>>=_
   records-more {i} {n} e h =
-      let z = shorter (record-exact env) (record-empty env 0) at (drop at s) (more i) n (drop n s) e in
+      let z = shorter (record-exact version env) (record-empty version env 0) at (drop at s) (more i) n (drop n s) e in
       unfolded ∙ rw (e, h)
-      (ap (λ q. after q (λ a. success (consRecord i a))) (records-fuel rooms (length (drop at s)) (length (drop n s)) (define i env) n (drop n s) (omega arith) (omega arith))
-      ∙ put (recordsAt rooms (define i env) n s))
+      (ap (λ q. after q (λ a. success (consRecord i a))) (records-fuel version rooms (length (drop at s)) (length (drop n s)) (define i env) n (drop n s) (omega arith) (omega arith))
+      ∙ put (recordsAt version rooms (define i env) n s))
     where
       put : (q : Result Records) → after q (λ a. success (consRecord i a)) ≡ behind (i ∷ []) q
       put (ok q at r) = unfold after success consRecord behind in refl

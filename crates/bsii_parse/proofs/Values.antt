@@ -24,66 +24,66 @@ use Rattle.bsii_parse.specs.Walks.{DefinedAt, ValuesEnd, BlockEnd, Defin
 
 -- ---- one value and those behind it
 
-values-bind : (f : Consumed ValuePrototype) (fs : List (Consumed ValuePrototype)) (at : ℕ) (s : List ℕ)
-    → ended (dataValuesParser (f ∷ fs) at s) ≡ ended ((valueParser (f .value .typeId) >>= (λ v. dataValuesParser fs)) at s)
+values-bind : (version : ℕ) (f : Consumed ValuePrototype) (fs : List (Consumed ValuePrototype)) (at : ℕ) (s : List ℕ)
+    → ended (dataValuesParser version (f ∷ fs) at s) ≡ ended ((valueParser version (f .value .typeId) >>= (λ v. dataValuesParser version fs)) at s)
 unfolding dataValuesParser dataValueParser _<$>_
-values-bind f fs at s =
-    ended-bind (dataValueParser (f .value .typeId)) (valueParser (f .value .typeId)) _ (λ v. dataValuesParser fs) at s
-    (ended-map (dataValue (f .value .typeId)) (consumed (valueParser (f .value .typeId))) at s ∙ ended-consumed (valueParser (f .value .typeId)) at s)
-    (λ a b i r. ended-map (λ l. a ∷ l) (dataValuesParser fs) i r)
+values-bind version f fs at s =
+    ended-bind (dataValueParser version (f .value .typeId)) (valueParser version (f .value .typeId)) _ (λ v. dataValuesParser version fs) at s
+    (ended-map (dataValue (f .value .typeId)) (consumed (valueParser version (f .value .typeId))) at s ∙ ended-consumed (valueParser version (f .value .typeId)) at s)
+    (λ a b i r. ended-map (λ l. a ∷ l) (dataValuesParser version fs) i r)
 
-module _ (f : Consumed ValuePrototype) (fs : List (Consumed ValuePrototype)) (s : List ℕ) (at : ℕ) where
-  value-next : {e : ℕ} → Next e ≡ endOf (valueParser (f .value .typeId) at (drop at s)) → endOf (dataValuesParser fs e (drop e s)) ≡ endOf (dataValuesParser (f ∷ fs) at (drop at s))
+module _ (version : ℕ) (f : Consumed ValuePrototype) (fs : List (Consumed ValuePrototype)) (s : List ℕ) (at : ℕ) where
+  value-next : {e : ℕ} → Next e ≡ endOf (valueParser version (f .value .typeId) at (drop at s)) → endOf (dataValuesParser version fs e (drop e s)) ≡ endOf (dataValuesParser version (f ∷ fs) at (drop at s))
   unfolding _>>=_ after ended
   value-next {e} h =
-      alike (dataValuesParser fs e (drop e s)) (dataValuesParser (f ∷ fs) at (drop at s))
-      (sym (values-bind f fs at (drop at s)
-      ∙ ended-after {B = Unit {0}} (valueParser (f .value .typeId) at (drop at s)) (ok tt e (drop e s)) (λ v. dataValuesParser fs) (λ v. dataValuesParser fs)
-      (next-ended (value-exact (f .value .typeId)) s at h) (λ a b i r. refl)))
+      alike (dataValuesParser version fs e (drop e s)) (dataValuesParser version (f ∷ fs) at (drop at s))
+      (sym (values-bind version f fs at (drop at s)
+      ∙ ended-after {B = Unit {0}} (valueParser version (f .value .typeId) at (drop at s)) (ok tt e (drop e s)) (λ v. dataValuesParser version fs) (λ v. dataValuesParser version fs)
+      (next-ended (value-exact version (f .value .typeId)) s at h) (λ a b i r. refl)))
 
-  value-fault : {x : Refusal} → Fault x ≡ endOf (valueParser (f .value .typeId) at (drop at s)) → Fault x ≡ endOf (dataValuesParser (f ∷ fs) at (drop at s))
+  value-fault : {x : Refusal} → Fault x ≡ endOf (valueParser version (f .value .typeId) at (drop at s)) → Fault x ≡ endOf (dataValuesParser version (f ∷ fs) at (drop at s))
   unfolding _>>=_ after endOf ended
   value-fault {x} h =
-      sym (end-ended (dataValuesParser (f ∷ fs) at (drop at s)) ∙ ap endOf (values-bind f fs at (drop at s)
-      ∙ ended-after {B = Unit {0}} (valueParser (f .value .typeId) at (drop at s)) (fault (faultIs x)) (λ v. dataValuesParser fs) (λ v. dataValuesParser fs)
-      (fault-ended (valueParser (f .value .typeId) at (drop at s)) h) (λ a b i r. refl)))
+      sym (end-ended (dataValuesParser version (f ∷ fs) at (drop at s)) ∙ ap endOf (values-bind version f fs at (drop at s)
+      ∙ ended-after {B = Unit {0}} (valueParser version (f .value .typeId) at (drop at s)) (fault (faultIs x)) (λ v. dataValuesParser version fs) (λ v. dataValuesParser version fs)
+      (fault-ended (valueParser version (f .value .typeId) at (drop at s)) h) (λ a b i r. refl)))
 
-values-none : (at : ℕ) (s : List ℕ) → Next at ≡ endOf (dataValuesParser [] at s)
+values-none : (version at : ℕ) (s : List ℕ) → Next at ≡ endOf (dataValuesParser version [] at s)
 unfolding dataValuesParser success endOf
-values-none at s = refl
+values-none version at s = refl
 
 -- ---- the loop: definitions from `field` on and values from `at` on end as all of them do
 
-pub record InStep (s : List ℕ) (fields start field at : ℕ) : Type 0 where
+pub record InStep (version : ℕ) (s : List ℕ) (fields start field at : ℕ) : Type 0 where
   pub rest : (l : Fields) (n : ℕ) (t : List ℕ) → fieldsParser fields (drop fields s) ≡ ok l n t
-      → (k : Fields) × (fieldsParser field (drop field s) ≡ ok k n t) × (endOf (dataValuesParser (k .fields) at (drop at s)) ≡ endOf (dataValuesParser (l .fields) start (drop start s)))
+      → (k : Fields) × (fieldsParser field (drop field s) ≡ ok k n t) × (endOf (dataValuesParser version (k .fields) at (drop at s)) ≡ endOf (dataValuesParser version (l .fields) start (drop start s)))
 
-pub step-start : {s : List ℕ} {fields start : ℕ} → InStep s fields start fields start
+pub step-start : {version : ℕ} {s : List ℕ} {fields start : ℕ} → InStep version s fields start fields start
 step-start = record { rest = λ l n t e. (l, e, refl) }
 
-module _ {s : List ℕ} {fields start field at : ℕ} (i : InStep s fields start field at) where
-  pub step-last : {n : ℕ} → Last n ≡ entryOf (field + 8) (entryWith uncheckedStr field (drop field s)) → ValuesEnd s fields start (Next at)
+module _ {version : ℕ} {s : List ℕ} {fields start field at : ℕ} (i : InStep version s fields start field at) where
+  pub step-last : {n : ℕ} → Last n ≡ entryOf (field + 8) (entryWith uncheckedStr field (drop field s)) → ValuesEnd version s fields start (Next at)
   step-last e = record {
     ends = λ l n t h.
         let k = i .rest l n t h in
-        values-none at (drop at s) ∙ ap (λ fs. endOf (dataValuesParser fs at (drop at s))) (sym (turn-last s field (k .1) e .0)) ∙ k .2;
+        values-none version at (drop at s) ∙ ap (λ fs. endOf (dataValuesParser version fs at (drop at s))) (sym (turn-last s field (k .1) e .0)) ∙ k .2;
   }
 
-  pub step-bad : {f : Refusal} → Bad f ≡ entryOf (field + 8) (entryWith uncheckedStr field (drop field s)) → (r : Parsed) → ValuesEnd s fields start r
+  pub step-bad : {f : Refusal} → Bad f ≡ entryOf (field + 8) (entryWith uncheckedStr field (drop field s)) → (r : Parsed) → ValuesEnd version s fields start r
   step-bad e r = record { ends = λ l n t h. turn-bad s field (i .rest l n t h .1) e }
 
   module _ {type a b next : ℕ} (e : Field type a b next ≡ entryOf (field + 8) (entryWith uncheckedStr field (drop field s))) where
-    pub step-fault : {f : Refusal} → Fault f ≡ endOf (valueParser type at (drop at s)) → ValuesEnd s fields start (Fault f)
+    pub step-fault : {f : Refusal} → Fault f ≡ endOf (valueParser version type at (drop at s)) → ValuesEnd version s fields start (Fault f)
     unfolding consField
     step-fault v = record {
       ends = λ l n t h.
           let x = i .rest l n t h in
           let y = turn-field s field (x .1) e in
-          value-fault (with (y .field) (take (next - field) (drop field s))) (y .rest .fields) s at (v ∙ ap (λ z. endOf (valueParser z at (drop at s))) (y .typed))
-          ∙ ap (λ (z : Fields). endOf (dataValuesParser (z .fields) at (drop at s))) (sym (y .list)) ∙ x .2;
+          value-fault version (with (y .field) (take (next - field) (drop field s))) (y .rest .fields) s at (v ∙ ap (λ z. endOf (valueParser version z at (drop at s))) (y .typed))
+          ∙ ap (λ (z : Fields). endOf (dataValuesParser version (z .fields) at (drop at s))) (sym (y .list)) ∙ x .2;
     }
 
-    pub step-next : {end : ℕ} → Next end ≡ endOf (valueParser type at (drop at s)) → InStep s fields start next end
+    pub step-next : {end : ℕ} → Next end ≡ endOf (valueParser version type at (drop at s)) → InStep version s fields start next end
     unfolding consField
     step-next {end} v = record {
       rest = λ l n t h.
@@ -91,29 +91,29 @@ module _ {s : List ℕ} {fields start field at : ℕ} (i : InStep s fields start
           let y = turn-field s field (x .1) e in (
             y .rest,
             y .more,
-            value-next (with (y .field) (take (next - field) (drop field s))) (y .rest .fields) s at (v ∙ ap (λ z. endOf (valueParser z at (drop at s))) (y .typed))
-                ∙ ap (λ (z : Fields). endOf (dataValuesParser (z .fields) at (drop at s))) (sym (y .list)) ∙ x .2,
+            value-next version (with (y .field) (take (next - field) (drop field s))) (y .rest .fields) s at (v ∙ ap (λ z. endOf (valueParser version z at (drop at s))) (y .typed))
+                ∙ ap (λ (z : Fields). endOf (dataValuesParser version (z .fields) at (drop at s))) (sym (y .list)) ∙ x .2,
           );
     }
 
 -- ---- a block: its id in front of its values
 
-module _ {s : List ℕ} {fields at : ℕ} where
-  pub block-id-fault : {f : Refusal} → Fault f ≡ endOf (idParser at (drop at s)) → BlockEnd s fields at (Fault f)
+module _ {version : ℕ} {s : List ℕ} {fields at : ℕ} where
+  pub block-id-fault : {f : Refusal} → Fault f ≡ endOf (idParser at (drop at s)) → BlockEnd version s fields at (Fault f)
   unfolding _>>=_ after endOf ended
   block-id-fault {f} e = record {
     ends = λ l n t h.
-        sym (end-ended ((idParser >>= (λ i. dataValuesParser (l .fields))) at (drop at s))
-        ∙ ap endOf (ended-after {B = Unit {0}} (idParser at (drop at s)) (fault (faultIs f)) (λ i. dataValuesParser (l .fields)) (λ i. dataValuesParser (l .fields)) (fault-ended (idParser at (drop at s)) e) (λ a b i r. refl)));
+        sym (end-ended ((idParser >>= (λ i. dataValuesParser version (l .fields))) at (drop at s))
+        ∙ ap endOf (ended-after {B = Unit {0}} (idParser at (drop at s)) (fault (faultIs f)) (λ i. dataValuesParser version (l .fields)) (λ i. dataValuesParser version (l .fields)) (fault-ended (idParser at (drop at s)) e) (λ a b i r. refl)));
   }
 
-  pub block-values : {next : ℕ} {r : Parsed} → Next next ≡ endOf (idParser at (drop at s)) → ValuesEnd s fields next r → BlockEnd s fields at r
+  pub block-values : {next : ℕ} {r : Parsed} → Next next ≡ endOf (idParser at (drop at s)) → ValuesEnd version s fields next r → BlockEnd version s fields at r
   unfolding _>>=_ after ended
   block-values {next} e v = record {
     ends = λ l n t h.
         v .ends l n t h
-        ∙ alike (dataValuesParser (l .fields) next (drop next s)) ((idParser >>= (λ i. dataValuesParser (l .fields))) at (drop at s))
-        (sym (ended-after {B = Unit {0}} (idParser at (drop at s)) (ok tt next (drop next s)) (λ i. dataValuesParser (l .fields)) (λ i. dataValuesParser (l .fields)) (next-ended id-exact s at e) (λ a b i r. refl)));
+        ∙ alike (dataValuesParser version (l .fields) next (drop next s)) ((idParser >>= (λ i. dataValuesParser version (l .fields))) at (drop at s))
+        (sym (ended-after {B = Unit {0}} (idParser at (drop at s)) (ok tt next (drop next s)) (λ i. dataValuesParser version (l .fields)) (λ i. dataValuesParser version (l .fields)) (next-ended id-exact s at e) (λ a b i r. refl)));
   }
 
 -- ---- a block under a prototype that stands at an offset
@@ -121,11 +121,11 @@ module _ {s : List ℕ} {fields at : ℕ} where
 defined-next : (s : List ℕ) (o : ℕ) (p : Prototype) (h : DefinedAt s o p) {r : Parsed} → r ≡ endOf (uncheckedHead o (drop o s)) → r ≡ Next (h .fields)
 defined-next s o p h e = e ∙ head-next o (drop o s) (h .head)
 
-module _ {s : List ℕ} {o at : ℕ} {r : Parsed} (e : r ≡ endOf (uncheckedHead o (drop o s))) where
-  pub defined-fault : {f : Refusal} → r ≡ Fault f → (v : Parsed) → DefinedEnd s o at v
+module _ {version : ℕ} {s : List ℕ} {o at : ℕ} {r : Parsed} (e : r ≡ endOf (uncheckedHead o (drop o s))) where
+  pub defined-fault : {f : Refusal} → r ≡ Fault f → (v : Parsed) → DefinedEnd version s o at v
   defined-fault z v = record { ends = λ p h. next≢fault (sym (defined-next s o p h e) ∙ z) }
 
-  pub defined-block : {first : ℕ} {v : Parsed} → r ≡ Next first → BlockEnd s first at v → DefinedEnd s o at v
+  pub defined-block : {first : ℕ} {v : Parsed} → r ≡ Next first → BlockEnd version s first at v → DefinedEnd version s o at v
   defined-block {first} {v} z b = record {
     ends = λ p h.
         let i : first ≡ h .fields = next-same (sym z ∙ defined-next s o p h e) in

@@ -51,7 +51,7 @@ module _ (s t : List ℕ) (short : length s ≤ lengthLimit) where
     header : Consumed ℕ
     header = with v (take 8 s)
 
-    parse-is : parse (length t) s ≡ after (recordsAt (length t / 3) [] 8 s) (λ l. success (bsiiFile header l))
+    parse-is : parse (length t) s ≡ after (recordsAt v (length t / 3) [] 8 s) (λ l. success (bsiiFile header l))
     unfolding bsiiParser _>>=_ _<$>_ after consumed recordsParser header
     parse-is = parse-short (length t) s short ∙ rw h
 
@@ -59,7 +59,7 @@ module _ (s t : List ℕ) (short : length s ≤ lengthLimit) where
     header-long = moved-on header-exact header-empty s 0 h .1
 
     -- the walk from the first record on is the file
-    pub file-walked : {r : Walked} {t′ : List ℕ} → Walks s 8 t r t′ → ReadTree s t r t′
+    pub file-walked : {r : Walked} {t′ : List ℕ} → Walks v s 8 t r t′ → ReadTree s t r t′
     unfolding after success bsiiFile header placedRecords
     file-walked {t′ = t′} (done q {rows = rows} {n = n} e k l) =
         let is : parse (length t) s ≡ ok (bsiiFile header q) n (drop n s) = parse-is ∙ rw e in

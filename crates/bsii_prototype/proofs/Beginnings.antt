@@ -10,9 +10,9 @@ use lib.Seq.{drop-cons, getD-take, length-take-le}
 use lib.Dec.{leb, eqb}
 use borrow.Author.Tests.{eq-eqb, ne-eqb, le-leb, lt-leb}
 use Rattle.bsii_format.specs.Ascii.{ascii}
-use Rattle.bsii_format.specs.Replies.{Fault, invalidHeader, unsupportedVersion, badMark}
-use Rattle.bsii_format.specs.Reader.{Result, ok, fault, faultAt, shortAt, Reader, after, _>>=_, success, fail, bytes, verify, same, tag}
-use Rattle.bsii_format.specs.Numbers.{number, leU8, leU32}
+use Rattle.bsii_format.specs.Replies.{Fault, invalidHeader, badMark}
+use Rattle.bsii_format.specs.Reader.{Result, ok, fault, faultAt, shortAt, after, _>>=_, success, bytes, verify, same, tag}
+use Rattle.bsii_format.specs.Numbers.{number, leU8}
 use Rattle.bsii_format.specs.Strings.{strParser}
 use Rattle.bsii_format.specs.File.{Head, ending, defining, carrying, markParser, headParser, headerParser}
 use Rattle.bsii_format.proofs.Readers.{after-ok, cond-ok, ok-at, ok-rest}
@@ -67,30 +67,15 @@ pub header-not : (s : List ℕ) → same (take 4 s) (ascii "BSII") ≡ false →
 unfolding headerParser _>>=_ after tag
 header-not s h = rw h
 
-version : ℕ → Reader ℕ
-version v = cond (eqb v 1) (fail unsupportedVersion) (success v)
-
 module _ (s : List ℕ) (h : same (take 4 s) (ascii "BSII") ≡ true) where
-  header-rest : headerParser 0 s ≡ (leU32 >>= version) 4 (drop 4 s)
-  unfolding headerParser _>>=_ after tag version
+  pub header-rest : headerParser 0 s ≡ number 4 4 (drop 4 s)
+  unfolding headerParser _>>=_ after tag
   header-rest = rw h
 
-  pub header-short : {x : Fault} → number 4 4 (drop 4 s) ≡ fault x → headerParser 0 s ≡ fault x
-  header-short e = header-rest ∙ bind-fault (number 4) version e
-
-  module _ {v n : ℕ} {r : List ℕ} (e : number 4 4 (drop 4 s) ≡ ok v n r) where
-    pub header-old : v ≡ 1 → headerParser 0 s ≡ faultAt unsupportedVersion n
-    unfolding version fail
-    header-old k = header-rest ∙ bind-ok (number 4) version e ∙ ap (λ (b : Bool). cond b (fail unsupportedVersion) (success v) n r) (eq-eqb v 1 k)
-
-    pub header-whole : (v ≡ 1 → ⊥) → headerParser 0 s ≡ ok v n r
-    unfolding version success
-    header-whole k = header-rest ∙ bind-ok (number 4) version e ∙ ap (λ (b : Bool). cond b (fail unsupportedVersion) (success v) n r) (ne-eqb v 1 k)
-
-  pub header-version : {v n : ℕ} → number 4 4 (drop 4 s) ≡ ok v n (drop n s) → (v ≡ 1 → ⊥) → headerParser 0 s ≡ ok v 8 (drop 8 s)
-  header-version {v} {n} e k =
+  pub header-version : {v n : ℕ} → number 4 4 (drop 4 s) ≡ ok v n (drop n s) → headerParser 0 s ≡ ok v 8 (drop 8 s)
+  header-version {v} {n} e =
       let p : n ≡ 8 = omega (arith, number-front 4 4 (drop 4 s) e .1 .next) in
-      header-whole e k ∙ ap (λ (i : ℕ). ok v i (drop i s)) p
+      header-rest ∙ e ∙ ap (λ (i : ℕ). ok v i (drop i s)) p
 
 -- ---- heads
 

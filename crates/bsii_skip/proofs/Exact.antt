@@ -33,6 +33,6 @@ unchecked-shape-exact none = fail-exact (Unit {0}) unlistedType
 unchecked-shape-exact (some (one k)) = unchecked-element-exact k
 unchecked-shape-exact (some (many k)) = bind-exact _ (number-exact 4) (λ n. skip-exact (repeat-exact n (unchecked-element-exact k)))
 
-pub unchecked-value-exact : (t : ℕ) → Exact (Unit {0}) (uncheckedValue t)
+pub unchecked-value-exact : (version t : ℕ) → Exact (Unit {0}) (uncheckedValue version t)
 unfolding uncheckedValue
-unchecked-value-exact t = unchecked-shape-exact (shapeOf t)
+unchecked-value-exact version t = unchecked-shape-exact (shapeOf version t)

@@ -50,9 +50,9 @@ shape-follows none = fail-follows unlistedType _
 shape-follows (some (one k)) = map-follows (consumed-follows (element-follows k)) single
 shape-follows (some (many k)) = map-follows (bind-same (itself (number 4)) (λ n. follows-skip (repeat-follows n (consumed-follows (element-follows k))))) array
 
-pub value-follows : (t : ℕ) → Follows Any (valueParser t) (uncheckedValue t)
+pub value-follows : (version t : ℕ) → Follows Any (valueParser version t) (uncheckedValue version t)
 unfolding valueParser uncheckedValue
-value-follows t = shape-follows (shapeOf t)
+value-follows version t = shape-follows (shapeOf version t)
 
 -- ---- the answers
 
@@ -69,5 +69,5 @@ pub elements-same : (k : Kind) (m at : ℕ) (s : List ℕ) {v : List Element} {n
     → endOf (repeat m (uncheckedElement k) at s) ≡ Next n
 elements-same k m = next (repeat-follows m (element-follows k))
 
-pub value-same : (t at : ℕ) (s : List ℕ) {v : Value} {n : ℕ} {r : List ℕ} → valueParser t at s ≡ ok v n r → endOf (uncheckedValue t at s) ≡ Next n
-value-same t = next (value-follows t)
+pub value-same : (version t at : ℕ) (s : List ℕ) {v : Value} {n : ℕ} {r : List ℕ} → valueParser version t at s ≡ ok v n r → endOf (uncheckedValue version t at s) ≡ Next n
+value-same version t = next (value-follows version t)

@@ -67,8 +67,8 @@ unfolding joined
 refused old to (gives t) x n g new h = absurd h
 refused old to (refuses f) x n g new h = h
 
-module _ (s : List ℕ) (id start fields name lastFields : ℕ) {old : List ℕ} {to p : ℕ} {mid : List ℕ} (w : OpeningWritten (take (lastFields - name) (drop name s)) (take (start - id) (drop id s)) old to p mid) where
-  pub body-refused : {x : Refusal} {new : List ℕ} → FieldsWritten s start fields lastFields mid p (Refused x) new → BodyWritten s id start fields name lastFields old to (Refused x) new
+module _ {version : ℕ} (s : List ℕ) (id start fields name lastFields : ℕ) {old : List ℕ} {to p : ℕ} {mid : List ℕ} (w : OpeningWritten (take (lastFields - name) (drop name s)) (take (start - id) (drop id s)) old to p mid) where
+  pub body-refused : {x : Refusal} {new : List ℕ} → FieldsWritten version s start fields lastFields mid p (Refused x) new → BodyWritten version s id start fields name lastFields old to (Refused x) new
   body-refused {x} {new} h = record {
     writes = λ i f l n t e m q u g vs d c v.
         refused old to (joined (gives (blockOpening (take (lastFields - name) (drop name s)) i)) (fieldsText valueText start (m .fields) vs)) (gives closing) d x new
@@ -76,8 +76,8 @@ module _ (s : List ℕ) (id start fields name lastFields : ℕ) {old : List ℕ}
     size = h .size ∙ w .size;
   }
 
-  pub body-written : {at r₁ r : ℕ} {m₁ new : List ℕ} → FieldsWritten s start fields lastFields mid p (Next at r₁) m₁ → Wrote m₁ r₁ closing r new
-      → BodyWritten s id start fields name lastFields old to (Next at r) new
+  pub body-written : {at r₁ r : ℕ} {m₁ new : List ℕ} → FieldsWritten version s start fields lastFields mid p (Next at r₁) m₁ → Wrote m₁ r₁ closing r new
+      → BodyWritten version s id start fields name lastFields old to (Next at r) new
   body-written {at} {r₁} {r} {m₁} {new} h x = record {
     writes = λ i f l n t e m q u g vs d c v.
         closed old to (joined (gives (blockOpening (take (lastFields - name) (drop name s)) i)) (fieldsText valueText start (m .fields) vs)) d at r₁ m₁
@@ -107,9 +107,9 @@ module _ (s : List ℕ) (inForce last fields lastFields : ℕ) where
   }
 
 -- a block has a value for each definition in force
-values-length : (fs : List (Consumed ValuePrototype)) (s : List ℕ) (at : ℕ) {vs : List DataValue} {e : ℕ} {r : List ℕ} → dataValuesParser fs at (drop at s) ≡ ok vs e r → length vs ≡ length fs
-values-length [] s at h = ap length (done h .0)
-values-length (f ∷ fs) s at h = let w = turn f fs s at h in ap length (w .both) ∙ ap suc (values-length fs s (w .end) (w .others))
+values-length : (version : ℕ) (fs : List (Consumed ValuePrototype)) (s : List ℕ) (at : ℕ) {vs : List DataValue} {e : ℕ} {r : List ℕ} → dataValuesParser version fs at (drop at s) ≡ ok vs e r → length vs ≡ length fs
+values-length version [] s at h = ap length (done version h .0)
+values-length version (f ∷ fs) s at h = let w = turn f fs s at h in ap length (w .both) ∙ ap suc (values-length version fs s (w .end) (w .others))
 
 -- ---- the whole block
 
@@ -126,15 +126,15 @@ id-past : (s : List ℕ) (at : ℕ) {v : Id} {n : ℕ} → idParser at (drop at 
 unfolding elementParser
 id-past s at {v} {n} e = element-same id at (drop at s) {v = ident v} (map-value ident idParser e)
 
-module _ (s : List ℕ) (offset at inForce last : ℕ) (old : List ℕ) (to : ℕ) where
+module _ (version : ℕ) (s : List ℕ) (offset at inForce last : ℕ) (old : List ℕ) (to : ℕ) where
   -- what stands there was accepted, so that nothing of it runs out
-  pub no-definition : {x : Parsed} → x ≡ endOf (uncheckedHead inForce (drop inForce s)) → {f : Refusal} → x ≡ Stopped f → (r : Written) → BlockWritten s offset at inForce last old to r old
+  pub no-definition : {x : Parsed} → x ≡ endOf (uncheckedHead inForce (drop inForce s)) → {f : Refusal} → x ≡ Stopped f → (r : Written) → BlockWritten version s offset at inForce last old to r old
   no-definition e f r = record { writes = λ p q h k b i j z d c v. next≢fault (sym (standing s inForce e p h) ∙ f); size = refl }
 
-  pub no-last : {x : Parsed} → x ≡ endOf (uncheckedHead last (drop last s)) → {f : Refusal} → x ≡ Stopped f → (r : Written) → BlockWritten s offset at inForce last old to r old
+  pub no-last : {x : Parsed} → x ≡ endOf (uncheckedHead last (drop last s)) → {f : Refusal} → x ≡ Stopped f → (r : Written) → BlockWritten version s offset at inForce last old to r old
   no-last e f r = record { writes = λ p q h k b i j z d c v. next≢fault (sym (standing s last e q k) ∙ f); size = refl }
 
-  pub no-id : {x : Parsed} → x ≡ endOf (uncheckedElement id at (drop at s)) → {f : Refusal} → x ≡ Stopped f → (r : Written) → BlockWritten s offset at inForce last old to r old
+  pub no-id : {x : Parsed} → x ≡ endOf (uncheckedElement id at (drop at s)) → {f : Refusal} → x ≡ Stopped f → (r : Written) → BlockWritten version s offset at inForce last old to r old
   no-id e f r = record { writes = λ p q h k b i j z d c v. next≢fault (sym (id-past s at d) ∙ sym e ∙ f); size = refl }
 
   module _ {x : Parsed} (e : x ≡ endOf (uncheckedHead inForce (drop inForce s))) {fields : ℕ} (f : x ≡ Past fields)
@@ -150,11 +150,11 @@ module _ (s : List ℕ) (offset at inForce last : ℕ) (old : List ℕ) (to : �
       counts : (p q : Prototype) → DefinedAt s inForce p → DefinedAt s last q → (vs : List DataValue) → length vs ≡ length (p .fields) → eqb (length (q .fields)) (length vs) ≡ r
       counts p q k l vs v = ap (eqb (length (q .fields))) v ∙ sym (w .is p q k l (fields-are p k) (last-are q l))
 
-      pub other-count : {x : Refusal} → x ≡ refusedAt fieldCount offset → not r ≡ true → BlockWritten s offset at inForce last old to (Refused x) old
+      pub other-count : {x : Refusal} → x ≡ refusedAt fieldCount offset → not r ≡ true → BlockWritten version s offset at inForce last old to (Refused x) old
       other-count {x} a z = record {
         writes = λ p q k l b i j u d c v.
             subst (λ (t : Reply (List ℕ)). WrittenIs old to t c (Refused x) old)
-            (sym (uneven-text offset q b (counts p q k l (b .values) (values-length (p .fields) s j v) ∙ not-true r z))) (ap faultIs a);
+            (sym (uneven-text offset q b (counts p q k l (b .values) (values-length version (p .fields) s j v) ∙ not-true r z))) (ap faultIs a);
         size = refl;
       }
         where
@@ -173,12 +173,12 @@ module _ (s : List ℕ) (offset at inForce last : ℕ) (old : List ℕ) (to : �
         name-is : (q : Prototype) → DefinedAt s last q → take (lastFields - (last + 13)) (drop (last + 13) s) ≡ q .name
         name-is q k = ap (λ (a : ℕ). take (a - (last + 13)) (drop (last + 13) s)) (sym (last-are q k)) ∙ sym (head-ends s last (head-past last (drop last s) (k .head)) .place)
 
-        pub whole-block : {v : Written} {new : List ℕ} → BodyWritten s at start fields (last + 13) lastFields old to v new → BlockWritten s offset at inForce last old to v new
+        pub whole-block : {v : Written} {new : List ℕ} → BodyWritten version s at start fields (last + 13) lastFields old to v new → BlockWritten version s offset at inForce last old to v new
         unfolding valuesOffset
         whole-block {v} {new} y = record {
           writes = λ p q k l b i j o d c t.
               let first : start ≡ j = next-same (sym m ∙ n ∙ id-past s at d) in
-              let count = counts p q k l (b .values) (values-length (p .fields) s j t) in
+              let count = counts p q k l (b .values) (values-length version (p .fields) s j t) in
               let begin : offset + length (b .head) + length (b .id .raw) ≡ start = ap (λ (a : ℕ). a + length (b .id .raw)) (sym i) ∙ sym o ∙ sym first in
               subst (λ (x : Reply (List ℕ)). WrittenIs old to x c v new)
               (ap₂ (λ (a : List ℕ) (e : ℕ). joined (joined (gives (blockOpening a (b .id .value))) (fieldsText valueText e (q .fields) (b .values))) (gives closing)) (name-is q l) (sym begin)
@@ -186,12 +186,12 @@ module _ (s : List ℕ) (offset at inForce last : ℕ) (old : List ℕ) (to : �
               (y .writes (b .id .value) (d ∙ ap (λ (a : ℕ). ok (b .id .value) a (drop a s)) (sym first))
               (record { fields = p .fields; terminator = p .terminator }) (k .next) (drop (k .next) s) (fields-of k (fields-are p k))
               (record { fields = q .fields; terminator = q .terminator }) (l .next) (drop (l .next) s) (fields-of l (last-are q l))
-              (b .values) c (ap (λ (a : ℕ). dataValuesParser (p .fields) a (drop a s)) first ∙ t)
-              (ap (eqb (length (q .fields))) (sym (values-length (p .fields) s j t)) ∙ count ∙ even));
+              (b .values) c (ap (λ (a : ℕ). dataValuesParser version (p .fields) a (drop a s)) first ∙ t)
+              (ap (eqb (length (q .fields))) (sym (values-length version (p .fields) s j t)) ∙ count ∙ even));
           size = y .size;
         }
 
 -- a contract at the case that was answered
-pub fields-by : {s : List ℕ} {start fields lastFields : ℕ} {old : List ℕ} {to : ℕ} {x r : Written} {new : List ℕ} → x ≡ r → FieldsWritten s start fields lastFields old to x new
-    → FieldsWritten s start fields lastFields old to r new
-fields-by {s} {start} {fields} {lastFields} {old} {to} {x} {r} {new} e h = subst (λ (y : Written). FieldsWritten s start fields lastFields old to y new) e h
+pub fields-by : {version : ℕ} {s : List ℕ} {start fields lastFields : ℕ} {old : List ℕ} {to : ℕ} {x r : Written} {new : List ℕ} → x ≡ r → FieldsWritten version s start fields lastFields old to x new
+    → FieldsWritten version s start fields lastFields old to r new
+fields-by {version} {s} {start} {fields} {lastFields} {old} {to} {x} {r} {new} e h = subst (λ (y : Written). FieldsWritten version s start fields lastFields old to y new) e h

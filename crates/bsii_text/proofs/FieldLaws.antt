@@ -59,27 +59,27 @@ behind-text w (refuses f) n (Refused g) new h = h
 -- ---- the first of the values that are left
 
 -- of the type in force, with its text's end
-record First (s : List ℕ) (at type : ℕ) (g : Consumed ValuePrototype) (gs : List (Consumed ValuePrototype)) (fs : List (Consumed ValuePrototype)) (vs : List DataValue) (e : ℕ) : Type 0 where
+record First (version : ℕ) (s : List ℕ) (at type : ℕ) (g : Consumed ValuePrototype) (gs : List (Consumed ValuePrototype)) (fs : List (Consumed ValuePrototype)) (vs : List DataValue) (e : ℕ) : Type 0 where
   value : DataValue
   next : ℕ
-  reads : valueParser type at (drop at s) ≡ ok (value .value) next (drop next s)
+  reads : valueParser version type at (drop at s) ≡ ok (value .value) next (drop next s)
   values : List DataValue
-  more : dataValuesParser fs next (drop next s) ≡ ok values e (drop e s)
+  more : dataValuesParser version fs next (drop next s) ≡ ok values e (drop e s)
   text : joined (orRefuse enumValue at (valueText (g .value) (value .value))) (fieldsText valueText next gs values) ≡ fieldsText valueText at (g ∷ gs) vs
 
-first : (s : List ℕ) (at type : ℕ) (f g : Consumed ValuePrototype) (gs fs : List (Consumed ValuePrototype)) {vs : List DataValue} {e : ℕ} → type ≡ f .value .typeId
-    → dataValuesParser (f ∷ fs) at (drop at s) ≡ ok vs e (drop e s) → First s at type g gs fs vs e
+first : {version : ℕ} (s : List ℕ) (at type : ℕ) (f g : Consumed ValuePrototype) (gs fs : List (Consumed ValuePrototype)) {vs : List DataValue} {e : ℕ} → type ≡ f .value .typeId
+    → dataValuesParser version (f ∷ fs) at (drop at s) ≡ ok vs e (drop e s) → First version s at type g gs fs vs e
 unfolding dataValueParser dataValue fieldsText
-first s at type f g gs fs {vs} {e} t h =
+first {version} s at type f g gs fs {vs} {e} t h =
     let w = turn f fs s at h in
-    let m = map-ok (dataValue (f .value .typeId)) (consumed (valueParser (f .value .typeId))) at (drop at s) (w .first) in
-    let x = step (value-exact (f .value .typeId)) s at (m .2) in
+    let m = map-ok (dataValue (f .value .typeId)) (consumed (valueParser version (f .value .typeId))) at (drop at s) (w .first) in
+    let x = step (value-exact version (f .value .typeId)) s at (m .2) in
     let v : m .0 .value ≡ w .value .value = ap (λ (d : DataValue). d .value) (m .1) in
     let r : m .0 .raw ≡ w .value .raw = ap (λ (d : DataValue). d .raw) (m .1) in
     record {
       value = w .value;
       next = w .end;
-      reads = ap (λ (k : ℕ). valueParser k at (drop at s)) t ∙ x .reads ∙ ap (λ (y : Value). ok y (w .end) (drop (w .end) s)) v;
+      reads = ap (λ (k : ℕ). valueParser version k at (drop at s)) t ∙ x .reads ∙ ap (λ (y : Value). ok y (w .end) (drop (w .end) s)) v;
       values = w .values;
       more = w .others;
       text =
@@ -92,20 +92,20 @@ first s at type f g gs fs {vs} {e} t h =
 true≢false : {P : Type 0} → true ≡ false → P
 true≢false e = let z : _≡_ {A = ℕ} 0 1 = cc in let f : ⊥ = omega arith in absurd f
 
-module _ (s : List ℕ) (field lastField at here : ℕ) (out : List ℕ) where
+module _ (version : ℕ) (s : List ℕ) (field lastField at here : ℕ) (out : List ℕ) where
   -- both lists are at their end
-  pub turn-ends : here ≤ 0xffff_ffff_ffff_ffff → length out < 0x8000_0000_0000_0000 → PairOf s field lastField Ends → FieldsWritten s at field lastField out here (Next at here) out
+  pub turn-ends : here ≤ 0xffff_ffff_ffff_ffff → length out < 0x8000_0000_0000_0000 → PairOf s field lastField Ends → FieldsWritten version s at field lastField out here (Next at here) out
   unfolding fieldsText
   turn-ends a b p = record { writes = λ l n t e m o u f vs d c k. close (p .is l n t e m o u f) c; size = refl }
     where
       close : {a b : Fields} {n : ℕ} {t : List ℕ} {o : ℕ} {u : List ℕ} {vs : List DataValue} {e : ℕ} → PairIs s a n t b o u Ends
-          → dataValuesParser (a .fields) at (drop at s) ≡ ok vs e (drop e s) → WrittenIs out here (fieldsText valueText at (b .fields) vs) e (Next at here) out
+          → dataValuesParser version (a .fields) at (drop at s) ≡ ok vs e (drop e s) → WrittenIs out here (fieldsText valueText at (b .fields) vs) e (Next at here) out
       close {vs = vs} {e = e} (ends p q) c =
-          let z = no-values (ap (λ (fs : List (Consumed ValuePrototype)). dataValuesParser fs at (drop at s)) (sym p) ∙ c) in
+          let z = no-values version (ap (λ (fs : List (Consumed ValuePrototype)). dataValuesParser version fs at (drop at s)) (sym p) ∙ c) in
           subst (λ (fs : List (Consumed ValuePrototype)). WrittenIs out here (fieldsText valueText at fs vs) e (Next at here) out) (sym q)
           (sym (z .1), end (begin {x = []} a b) refl)
 
-  pub turn-uneven : PairOf s field lastField Uneven → (r : Written) → FieldsWritten s at field lastField out here r out
+  pub turn-uneven : PairOf s field lastField Uneven → (r : Written) → FieldsWritten version s at field lastField out here r out
   turn-uneven p r = record { writes = λ l n t e m o u f vs d c k. no (p .is l n t e m o u f) k; size = refl }
     where
       no : {P : Type 0} {a b : Fields} {n : ℕ} {t : List ℕ} {o : ℕ} {u : List ℕ} → PairIs s a n t b o u Uneven → eqb (length (b .fields)) (length (a .fields)) ≡ true → P
@@ -122,14 +122,14 @@ module _ (s : List ℕ) (field lastField at here : ℕ) (out : List ℕ) where
         go (both q) = q
 
     module _ {l : Fields} {n : ℕ} {t : List ℕ} (e : fieldsParser field (drop field s) ≡ ok l n t) {m : Fields} {o : ℕ} {u : List ℕ} (f : fieldsParser lastField (drop lastField s) ≡ ok m o u)
-        {vs : List DataValue} {z : ℕ} (c : dataValuesParser (l .fields) at (drop at s) ≡ ok vs z (drop z s)) where
+        {vs : List DataValue} {z : ℕ} (c : dataValuesParser version (l .fields) at (drop at s) ≡ ok vs z (drop z s)) where
       pair : Paired s type (definition lastType name nameEnd) next lastNext l n t m o u
       pair = paired e f
 
-      value : First s at type (pair .last) (pair .lastBegins .rest .fields) (pair .begins .rest .fields) vs z
+      value : First version s at type (pair .last) (pair .lastBegins .rest .fields) (pair .begins .rest .fields) vs z
       value =
           first s at type (pair .inForce) (pair .last) (pair .lastBegins .rest .fields) (pair .begins .rest .fields) (pair .typed)
-          (ap (λ (fs : List (Consumed ValuePrototype)). dataValuesParser fs at (drop at s)) (sym (pair .begins .fields)) ∙ c)
+          (ap (λ (fs : List (Consumed ValuePrototype)). dataValuesParser version fs at (drop at s)) (sym (pair .begins .fields)) ∙ c)
 
       -- the text of the values, the first one's in front
       text-is : joined (orRefuse enumValue at (valueText (pair .last .value) (value .value .value))) (fieldsText valueText (value .next) (pair .lastBegins .rest .fields) (value .values))
@@ -142,8 +142,8 @@ module _ (s : List ℕ) (field lastField at here : ℕ) (out : List ℕ) where
           sym (eqb·suc-suc (length (pair .lastBegins .rest .fields)) (length (pair .begins .rest .fields)))
           ∙ sym (ap₂ (λ (a b : List (Consumed ValuePrototype)). eqb (length a) (length b)) (pair .lastBegins .fields) (pair .begins .fields)) ∙ k
 
-    pub turn-absent : {x : Refusal} {new : List ℕ} → x ≡ refusedAt enumValue at → FieldWritten s at type (definition lastType name nameEnd) out here NotInList new
-        → FieldsWritten s at field lastField out here (Refused x) new
+    pub turn-absent : {x : Refusal} {new : List ℕ} → x ≡ refusedAt enumValue at → FieldWritten version s at type (definition lastType name nameEnd) out here NotInList new
+        → FieldsWritten version s at field lastField out here (Refused x) new
     unfolding joined orRefuse
     turn-absent {x} {new} z w = record {
       writes = λ l n t e m o u f vs i c k.
@@ -159,8 +159,8 @@ module _ (s : List ℕ) (field lastField at here : ℕ) (out : List ℕ) where
         stop none more e m a h = subst (λ (r : Reply (List ℕ)). WrittenIs out here r e (Refused x) new) h (ap faultIs z)
         stop (some v) more e m a h = absurd a
 
-    pub turn-on : {behind to : ℕ} {new : List ℕ} → FieldWritten s at type (definition lastType name nameEnd) out here (More behind to) new
-        → (r : Written) (last : List ℕ) → FieldsWritten s behind next lastNext new to r last → FieldsWritten s at field lastField out here r last
+    pub turn-on : {behind to : ℕ} {new : List ℕ} → FieldWritten version s at type (definition lastType name nameEnd) out here (More behind to) new
+        → (r : Written) (last : List ℕ) → FieldsWritten version s behind next lastNext new to r last → FieldsWritten version s at field lastField out here r last
     unfolding orRefuse
     turn-on {behind} {to} {new} w r last h = record {
       writes = λ l n t e m o u f vs i c k.
@@ -172,21 +172,21 @@ module _ (s : List ℕ) (field lastField at here : ℕ) (out : List ℕ) where
     }
       where
         on : {whole : Reply (List ℕ)} (a : Fields) (n : ℕ) (t : List ℕ) → fieldsParser next (drop next s) ≡ ok a n t → (b : Fields) (o : ℕ) (u : List ℕ) → fieldsParser lastNext (drop lastNext s) ≡ ok b o u
-            → (m : ℕ) (vs : List DataValue) (e : ℕ) → dataValuesParser (a .fields) m (drop m s) ≡ ok vs e (drop e s)
+            → (m : ℕ) (vs : List DataValue) (e : ℕ) → dataValuesParser version (a .fields) m (drop m s) ≡ ok vs e (drop e s)
             → eqb (length (b .fields)) (length (a .fields)) ≡ true → (v : Option (List ℕ)) → LinesAre out here v m (More behind to) new
             → joined (orRefuse enumValue at v) (fieldsText valueText m (b .fields) vs) ≡ whole → WrittenIs out here whole e r last
         on a n t f b o u g m vs e c k none q x = absurd q
         on a n t f b o u g m vs e c k (some v) q x =
             subst (λ (y : Reply (List ℕ)). WrittenIs out here y e r last) (ap (λ (j : ℕ). joined (gives v) (fieldsText valueText j (b .fields) vs)) (q .0) ∙ x)
             (behind-text (q .1) (fieldsText valueText behind (b .fields) vs) e r last
-            (h .writes a n t f b o u g vs e (ap (λ (j : ℕ). dataValuesParser (a .fields) j (drop j s)) (q .0) ∙ c) k))
+            (h .writes a n t f b o u g vs e (ap (λ (j : ℕ). dataValuesParser version (a .fields) j (drop j s)) (q .0) ∙ c) k))
 
 -- contracts at the case that was answered
 pub pair-by : {s : List ℕ} {a b : ℕ} {x r : Pair} → x ≡ r → PairOf s a b x → PairOf s a b r
 pair-by {s} {a} {b} e h = subst (PairOf s a b) e h
 
-pub field-by : {s : List ℕ} {at type : ℕ} {d : Definition} {old : List ℕ} {to : ℕ} {x r : Lines} {new : List ℕ} → x ≡ r → FieldWritten s at type d old to x new → FieldWritten s at type d old to r new
-field-by {s} {at} {type} {d} {old} {to} {x} {r} {new} e h = subst (λ (y : Lines). FieldWritten s at type d old to y new) e h
+pub field-by : {version : ℕ} {s : List ℕ} {at type : ℕ} {d : Definition} {old : List ℕ} {to : ℕ} {x r : Lines} {new : List ℕ} → x ≡ r → FieldWritten version s at type d old to x new → FieldWritten version s at type d old to r new
+field-by {version} {s} {at} {type} {d} {old} {to} {x} {r} {new} e h = subst (λ (y : Lines). FieldWritten version s at type d old to y new) e h
 
-pub turned-by : (s : List ℕ) (p : FieldPlace) (old new : List ℕ) {x r : FieldTurn} → x ≡ r → FieldTurned s p old x new → FieldTurned s p old r new
-turned-by s p old new e h = subst (λ (y : FieldTurn). FieldTurned s p old y new) e h
+pub turned-by : (version : ℕ) (s : List ℕ) (p : FieldPlace) (old new : List ℕ) {x r : FieldTurn} → x ≡ r → FieldTurned version s p old x new → FieldTurned version s p old r new
+turned-by version s p old new e h = subst (λ (y : FieldTurn). FieldTurned version s p old y new) e h

@@ -62,11 +62,11 @@ step-is old to (gives t) n (Not g) new h = absurd h
 step-is old to (refuses f) n (Next at r) new h = absurd h
 step-is old to (refuses f) n (Not g) new h = h
 
-module _ (s : List ℕ) (offset : ℕ) (t : List ℕ) (rows prototypeId at : ℕ) (old : List ℕ) (to : ℕ) {f : FoundRow} (e : foundRow f ≡ lookup t rows prototypeId) where
-  pub block-unknown : f ≡ NotFound → BlockStep s offset t rows prototypeId at old to End old
+module _ {version : ℕ} (s : List ℕ) (offset : ℕ) (t : List ℕ) (rows prototypeId at : ℕ) (old : List ℕ) (to : ℕ) {f : FoundRow} (e : foundRow f ≡ lookup t rows prototypeId) where
+  pub block-unknown : f ≡ NotFound → BlockStep version s offset t rows prototypeId at old to End old
   block-unknown z = record { steps = λ env last k p q g h b i j a c d v. none≢some (sym (entered-nothing (DefinedAt s) k prototypeId z e) ∙ h); size = refl }
 
-  pub block-step : {a b x y : ℕ} → f ≡ At a b → x ≡ a → y ≡ b → {w : Written} {new : List ℕ} → BlockWritten s offset at x y old to w new → {r : WriteStep} → stepOf w ≡ r → BlockStep s offset t rows prototypeId at old to r new
+  pub block-step : {a b x y : ℕ} → f ≡ At a b → x ≡ a → y ≡ b → {w : Written} {new : List ℕ} → BlockWritten version s offset at x y old to w new → {r : WriteStep} → stepOf w ≡ r → BlockStep version s offset t rows prototypeId at old to r new
   block-step {a} {b} {x} {y} z i j {w} {new} h {r} g = record {
     steps = λ env last k p q m l d o c u v n d′.
         let under = entered-at (DefinedAt s) k prototypeId z e in
@@ -115,59 +115,59 @@ unfolding recordsText
 records-block last at b l {n} e {q} g = ap₂ (λ (o : Option Prototype) (k : ℕ). joined (blockText valueText at o b) (recordsText valueText last k l)) g (sym e)
 
 -- a block's answer, said of the records
-finish : (s : List ℕ) (at rows : ℕ) (old : List ℕ) (to rooms : ℕ) (last env : List Prototype) (rest : List Record) (n : ℕ) (b : DataBlock) (l : List Record) (r : WriteStep) (new t : List ℕ) (o : Reply (List ℕ))
-    → StepIs old to o n r new → recordsText valueText last at rest ≡ joined o (recordsText valueText last n l) → WalkAt s rooms rows last t n (define (block b) env) l → at < n → n ≤ length s
-    → Stepped s rooms rows last at env rest old to r t new
+finish : {version : ℕ} (s : List ℕ) (at rows : ℕ) (old : List ℕ) (to rooms : ℕ) (last env : List Prototype) (rest : List Record) (n : ℕ) (b : DataBlock) (l : List Record) (r : WriteStep) (new t : List ℕ) (o : Reply (List ℕ))
+    → StepIs old to o n r new → recordsText valueText last at rest ≡ joined o (recordsText valueText last n l) → WalkAt version s rooms rows last t n (define (block b) env) l → at < n → n ≤ length s
+    → Stepped version s rooms rows last at env rest old to r t new
 unfolding joined
-finish s at rows old to rooms last env rest n b l (Go m r) new t (gives x) a e w p q =
-    subst (λ (i : ℕ). Stepped s rooms rows last at env rest old to (Go i r) t new) (sym (a .0)) (went (block b) l x w p q e (a .1))
+finish {version} s at rows old to rooms last env rest n b l (Go m r) new t (gives x) a e w p q =
+    subst (λ (i : ℕ). Stepped version s rooms rows last at env rest old to (Go i r) t new) (sym (a .0)) (went (block b) l x w p q e (a .1))
 finish s at rows old to rooms last env rest n b l (Refused g) new t (gives x) a e w p q = absurd a
 finish s at rows old to rooms last env rest n b l End new t (gives x) a e w p q = absurd a
 finish s at rows old to rooms last env rest n b l (Go m r) new t (refuses f) a e w p q = absurd a
 finish s at rows old to rooms last env rest n b l (Refused g) new t (refuses f) a e w p q = refused (e ∙ ap refuses (sym a))
 finish s at rows old to rooms last env rest n b l End new t (refuses f) a e w p q = absurd a
 
-module _ (s : List ℕ) (at : ℕ) (t : List ℕ) (rows : ℕ) (old : List ℕ) (to : ℕ) (inside : at ≤ length s) {k : RecordKind} (e : KindAt s at k) where
-  here : (rooms : ℕ) (last env : List Prototype) (rest : List Record) (w : WalkAt s rooms rows last t at env rest) → Accepted rooms env at s (w .n) (w .end) rest
+module _ {version : ℕ} (s : List ℕ) (at : ℕ) (t : List ℕ) (rows : ℕ) (old : List ℕ) (to : ℕ) (inside : at ≤ length s) {k : RecordKind} (e : KindAt s at k) where
+  here : (rooms : ℕ) (last env : List Prototype) (rest : List Record) (w : WalkAt version s rooms rows last t at env rest) → Accepted version rooms env at s (w .n) (w .end) rest
   here rooms last env rest w = accepted rooms env at s (w .n) (w .end) rest (w .reads)
 
-  pub record-end : k ≡ Ends → RecordWritten s at t rows old to End t old
+  pub record-end : k ≡ Ends → RecordWritten version s at t rows old to End t old
   record-end z = record { steps = λ rooms last env rest w. go rooms last env rest w refl (here rooms last env rest w); size = refl; tableSize = refl }
     where
-      go : (rooms : ℕ) (last env : List Prototype) (rest : List Record) (w : WalkAt s rooms rows last t at env rest) {l : List Record} → rest ≡ l → Accepted rooms env at s (w .n) (w .end) l
-          → Stepped s rooms rows last at env rest old to End t old
+      go : (rooms : ℕ) (last env : List Prototype) (rest : List Record) (w : WalkAt version s rooms rows last t at env rest) {l : List Record} → rest ≡ l → Accepted version rooms env at s (w .n) (w .end) l
+          → Stepped version s rooms rows last at env rest old to End t old
       go rooms last env rest w q (the-end h) = ended q refl (w .entered)
-      go rooms last env rest w q (a-record (prototype p) n l h d) = ends≢defines (sym z ∙ is-prototype s at t rows e env p n (h .reads))
-      go rooms last env rest w q (a-record (block b) n l h d) = ends≢carries (sym z ∙ is-block s at t rows e env b n (h .reads))
+      go rooms last env rest w q (a-record (prototype p) n l h d) = ends≢defines (sym z ∙ is-prototype version s at t rows e env p n (h .reads))
+      go rooms last env rest w q (a-record (block b) n l h d) = ends≢carries (sym z ∙ is-block version s at t rows e env b n (h .reads))
 
   pub record-prototype : {id : ℕ} → k ≡ Defines id → {r : WriteStep} {t′ : List ℕ} → to ≤ 0xffff_ffff_ffff_ffff → length old < 0x8000_0000_0000_0000 → PrototypeStep s at t rows id to r t′
-      → RecordWritten s at t rows old to r t′ old
+      → RecordWritten version s at t rows old to r t′ old
   unfolding define defineAll
   record-prototype {id} z {r} {t′} a c x = record { steps = λ rooms last env rest w. go rooms last env rest w refl (here rooms last env rest w); size = refl; tableSize = x .size }
     where
-      go : (rooms : ℕ) (last env : List Prototype) (rest : List Record) (w : WalkAt s rooms rows last t at env rest) {l : List Record} → rest ≡ l → Accepted rooms env at s (w .n) (w .end) l
-          → Stepped s rooms rows last at env rest old to r t′ old
-      go rooms last env rest w q (the-end {l = l} {m = m} {r = u} h) = ends≢defines (sym (is-end s at t rows e env l m u h) ∙ z)
-      go rooms last env rest w q (a-record (block b) n l h d) = defines≢carries (sym z ∙ is-block s at t rows e env b n (h .reads))
+      go : (rooms : ℕ) (last env : List Prototype) (rest : List Record) (w : WalkAt version s rooms rows last t at env rest) {l : List Record} → rest ≡ l → Accepted version rooms env at s (w .n) (w .end) l
+          → Stepped version s rooms rows last at env rest old to r t′ old
+      go rooms last env rest w q (the-end {l = l} {m = m} {r = u} h) = ends≢defines (sym (is-end version s at t rows e env l m u h) ∙ z)
+      go rooms last env rest w q (a-record (block b) n l h d) = defines≢carries (sym z ∙ is-block version s at t rows e env b n (h .reads))
       go rooms last env rest w q (a-record (prototype p) n l h d) =
-          let y = stands env s at n p (h .reads) in
-          let g = x .steps env last (w .entered) p (y .0) (sym (defines-is (sym z ∙ is-prototype s at t rows e env p n (h .reads)))) in
+          let y = stands version env s at n p (h .reads) in
+          let g = x .steps env last (w .entered) p (y .0) (sym (defines-is (sym z ∙ is-prototype version s at t rows e env p n (h .reads)))) in
           let moves : r ≡ Go n to = g .0 ∙ ap (λ (i : ℕ). Go i to) (y .1) in
-          subst (λ (r : WriteStep). Stepped s rooms rows last at env rest old to r t′ old) (sym moves)
+          subst (λ (r : WriteStep). Stepped version s rooms rows last at env rest old to r t′ old) (sym moves)
           (went (prototype p) l [] (record { end = w .end; n = w .n; reads = d; entered = g .1; lasts = w .lasts ∙ ap (λ (m : List Record). defineAll m env) q }) (h .later) (h .inside inside)
           (ap (recordsText valueText last at) q ∙ records-prototype last at p l (h .place)) (loops.end (begin {x = []} a c) refl))
 
-  pub record-block : {id next : ℕ} → k ≡ Carries id next → {r : WriteStep} {new : List ℕ} → BlockStep s at t rows id next old to r new → RecordWritten s at t rows old to r t new
+  pub record-block : {id next : ℕ} → k ≡ Carries id next → {r : WriteStep} {new : List ℕ} → BlockStep version s at t rows id next old to r new → RecordWritten version s at t rows old to r t new
   unfolding define defineAll
   record-block {id} {next} z {r} {new} x = record { steps = λ rooms last env rest w. go rooms last env rest w refl (here rooms last env rest w); size = x .size; tableSize = refl }
     where
-      go : (rooms : ℕ) (last env : List Prototype) (rest : List Record) (w : WalkAt s rooms rows last t at env rest) {l : List Record} → rest ≡ l → Accepted rooms env at s (w .n) (w .end) l
-          → Stepped s rooms rows last at env rest old to r t new
-      go rooms last env rest w q (the-end {l = l} {m = m} {r = u} h) = ends≢carries (sym (is-end s at t rows e env l m u h) ∙ z)
-      go rooms last env rest w q (a-record (prototype p) n l h d) = defines≢carries (sym (is-prototype s at t rows e env p n (h .reads)) ∙ z)
+      go : (rooms : ℕ) (last env : List Prototype) (rest : List Record) (w : WalkAt version s rooms rows last t at env rest) {l : List Record} → rest ≡ l → Accepted version rooms env at s (w .n) (w .end) l
+          → Stepped version s rooms rows last at env rest old to r t new
+      go rooms last env rest w q (the-end {l = l} {m = m} {r = u} h) = ends≢carries (sym (is-end version s at t rows e env l m u h) ∙ z)
+      go rooms last env rest w q (a-record (prototype p) n l h d) = defines≢carries (sym (is-prototype version s at t rows e env p n (h .reads)) ∙ z)
       go rooms last env rest w q (a-record (block b) n l h d) =
-          let y = block-parts env s at n b (h .reads) in
-          let c = sym z ∙ is-block s at t rows e env b n (h .reads) in
+          let y = block-parts version env s at n b (h .reads) in
+          let c = sym z ∙ is-block version s at t rows e env b n (h .reads) in
           let i : id ≡ b .prototypeId = carries-id c in
           let j : next ≡ at + length (b .head) = carries-next c in
           let named = still-defined (block b ∷ l) env (b .prototypeId) (y .found) in
@@ -175,6 +175,6 @@ module _ (s : List ℕ) (at : ℕ) (t : List ℕ) (rows : ℕ) (old : List ℕ) 
           finish s at rows old to rooms last env rest n b l r new t (blockText valueText at (some (named .0)) b)
           (x .steps env last (w .entered) (y .by) (named .0) (ap (λ (v : ℕ). getPrototype v env) i ∙ y .found) (ap (λ (v : ℕ). getPrototype v last) i ∙ lastIs) b j (next + length (b .id .raw)) refl
           (ap (λ (v : ℕ). idParser v (drop v s)) j ∙ y .id ∙ ap (λ (v : ℕ). ok (b .id .value) (v + length (b .id .raw)) (drop (v + length (b .id .raw)) s)) (sym j)) n
-          (ap (λ (v : ℕ). dataValuesParser (y .by .fields) (v + length (b .id .raw)) (drop (v + length (b .id .raw)) s)) j ∙ y .values))
+          (ap (λ (v : ℕ). dataValuesParser version (y .by .fields) (v + length (b .id .raw)) (drop (v + length (b .id .raw)) s)) j ∙ y .values))
           (ap (recordsText valueText last at) q ∙ records-block last at b l (h .place) lastIs)
           (record { end = w .end; n = w .n; reads = d; entered = w .entered; lasts = w .lasts ∙ ap (λ (m : List Record). defineAll m env) q }) (h .later) (h .inside inside)

@@ -27,21 +27,21 @@ use Rattle.bsii_text.specs.declared.records.Texts.the-variants.{To, Refu
 use Rattle.bsii_text.proofs.FieldLaws.{joined-none, joined-behind}
 
 -- the records from `at` on, with the text of those in front
-pub record Here (s : List ℕ) (rooms rows : ℕ) (last : List Prototype) (old : List ℕ) (to at here : ℕ) (t out : List ℕ) (whole : Reply (List ℕ)) : Type 0 where
+pub record Here (version : ℕ) (s : List ℕ) (rooms rows : ℕ) (last : List Prototype) (old : List ℕ) (to at here : ℕ) (t out : List ℕ) (whole : Reply (List ℕ)) : Type 0 where
   pub env : List Prototype
   pub rest : List Record
-  pub standing : WalkAt s rooms rows last t at env rest
+  pub standing : WalkAt version s rooms rows last t at env rest
   pub done : List ℕ
   pub wrote : Wrote old to done here out
   pub text : whole ≡ joined (gives done) (recordsText valueText last at rest)
 
-module _ (s : List ℕ) (start : ℕ) (t₀ : List ℕ) (rows : ℕ) (old : List ℕ) (to : ℕ) where
+module _ (version : ℕ) (s : List ℕ) (start : ℕ) (t₀ : List ℕ) (rows : ℕ) (old : List ℕ) (to : ℕ) where
   pub record Going (at here : ℕ) (t out : List ℕ) : Type 0 where
     pub inside : at ≤ length s
     pub size : length out ≡ length old
     pub tableSize : length t ≡ length t₀
-    pub walk : (rooms : ℕ) (last : List Prototype) (rest : List Record) → WalkAt s rooms rows last t₀ start [] rest
-        → Here s rooms rows last old to at here t out (recordsText valueText last start rest)
+    pub walk : (rooms : ℕ) (last : List Prototype) (rest : List Record) → WalkAt version s rooms rows last t₀ start [] rest
+        → Here version s rooms rows last old to at here t out (recordsText valueText last start rest)
 
   pub go-start : start ≤ length s → to ≤ 0xffff_ffff_ffff_ffff → length old < 0x8000_0000_0000_0000 → Going start to t₀ old
   go-start h a b = record {
@@ -59,16 +59,16 @@ module _ (s : List ℕ) (start : ℕ) (t₀ : List ℕ) (rows : ℕ) (old : List
   }
 
   module _ (at here : ℕ) (t out : List ℕ) (g : Going at here t out) where
-    pub go-rows : Readable s start t₀ rows → Rows t rows
+    pub go-rows : Readable version s start t₀ rows → Rows t rows
     go-rows w = g .walk (w .rooms) (w .last) (w .rest) (w .standing) .standing .entered .valid
 
-    module _ {r : WriteStep} {t′ new : List ℕ} (h : RecordWritten s at t rows out here r t′ new) where
+    module _ {r : WriteStep} {t′ new : List ℕ} (h : RecordWritten version s at t rows out here r t′ new) where
       -- the turn, for records that the walk started from
-      stepped : (rooms : ℕ) (last : List Prototype) (rest : List Record) (w : WalkAt s rooms rows last t₀ start [] rest)
-          → let x = g .walk rooms last rest w in Stepped s rooms rows last at (x .env) (x .rest) out here r t′ new
+      stepped : (rooms : ℕ) (last : List Prototype) (rest : List Record) (w : WalkAt version s rooms rows last t₀ start [] rest)
+          → let x = g .walk rooms last rest w in Stepped version s rooms rows last at (x .env) (x .rest) out here r t′ new
       stepped rooms last rest w = let x = g .walk rooms last rest w in h .steps rooms last (x .env) (x .rest) (x .standing)
 
-      pub go-end : r ≡ End → RecordsWritten s start t₀ rows old to (To here) t′ new
+      pub go-end : r ≡ End → RecordsWritten version s start t₀ rows old to (To here) t′ new
       unfolding joined recordsText
       go-end z = record {
         writes = λ rooms last rest w. let x = g .walk rooms last rest w in finish rooms last (x .done) (x .wrote) (stepped rooms last rest w) z (x .text);
@@ -77,7 +77,7 @@ module _ (s : List ℕ) (start : ℕ) (t₀ : List ℕ) (rows : ℕ) (old : List
       }
         where
           finish : (rooms : ℕ) (last : List Prototype) {env : List Prototype} {rest : List Record} {r : WriteStep} {whole : Reply (List ℕ)} (done : List ℕ) → Wrote old to done here out
-              → Stepped s rooms rows last at env rest out here r t′ new → r ≡ End → whole ≡ joined (gives done) (recordsText valueText last at rest)
+              → Stepped version s rooms rows last at env rest out here r t′ new → r ≡ End → whole ≡ joined (gives done) (recordsText valueText last at rest)
               → TextsAre old to whole (To here) new × Serves s rows last (To here) t′
           finish rooms last done w (went i l x a b c e f) z h = let y : _≡_ {A = ℕ} 0 1 = cc in let f : ⊥ = omega arith in absurd f
           finish rooms last done w (refused e) z h = let y : _≡_ {A = ℕ} 0 1 = cc in let f : ⊥ = omega arith in absurd f
@@ -86,7 +86,7 @@ module _ (s : List ℕ) (start : ℕ) (t₀ : List ℕ) (rows : ℕ) (old : List
             entered-again (DefinedAt s) f,
           )
 
-      pub go-refused : {f : Refusal} → r ≡ Refused f → RecordsWritten s start t₀ rows old to (Not f) t′ new
+      pub go-refused : {f : Refusal} → r ≡ Refused f → RecordsWritten version s start t₀ rows old to (Not f) t′ new
       unfolding joined
       go-refused {f} z = record {
         writes = λ rooms last rest w. let x = g .walk rooms last rest w in (finish rooms last (x .done) (stepped rooms last rest w) z (x .text), tt);
@@ -95,7 +95,7 @@ module _ (s : List ℕ) (start : ℕ) (t₀ : List ℕ) (rows : ℕ) (old : List
       }
         where
           finish : (rooms : ℕ) (last : List Prototype) {env : List Prototype} {rest : List Record} {r : WriteStep} {whole : Reply (List ℕ)} (done : List ℕ)
-              → Stepped s rooms rows last at env rest out here r t′ new → r ≡ Refused f → whole ≡ joined (gives done) (recordsText valueText last at rest) → TextsAre old to whole (Not f) new
+              → Stepped version s rooms rows last at env rest out here r t′ new → r ≡ Refused f → whole ≡ joined (gives done) (recordsText valueText last at rest) → TextsAre old to whole (Not f) new
           finish rooms last done (went i l x a b c e f) z h = let y : _≡_ {A = ℕ} 0 1 = cc in let f : ⊥ = omega arith in absurd f
           finish rooms last done (ended e v f) z h = let y : _≡_ {A = ℕ} 0 1 = cc in let f : ⊥ = omega arith in absurd f
           finish rooms last done (refused {f = g} e) z h =
@@ -105,13 +105,13 @@ module _ (s : List ℕ) (start : ℕ) (t₀ : List ℕ) (rows : ℕ) (old : List
       record On (rooms : ℕ) (last : List Prototype) (rest : List Record) (n m : ℕ) : Type 0 where
         on : at < n
         inside : n ≤ length s
-        walk : Here s rooms rows last old to n m t′ new (recordsText valueText last start rest)
+        walk : Here version s rooms rows last old to n m t′ new (recordsText valueText last start rest)
 
-      goes : (n m : ℕ) → r ≡ Go n m → (rooms : ℕ) (last : List Prototype) (rest : List Record) (w : WalkAt s rooms rows last t₀ start [] rest) → On rooms last rest n m
+      goes : (n m : ℕ) → r ≡ Go n m → (rooms : ℕ) (last : List Prototype) (rest : List Record) (w : WalkAt version s rooms rows last t₀ start [] rest) → On rooms last rest n m
       goes n m z rooms last rest w = let x = g .walk rooms last rest w in go (x .done) (x .wrote) (x .text) (stepped rooms last rest w) z
         where
           go : {env : List Prototype} {rest₁ : List Record} {r : WriteStep} (done : List ℕ) → Wrote old to done here out → recordsText valueText last start rest ≡ joined (gives done) (recordsText valueText last at rest₁)
-              → Stepped s rooms rows last at env rest₁ out here r t′ new → r ≡ Go n m → On rooms last rest n m
+              → Stepped version s rooms rows last at env rest₁ out here r t′ new → r ≡ Go n m → On rooms last rest n m
           go done w h (ended e v f) z = let y : _≡_ {A = ℕ} 0 1 = cc in let f : ⊥ = omega arith in absurd f
           go done w h (refused e) z = let y : _≡_ {A = ℕ} 0 1 = cc in let f : ⊥ = omega arith in absurd f
           go {env = env} done w h (went i l {n = a} {r = b} x c d j e f) z =
@@ -130,10 +130,10 @@ module _ (s : List ℕ) (start : ℕ) (t₀ : List ℕ) (rows : ℕ) (old : List
                 };
               }))
 
-      pub go-later : (n m : ℕ) → r ≡ Go n m → Readable s start t₀ rows → (at < n) × (n ≤ length s)
+      pub go-later : (n m : ℕ) → r ≡ Go n m → Readable version s start t₀ rows → (at < n) × (n ≤ length s)
       go-later n m z w = let o = goes n m z (w .rooms) (w .last) (w .rest) (w .standing) in (o .on, o .inside)
 
-      pub go-on : (n m : ℕ) → r ≡ Go n m → Readable s start t₀ rows → Going n m t′ new
+      pub go-on : (n m : ℕ) → r ≡ Go n m → Readable version s start t₀ rows → Going n m t′ new
       go-on n m z w = record {
         inside = goes n m z (w .rooms) (w .last) (w .rest) (w .standing) .inside;
         size = h .size ∙ g .size;
@@ -154,15 +154,15 @@ unfolding joined
 unframed old to p mid x y (gives t) g new h = absurd h
 unframed old to p mid x y (refuses f) g new h = h
 
-module _ (s : List ℕ) (start : ℕ) (t : List ℕ) (rows : ℕ) {old : List ℕ} {p : ℕ} {mid : List ℕ} (w : Wrote old 0x8000_0000_0000_0000 fileOpening p mid) where
-  pub file-written : {e : ℕ} {t′ out : List ℕ} → RecordsWritten s start t rows mid p (To e) t′ out → {r : ℕ} {new : List ℕ} → Wrote out e closing r new → BsiiWritten s start t rows old (To r) t′ new
+module _ {version : ℕ} (s : List ℕ) (start : ℕ) (t : List ℕ) (rows : ℕ) {old : List ℕ} {p : ℕ} {mid : List ℕ} (w : Wrote old 0x8000_0000_0000_0000 fileOpening p mid) where
+  pub file-written : {e : ℕ} {t′ out : List ℕ} → RecordsWritten version s start t rows mid p (To e) t′ out → {r : ℕ} {new : List ℕ} → Wrote out e closing r new → BsiiWritten version s start t rows old (To r) t′ new
   file-written {e} {t′} {out} h v = record {
     writes = λ rooms last rest x. let y = h .writes rooms last rest x in (framed w (recordsText valueText last start rest) e out (y .0) v, y .1);
     size = same v ∙ h .size ∙ same w;
     tableSize = h .tableSize;
   }
 
-  pub file-refused : {f : Refusal} {t′ new : List ℕ} → RecordsWritten s start t rows mid p (Not f) t′ new → BsiiWritten s start t rows old (Not f) t′ new
+  pub file-refused : {f : Refusal} {t′ new : List ℕ} → RecordsWritten version s start t rows mid p (Not f) t′ new → BsiiWritten version s start t rows old (Not f) t′ new
   file-refused {f} {t′} {new} h = record {
     writes = λ rooms last rest x. (unframed old 0x8000_0000_0000_0000 p mid fileOpening closing (recordsText valueText last start rest) f new (h .writes rooms last rest x .0), tt);
     size = h .size ∙ same w;
@@ -170,5 +170,5 @@ module _ (s : List ℕ) (start : ℕ) (t : List ℕ) (rows : ℕ) {old : List �
   }
 
 -- contracts at the case that was answered
-pub records-by : {s : List ℕ} {start : ℕ} {t : List ℕ} {rows : ℕ} {old : List ℕ} {to : ℕ} {x r : Texts} {t′ new : List ℕ} → x ≡ r → RecordsWritten s start t rows old to x t′ new → RecordsWritten s start t rows old to r t′ new
-records-by {s} {start} {t} {rows} {old} {to} {x} {r} {t′} {new} e h = subst (λ (y : Texts). RecordsWritten s start t rows old to y t′ new) e h
+pub records-by : {version : ℕ} {s : List ℕ} {start : ℕ} {t : List ℕ} {rows : ℕ} {old : List ℕ} {to : ℕ} {x r : Texts} {t′ new : List ℕ} → x ≡ r → RecordsWritten version s start t rows old to x t′ new → RecordsWritten version s start t rows old to r t′ new
+records-by {version} {s} {start} {t} {rows} {old} {to} {x} {r} {t′} {new} e h = subst (λ (y : Texts). RecordsWritten version s start t rows old to y t′ new) e h

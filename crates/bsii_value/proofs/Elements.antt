@@ -26,9 +26,10 @@ one-end k at s =
     alike ((single <$> consumed (elementParser k)) at s) (elementParser k at s) (ended-map single (consumed (elementParser k)) at s ∙ ended-consumed (elementParser k) at s)
 
 -- a value of a type with a single element
-pub one-value : (type : ℕ) {k : Kind} (at : ℕ) (s : List ℕ) → some (one k) ≡ shapeOf type → endOf (elementParser k at s) ≡ endOf (valueParser type at s)
+pub one-value : (version type : ℕ) {k : Kind} (at : ℕ) (s : List ℕ) → some (one k) ≡ shapeOf version type
+    → endOf (elementParser k at s) ≡ endOf (valueParser version type at s)
 unfolding valueParser
-one-value type {k} at s e = sym (one-end k at s) ∙ ap (λ (o : Option Shape). endOf (shapeParser o at s)) e
+one-value version type {k} at s e = sym (one-end k at s) ∙ ap (λ (o : Option Shape). endOf (shapeParser o at s)) e
 
 pub many-short : (k : Kind) (at : ℕ) (s : List ℕ) {x : Fault} → number 4 at s ≡ fault x → shapeParser (some (many k)) at s ≡ fault x
 unfolding shapeParser

@@ -13,7 +13,7 @@ use Rattle.bsii_format.specs.Types.{Listed, shapeIn}
 use Rattle.bsii_string.proofs.Keys.{every, keyed}
 use Rattle.bsii_value.specs.Kinds.{numericIs}
 use Rattle.bsii_value.specs.declared.types.Numeric.{Numeric}
-use Rattle.bsii_value.specs.declared.types.Numeric.the-variants.{Float, FloatVec2, FloatVec3, FloatVec4, FloatVec8, Int32, Int32Vec3, UInt32, UInt16, Int64, UInt64, Bool as Bool1, Enum}
+use Rattle.bsii_value.specs.declared.types.Numeric.the-variants.{Float, FloatVec2, FloatVec3, FloatVec4, FloatVec7, FloatVec8, Int32, Int32Vec3, UInt32, UInt16, Int64, UInt64, Bool as Bool1, Enum}
 use Rattle.bsii_value.proofs.types.Numeric.{the-type}
 
 -- ---- a type that no row has
@@ -41,6 +41,7 @@ numerics =
     table.floatVec2 ∷
     table.floatVec3 ∷
     table.floatVec4 ∷
+    table.floatVec7 ∷
     table.floatVec8 ∷
     table.int32 ∷
     table.int32Vec3 ∷
@@ -57,6 +58,7 @@ numbered Float = refl
 numbered FloatVec2 = refl
 numbered FloatVec3 = refl
 numbered FloatVec4 = refl
+numbered FloatVec7 = refl
 numbered FloatVec8 = refl
 numbered Int32 = refl
 numbered Int32Vec3 = refl

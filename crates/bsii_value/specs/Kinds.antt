@@ -2,7 +2,7 @@
 use mathlib.Core.Option.{Option, none, some}
 use Rattle.bsii_format.specs.Types as types
 use Rattle.bsii_value.specs.declared.types.Numeric.{Numeric}
-use Rattle.bsii_value.specs.declared.types.Numeric.the-variants.{Float, FloatVec2, FloatVec3, FloatVec4, FloatVec8, Int32, Int32Vec3, UInt32, UInt16, Int64, UInt64, Bool, Enum}
+use Rattle.bsii_value.specs.declared.types.Numeric.the-variants.{Float, FloatVec2, FloatVec3, FloatVec4, FloatVec7, FloatVec8, Int32, Int32Vec3, UInt32, UInt16, Int64, UInt64, Bool, Enum}
 use Rattle.bsii_value.specs.declared.types.Kind.{Kind}
 use Rattle.bsii_value.specs.declared.types.Kind.the-variants.{Numbers, String, EncodedString, Id}
 use Rattle.bsii_value.specs.declared.types.Shape.{Shape}
@@ -13,6 +13,7 @@ numericIs Float = types.float
 numericIs FloatVec2 = types.floatVec2
 numericIs FloatVec3 = types.floatVec3
 numericIs FloatVec4 = types.floatVec4
+numericIs FloatVec7 = types.floatVec7
 numericIs FloatVec8 = types.floatVec8
 numericIs Int32 = types.int32
 numericIs Int32Vec3 = types.int32Vec3

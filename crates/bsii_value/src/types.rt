@@ -1,7 +1,7 @@
 // The table of types.
 ghost use mathlib.Core.Path.{_≡_};
 ghost use Prim.Native.Nat.{_*_};
-ghost use Rattle.bsii_format.specs.Types.{shapeOf, width as widthOf, arity as arityOf};
+ghost use Rattle.bsii_format.specs.Types.{placementIn, shapeOf, width as widthOf, arity as arityOf};
 ghost use Rattle.bsii_value.specs.Kinds.{numericIs, shapeIs};
 
 // Values that are one or more numbers of one width.
@@ -10,6 +10,7 @@ pub enum Numeric {
     FloatVec2,
     FloatVec3,
     FloatVec4,
+    FloatVec7,
     FloatVec8,
     Int32,
     Int32Vec3,
@@ -36,9 +37,19 @@ pub enum Shape {
     Unlisted,
 }
 
+// A placement: version 1 has one float less.
+fn placement_in(version: u32) -> Numeric
+    ensures { λ r. ⌜ numericIs r ≡ placementIn version ⌝ }
+{
+    if version == 1 {
+        return Numeric::FloatVec7;
+    }
+    Numeric::FloatVec8
+}
+
 // The table of types, row by row. A type that is not there has no length that could be guessed.
-pub fn shape_of(type_id: u32) -> Shape
-    ensures { λ r. ⌜ shapeIs r ≡ shapeOf «type_id» ⌝ }
+pub fn shape_of(version: u32, type_id: u32) -> Shape
+    ensures { λ r. ⌜ shapeIs r ≡ shapeOf version «type_id» ⌝ }
 {
     match type_id {
         0x01 => Shape::One(Kind::String),
@@ -54,8 +65,8 @@ pub fn shape_of(type_id: u32) -> Shape
         0x12 => Shape::Many(Kind::Numbers(Numeric::Int32Vec3)),
         0x17 => Shape::One(Kind::Numbers(Numeric::FloatVec4)),
         0x18 => Shape::Many(Kind::Numbers(Numeric::FloatVec4)),
-        0x19 => Shape::One(Kind::Numbers(Numeric::FloatVec8)),
-        0x1a => Shape::Many(Kind::Numbers(Numeric::FloatVec8)),
+        0x19 => Shape::One(Kind::Numbers(placement_in(version))),
+        0x1a => Shape::Many(Kind::Numbers(placement_in(version))),
         0x25 => Shape::One(Kind::Numbers(Numeric::Int32)),
         0x26 => Shape::Many(Kind::Numbers(Numeric::Int32)),
         0x27 => Shape::One(Kind::Numbers(Numeric::UInt32)),
@@ -99,6 +110,7 @@ pub fn arity(n: Numeric) -> u32
         Numeric::FloatVec2 => 2,
         Numeric::FloatVec3 | Numeric::Int32Vec3 => 3,
         Numeric::FloatVec4 => 4,
+        Numeric::FloatVec7 => 7,
         Numeric::FloatVec8 => 8,
         _ => 1,
     }
@@ -114,6 +126,7 @@ pub fn byte_count(n: Numeric) -> usize
         Numeric::Int64 | Numeric::UInt64 | Numeric::FloatVec2 => 8,
         Numeric::FloatVec3 | Numeric::Int32Vec3 => 12,
         Numeric::FloatVec4 => 16,
+        Numeric::FloatVec7 => 28,
         Numeric::FloatVec8 => 32,
         _ => 4,
     }

@@ -114,10 +114,10 @@ fn array_parser(s: &[u8], at: usize, kind: Kind) -> Parsed
     }
 }
 
-pub fn value_parser(s: &[u8], at: usize, type_id: u32) -> Parsed
-    ensures { λ r. ⌜ r ≡ endOf (valueParser «type_id» at (drop at (now (s .entry)))) ⌝ }
+pub fn value_parser(s: &[u8], at: usize, version: u32, type_id: u32) -> Parsed
+    ensures { λ r. ⌜ r ≡ endOf (valueParser version «type_id» at (drop at (now (s .entry)))) ⌝ }
 {
-    let shape = shape_of(type_id);
+    let shape = shape_of(version, type_id);
     match shape {
         // The arms of element_parser once more: told apart here, a kind need not be read as a whole from where its parts were stored a moment before. Each
         // returns by itself: arms that join would put together a refusal, part by part, for values that are accepted.

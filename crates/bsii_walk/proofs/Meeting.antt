@@ -78,20 +78,20 @@ module _ (s : List ℕ) (at : ℕ) (t : List ℕ) (rows id : ℕ) {r : Parsed} (
 
 -- ---- a block
 
-module _ (s : List ℕ) (idAt : ℕ) (t : List ℕ) (rows id : ℕ) {f : FoundRow} (e : foundRow f ≡ lookup t rows id) where
-  pub again-unknown : f ≡ NotFound → BlockAgain s idAt t rows id Nothing
+module _ {version : ℕ} (s : List ℕ) (idAt : ℕ) (t : List ℕ) (rows id : ℕ) {f : FoundRow} (e : foundRow f ≡ lookup t rows id) where
+  pub again-unknown : f ≡ NotFound → BlockAgain version s idAt t rows id Nothing
   again-unknown z = record { meets = λ env last k p q i j v n u b. none≢some (sym (entered-nothing (DefinedAt s) k id z e) ∙ j) }
 
-  module _ {a b : ℕ} (z : f ≡ At a b) {x y : ℕ} (i : x ≡ a) (j : y ≡ b) {r : Parsed} (w : BlockSkipped s x idAt r) where
+  module _ {a b : ℕ} (z : f ≡ At a b) {x y : ℕ} (i : x ≡ a) (j : y ≡ b) {r : Parsed} (w : BlockSkipped version s x idAt r) where
     under : (env last : List Prototype) → Entered (DefinedAt s) t rows env last → (p q : Prototype) → getPrototype id env ≡ some p → getPrototype id last ≡ some q → DefinedAt s x p × DefinedAt s y q
     under env last k p q g h =
         let o = entered-at (DefinedAt s) k id z e in
         (subst (λ c. DefinedAt s c p) (sym i) (o .3 p g), subst (λ c. DefinedAt s c q) (sym j) (subst (DefinedAt s b) (some-is (sym (o .1) ∙ h)) (o .2)))
 
-    pub again-block-fault : {x : Refusal} → r ≡ Fault x → BlockAgain s idAt t rows id Nothing
+    pub again-block-fault : {x : Refusal} → r ≡ Fault x → BlockAgain version s idAt t rows id Nothing
     again-block-fault g = record { meets = λ env last k p q d h v n u c. next≢fault (sym (w .ends p (under env last k p q d h .0) v n u c) ∙ g) }
 
-    pub again-block : {n : ℕ} → r ≡ Next n → BlockAgain s idAt t rows id (MetBlock idAt x y n)
+    pub again-block : {n : ℕ} → r ≡ Next n → BlockAgain version s idAt t rows id (MetBlock idAt x y n)
     again-block {n} g = record {
       meets = λ env last k p q d h v m u c.
           let o = under env last k p q d h in
@@ -118,46 +118,46 @@ carries-id e = cc
 pub carries-next : {a b c d : ℕ} → _≡_ {A = RecordKind} (Carries a b) (Carries c d) → b ≡ d
 carries-next e = cc
 
-module _ (s : List ℕ) (at : ℕ) (t : List ℕ) (rows : ℕ) {k : RecordKind} (e : KindAt s at k) where
-  pub is-prototype : (env : List Prototype) (p : Prototype) (n : ℕ) → recordParser env at (drop at s) ≡ ok (more (prototype p)) n (drop n s) → k ≡ Defines (p .id)
-  is-prototype env p n h = let x = stands env s at n p h in e .is _ _ _ (x .0 .head)
+module _ (version : ℕ) (s : List ℕ) (at : ℕ) (t : List ℕ) (rows : ℕ) {k : RecordKind} (e : KindAt s at k) where
+  pub is-prototype : (env : List Prototype) (p : Prototype) (n : ℕ) → recordParser version env at (drop at s) ≡ ok (more (prototype p)) n (drop n s) → k ≡ Defines (p .id)
+  is-prototype env p n h = let x = stands version env s at n p h in e .is _ _ _ (x .0 .head)
 
-  pub is-block : (env : List Prototype) (b : DataBlock) (n : ℕ) → recordParser env at (drop at s) ≡ ok (more (block b)) n (drop n s) → k ≡ Carries (b .prototypeId) (at + length (b .head))
-  is-block env b n h = e .is _ _ _ (block-parts env s at n b h .head)
+  pub is-block : (env : List Prototype) (b : DataBlock) (n : ℕ) → recordParser version env at (drop at s) ≡ ok (more (block b)) n (drop n s) → k ≡ Carries (b .prototypeId) (at + length (b .head))
+  is-block env b n h = e .is _ _ _ (block-parts version env s at n b h .head)
 
-  pub is-end : (env : List Prototype) (l : List ℕ) (n : ℕ) (u : List ℕ) → recordParser env at (drop at s) ≡ ok (end l) n u → k ≡ Ends
-  is-end env l n u h = e .is _ _ _ (end-head env s at n l u h .2)
+  pub is-end : (env : List Prototype) (l : List ℕ) (n : ℕ) (u : List ℕ) → recordParser version env at (drop at s) ≡ ok (end l) n u → k ≡ Ends
+  is-end env l n u h = e .is _ _ _ (end-head version env s at n l u h .2)
 
-  pub again-end : k ≡ Ends → RecordAgain s at t rows Nothing t
+  pub again-end : k ≡ Ends → RecordAgain version s at t rows Nothing t
   again-end z = record { meets = λ env last w i n h d. go env last n i h; ends = λ env l n u h. (refl, refl); size = refl }
     where
-      go : (env last : List Prototype) (n : ℕ) (i : Record) → recordParser env at (drop at s) ≡ ok (more i) n (drop n s) → Meets s at rows env last n i Nothing t
+      go : (env last : List Prototype) (n : ℕ) (i : Record) → recordParser version env at (drop at s) ≡ ok (more i) n (drop n s) → Meets s at rows env last n i Nothing t
       go env last n (prototype p) h = ends≢defines (sym z ∙ is-prototype env p n h)
       go env last n (block b) h = ends≢carries (sym z ∙ is-block env b n h)
 
-  pub again-prototype : {id : ℕ} {r : Met} {t′ : List ℕ} → k ≡ Defines id → PrototypeAgain s at t rows id r t′ → RecordAgain s at t rows r t′
+  pub again-prototype : {id : ℕ} {r : Met} {t′ : List ℕ} → k ≡ Defines id → PrototypeAgain s at t rows id r t′ → RecordAgain version s at t rows r t′
   again-prototype {id} {r} {t′} z x = record { meets = λ env last w i n h d. go env last n w i h; ends = λ env l n u h. ends≢defines (sym (is-end env l n u h) ∙ z); size = x .size }
     where
-      go : (env last : List Prototype) (n : ℕ) → Entered (DefinedAt s) t rows env last → (i : Record) → recordParser env at (drop at s) ≡ ok (more i) n (drop n s) → Meets s at rows env last n i r t′
+      go : (env last : List Prototype) (n : ℕ) → Entered (DefinedAt s) t rows env last → (i : Record) → recordParser version env at (drop at s) ≡ ok (more i) n (drop n s) → Meets s at rows env last n i r t′
       go env last n w (prototype p) h =
-          let y = stands env s at n p h in
+          let y = stands version env s at n p h in
           let m = x .meets env last w p (y .0) (sym (defines-is (sym z ∙ is-prototype env p n h))) in
           a-prototype p (subst (λ j. PrototypeMet s t′ rows env last p j r) (y .1) m)
       go env last n w (block b) h = defines≢carries (sym z ∙ is-block env b n h)
 
-  pub again-carries : {id next : ℕ} {r : Met} → k ≡ Carries id next → BlockAgain s next t rows id r → RecordAgain s at t rows r t
+  pub again-carries : {id next : ℕ} {r : Met} → k ≡ Carries id next → BlockAgain version s next t rows id r → RecordAgain version s at t rows r t
   again-carries {id} {next} {r} z x = record { meets = λ env last w i n h d. go env last n w d i h; ends = λ env l n u h. ends≢carries (sym (is-end env l n u h) ∙ z); size = refl }
     where
       go : (env last : List Prototype) (n : ℕ) → Entered (DefinedAt s) t rows env last
           → ((id : ℕ) (p : Prototype) → getPrototype id env ≡ some p → (q : Prototype) × (getPrototype id last ≡ some q))
-          → (i : Record) → recordParser env at (drop at s) ≡ ok (more i) n (drop n s) → Meets s at rows env last n i r t
+          → (i : Record) → recordParser version env at (drop at s) ≡ ok (more i) n (drop n s) → Meets s at rows env last n i r t
       go env last n w d (prototype p) h = defines≢carries (sym (is-prototype env p n h) ∙ z)
       go env last n w d (block b) h =
-          let y = block-parts env s at n b h in
+          let y = block-parts version env s at n b h in
           let c = sym z ∙ is-block env b n h in
           let q = d (b .prototypeId) (y .by) (y .found) in
           let i : id ≡ b .prototypeId = carries-id c in
           let j : next ≡ at + length (b .head) = carries-next c in
           let m = x .meets env last w (y .by) (q .0) (ap (λ v. getPrototype v env) i ∙ y .found) (ap (λ v. getPrototype v last) i ∙ q .1) (b .values) n (drop n s)
-          (ap (λ v. (idParser >>= (λ i. dataValuesParser (y .by .fields))) v (drop v s)) j ∙ block-body env s at n b y) in
+          (ap (λ v. (idParser >>= (λ i. dataValuesParser version (y .by .fields))) v (drop v s)) j ∙ block-body version env s at n b y) in
           a-block b (y .by) (q .0) (y .found) (q .1) (subst (λ v. BlockMet s v n (y .by) (q .0) r) j m) w

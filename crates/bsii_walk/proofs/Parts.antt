@@ -25,9 +25,9 @@ at-place {A} {R} x {v} {c} f s at t e =
     let m = moved x s at z .rest in
     (z ∙ ap (ok v (at + length c)) m, m)
 
-module _ (env : List Prototype) (s : List ℕ) (at n : ℕ) where
+module _ (version : ℕ) (env : List Prototype) (s : List ℕ) (at n : ℕ) where
   -- a prototype stands where it was read
-  pub stands : (p : Prototype) → recordParser env at (drop at s) ≡ ok (more (prototype p)) n (drop n s) → (h : DefinedAt s at p) × (h .next ≡ n)
+  pub stands : (p : Prototype) → recordParser version env at (drop at s) ≡ ok (more (prototype p)) n (drop n s) → (h : DefinedAt s at p) × (h .next ≡ n)
   unfolding stepBytes recordBytes
   stands p e =
       let g = record-good env at (drop at s) (more (prototype p)) n (drop n s) e in
@@ -43,9 +43,9 @@ module _ (env : List Prototype) (s : List ℕ) (at n : ℕ) where
     pub found : getPrototype (b .prototypeId) env ≡ some by
     pub head : headParser at (drop at s) ≡ ok (carrying (b .prototypeId)) (at + length (b .head)) (drop (at + length (b .head)) s)
     pub id : idParser (at + length (b .head)) (drop (at + length (b .head)) s) ≡ ok (b .id .value) (at + length (b .head) + length (b .id .raw)) (drop (at + length (b .head) + length (b .id .raw)) s)
-    pub values : dataValuesParser (by .fields) (at + length (b .head) + length (b .id .raw)) (drop (at + length (b .head) + length (b .id .raw)) s) ≡ ok (b .values) n (drop n s)
+    pub values : dataValuesParser version (by .fields) (at + length (b .head) + length (b .id .raw)) (drop (at + length (b .head) + length (b .id .raw)) s) ≡ ok (b .values) n (drop n s)
 
-  pub block-parts : (b : DataBlock) → recordParser env at (drop at s) ≡ ok (more (block b)) n (drop n s) → BlockParts b
+  pub block-parts : (b : DataBlock) → recordParser version env at (drop at s) ≡ ok (more (block b)) n (drop n s) → BlockParts b
   unfolding stepBytes recordBytes
   block-parts b e =
       let g = record-good env at (drop at s) (more (block b)) n (drop n s) e in
@@ -58,7 +58,7 @@ module _ (env : List Prototype) (s : List ℕ) (at n : ℕ) where
       let z : k + length (valuesBytes (b .values)) ≡ n = sym (g .place ∙ ap (λ x. at + x) (length-append (b .head) (b .id .raw ++ valuesBytes (b .values)) ∙ ap (λ x. length (b .head) + x) (length-append (b .id .raw) (valuesBytes (b .values)))) ∙ omega arith) in
       record { by = w .by; found = w .found; head = a .0; id = i .0; values = v .0 ∙ ap (λ x. ok (b .values) x (drop x s)) z }
     where
-      values-exact : (fs : List (Consumed _)) → Exact (List DataValue) (dataValuesParser fs)
+      values-exact : (fs : List (Consumed _)) → Exact (List DataValue) (dataValuesParser version fs)
       values-exact fs = record {
         took = λ at s l at′ r e.
             let g = values-good fs at s l at′ r e in
@@ -66,12 +66,12 @@ module _ (env : List Prototype) (s : List ℕ) (at n : ℕ) where
       }
 
   -- the id and the values as one
-  pub block-body : (b : DataBlock) (p : BlockParts b) → (idParser >>= (λ i. dataValuesParser (p .by .fields))) (at + length (b .head)) (drop (at + length (b .head)) s) ≡ ok (b .values) n (drop n s)
+  pub block-body : (b : DataBlock) (p : BlockParts b) → (idParser >>= (λ i. dataValuesParser version (p .by .fields))) (at + length (b .head)) (drop (at + length (b .head)) s) ≡ ok (b .values) n (drop n s)
   unfolding _>>=_ after
   block-body b p = rw (p .id) (p .values)
 
   -- the end record
-  pub end-head : (l u : List ℕ) → recordParser env at (drop at s) ≡ ok (end l) n u → (m : ℕ) × (r : List ℕ) × (headParser at (drop at s) ≡ ok ending m r)
+  pub end-head : (l u : List ℕ) → recordParser version env at (drop at s) ≡ ok (end l) n u → (m : ℕ) × (r : List ℕ) × (headParser at (drop at s) ≡ ok ending m r)
   unfolding stepBytes
   end-head l u e =
       let g = record-good env at (drop at s) (end l) n u e in

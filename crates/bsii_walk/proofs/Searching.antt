@@ -68,8 +68,8 @@ by-count false left now later = refl
 by-count true zero now later = refl
 by-count true (suc m) now later = refl
 
-seek-count : {s : List ℕ} {b : Block} {any : Bool} {name : List ℕ} {left : ℕ} {c : Count} → Counts s (b .last) any name left c
-    → {last : List Prototype} {x : Placed DataBlock} → BlockIs s last b x → {d : Count} → c ≡ d → (number : ℕ) (l : List (Placed DataBlock))
+seek-count : {version : ℕ} {s : List ℕ} {b : Block} {any : Bool} {name : List ℕ} {left : ℕ} {c : Count} → Counts s (b .last) any name left c
+    → {last : List Prototype} {x : Placed DataBlock} → BlockIs version s last b x → {d : Count} → c ≡ d → (number : ℕ) (l : List (Placed DataBlock))
     → seekIn last any name number left (x ∷ l) ≡ next d (some (record { number = number; of = x })) (λ m. seekIn last any name (number + 1) m l)
 unfolding seekIn isNamed
 seek-count {any = any} {name = name} {left = left} h {last} {x} i e number l =
@@ -84,15 +84,15 @@ seek-count {any = any} {name = name} {left = left} h {last} {x} i e number l =
 pub record Asked (any : Bool) (name : List ℕ) (k number left : ℕ) (last : List Prototype) (all l : List (Placed DataBlock)) : Type 0 where
   pub equal : seekIn last any name 0 k all ≡ seekIn last any name number left l
 
-module _ {s : List ℕ} {start : ℕ} {t₀ : List ℕ} {rows at : ℕ} {t : List ℕ} {any : Bool} {name : List ℕ} {k number left : ℕ}
-    (o : Over s start t₀ rows at t (Asked any name k number left)) {r : BlockAt} {t′ : List ℕ} (n : NextBlock s at t rows r t′) where
-  pub seek-end : r ≡ NoNext → Seeks s start t₀ rows any name k NoBlock
+module _ {version : ℕ} {s : List ℕ} {start : ℕ} {t₀ : List ℕ} {rows at : ℕ} {t : List ℕ} {any : Bool} {name : List ℕ} {k number left : ℕ}
+    (o : Over version s start t₀ rows at t (Asked any name k number left)) {r : BlockAt} {t′ : List ℕ} (n : NextBlock version s at t rows r t′) where
+  pub seek-end : r ≡ NoNext → Seeks version s start t₀ rows any name k NoBlock
   unfolding seekIn
   seek-end z = record { seeks = λ rooms last rest w. missed (over-end o n z rooms last [] rest w .0 .equal) }
 
   module _ {b : Block} (z : r ≡ Next b) {c : Count} (h : Counts s (b .last) any name left c) where
     -- the number beside the block's parts
-    numbered : {last : List Prototype} {x : Placed DataBlock} → BlockIs s last b x → seek.BlockIs s last (record { number = number; at = b .at; id = b .id; under = b .under; last = b .last; next = b .next }) x
+    numbered : {last : List Prototype} {x : Placed DataBlock} → BlockIs version s last b x → seek.BlockIs version s last (record { number = number; at = b .at; id = b .id; under = b .under; last = b .last; next = b .next }) x
     numbered i = record {
       place = i .place;
       p = i .p;
@@ -106,12 +106,12 @@ module _ {s : List ℕ} {start : ℕ} {t₀ : List ℕ} {rows at : ℕ} {t : Lis
       values = i .values;
     }
 
-    pub seek-found : c ≡ Found → Seeks s start t₀ rows any name k (ABlock (record { number = number; at = b .at; id = b .id; under = b .under; last = b .last; next = b .next }))
+    pub seek-found : c ≡ Found → Seeks version s start t₀ rows any name k (ABlock (record { number = number; at = b .at; id = b .id; under = b .under; last = b .last; next = b .next }))
     unfolding next
     seek-found e = record {
       seeks = λ rooms last rest w. let x = over-at o n z rooms last [] rest w in sought (x .0) (numbered (x .2)) (x .3 .equal ∙ seek-count h (x .2) e number (x .1));
     }
 
-    pub seek-on : {m : ℕ} → c ≡ Left m → Stood s start t₀ rows → Over s start t₀ rows (b .next) t′ (Asked any name k (number + 1) m)
+    pub seek-on : {m : ℕ} → c ≡ Left m → Stood version s start t₀ rows → Over version s start t₀ rows (b .next) t′ (Asked any name k (number + 1) m)
     unfolding next
     seek-on e w = over-block o n z w (λ last x all l i q. record { equal = q .equal ∙ seek-count h i e number l })

@@ -15,50 +15,50 @@ use Rattle.bsii_parse.specs.Walks.{behind, recordsAt}
 use Rattle.bsii_parse.proofs.Records.{records-fault, records-end, records-full, records-more}
 
 -- a record from `at` to n
-pub record Passed (env : List Prototype) (s : List ℕ) (at n : ℕ) (i : Record) : Type 0 where
-  pub reads : recordParser env at (drop at s) ≡ ok (more i) n (drop n s)
+pub record Passed (version : ℕ) (env : List Prototype) (s : List ℕ) (at n : ℕ) (i : Record) : Type 0 where
+  pub reads : recordParser version env at (drop at s) ≡ ok (more i) n (drop n s)
   pub place : n ≡ at + length (recordBytes i)
   pub later : at < n
   pub inside : at ≤ length s → n ≤ length s
 
-pub data Accepted (rooms : ℕ) (env : List Prototype) (at : ℕ) (s : List ℕ) (n : ℕ) (e : List ℕ) : List Record → Type 0 where
-  the-end : {l : List ℕ} {m : ℕ} {r : List ℕ} → recordParser env at (drop at s) ≡ ok (end l) m r → Accepted rooms env at s n e []
-  a-record : (i : Record) (m : ℕ) (l : List Record) → Passed env s at m i → recordsAt rooms (define i env) m s ≡ ok (record { records = l; end = e }) n (drop n s) → Accepted rooms env at s n e (i ∷ l)
+pub data Accepted (version rooms : ℕ) (env : List Prototype) (at : ℕ) (s : List ℕ) (n : ℕ) (e : List ℕ) : List Record → Type 0 where
+  the-end : {l : List ℕ} {m : ℕ} {r : List ℕ} → recordParser version env at (drop at s) ≡ ok (end l) m r → Accepted version rooms env at s n e []
+  a-record : (i : Record) (m : ℕ) (l : List Record) → Passed version env s at m i → recordsAt version rooms (define i env) m s ≡ ok (record { records = l; end = e }) n (drop n s) → Accepted version rooms env at s n e (i ∷ l)
 
-module _ (rooms : ℕ) (env : List Prototype) (at : ℕ) (s : List ℕ) (n : ℕ) (e : List ℕ) where
-  passed : (i : Record) (m : ℕ) (r : List ℕ) → recordParser env at (drop at s) ≡ ok (more i) m r → Passed env s at m i
+module _ {version : ℕ} (rooms : ℕ) (env : List Prototype) (at : ℕ) (s : List ℕ) (n : ℕ) (e : List ℕ) where
+  passed : (i : Record) (m : ℕ) (r : List ℕ) → recordParser version env at (drop at s) ≡ ok (more i) m r → Passed version env s at m i
   unfolding stepBytes recordBytes
   passed i m r h =
-      let w = moved (record-exact env) s at h in
+      let w = moved (record-exact version env) s at h in
       let g = record-good env at (drop at s) (more i) m r h in
       record { reads = h ∙ ap (ok (more i) m) (w .rest); place = g .place; later = omega (arith, g .place, takes i (g .good)); inside = w .inside }
     where
-      takes : (i : Record) → GoodStep env (more i) → 1 ≤ length (recordBytes i)
+      takes : (i : Record) → GoodStep version env (more i) → 1 ≤ length (recordBytes i)
       takes (prototype p) g = rw length-append (omega (arith, head-takes (g .head)))
       takes (block b) g = rw length-append (omega (arith, head-takes (g .head)))
 
-  pub accepted : (rest : List Record) → recordsAt rooms env at s ≡ ok (record { records = rest; end = e }) n (drop n s) → Accepted rooms env at s n e rest
+  pub accepted : (rest : List Record) → recordsAt version rooms env at s ≡ ok (record { records = rest; end = e }) n (drop n s) → Accepted version rooms env at s n e rest
   unfolding behind
-  accepted rest h = go (recordParser env at (drop at s)) refl
+  accepted rest h = go (recordParser version env at (drop at s)) refl
     where
-      tail : (i : Record) (m : ℕ) → Passed env s at m i → (q : Result Records) → recordsAt rooms (define i env) m s ≡ q
-          → behind (i ∷ []) q ≡ ok (record { records = rest; end = e }) n (drop n s) → Accepted rooms env at s n e rest
+      tail : (i : Record) (m : ℕ) → Passed version env s at m i → (q : Result Records) → recordsAt version rooms (define i env) m s ≡ q
+          → behind (i ∷ []) q ≡ ok (record { records = rest; end = e }) n (drop n s) → Accepted version rooms env at s n e rest
       tail i m p (ok q k r) d b =
           let v = ok-val b in
           let c : i ∷ q .records ≡ rest = ap (λ (z : Records). z .records) v in
           let f : q .end ≡ e = ap (λ (z : Records). z .end) v in
-          subst (Accepted rooms env at s n e) c
+          subst (Accepted version rooms env at s n e) c
           (a-record i m (q .records) p
           (d ∙ ap (λ z. ok (record { records = q .records; end = z }) k r) f ∙ ap₂ (λ (j : ℕ) (z : List ℕ). ok (record { records = q .records; end = e }) j z) (ok-at b) (ok-rest b)))
       tail i m p (fault f) d b = fault≢ok b
 
-      room : (i : Record) (m : ℕ) → Passed env s at m i → (b : Bool) → hasRoom rooms env i ≡ b → Accepted rooms env at s n e rest
-      room i m p true b = tail i m p (recordsAt rooms (define i env) m s) refl (sym (records-more rooms env at s (p .reads) b) ∙ h)
-      room i m p false b = fault≢ok (sym (records-full rooms env at s (p .reads) b) ∙ h)
+      room : (i : Record) (m : ℕ) → Passed version env s at m i → (b : Bool) → hasRoom rooms env i ≡ b → Accepted version rooms env at s n e rest
+      room i m p true b = tail i m p (recordsAt version rooms (define i env) m s) refl (sym (records-more version rooms env at s (p .reads) b) ∙ h)
+      room i m p false b = fault≢ok (sym (records-full version rooms env at s (p .reads) b) ∙ h)
 
-      go : (q : Result Step) → recordParser env at (drop at s) ≡ q → Accepted rooms env at s n e rest
-      go (fault f) q = fault≢ok (sym (records-fault rooms env at s q) ∙ h)
+      go : (q : Result Step) → recordParser version env at (drop at s) ≡ q → Accepted version rooms env at s n e rest
+      go (fault f) q = fault≢ok (sym (records-fault version rooms env at s q) ∙ h)
       go (ok (end l) m r) q =
-          let c : [] ≡ rest = ap (λ (z : Records). z .records) (ok-val (sym (records-end rooms env at s q) ∙ h)) in
-          subst (Accepted rooms env at s n e) c (the-end q)
+          let c : [] ≡ rest = ap (λ (z : Records). z .records) (ok-val (sym (records-end version rooms env at s q) ∙ h)) in
+          subst (Accepted version rooms env at s n e) c (the-end q)
       go (ok (more i) m r) q = let p = passed i m r q in room i m p (hasRoom rooms env i) refl

@@ -28,24 +28,24 @@ use Rattle.bsii_walk.specs.Again.{ValuesSkipped, BlockSkipped}
 
 -- ---- the loop over definitions and values in step
 
-pub record InPast (s : List ℕ) (fields start field at : ℕ) : Type 0 where
+pub record InPast (version : ℕ) (s : List ℕ) (fields start field at : ℕ) : Type 0 where
   pub rest : (l : Fields) (n : ℕ) (t : List ℕ) → fieldsParser fields (drop fields s) ≡ ok l n t
-      → (v : List DataValue) (m : ℕ) (u : List ℕ) → dataValuesParser (l .fields) start (drop start s) ≡ ok v m u
-      → (k : Fields) × (fieldsParser field (drop field s) ≡ ok k n t) × (w : List DataValue) × (dataValuesParser (k .fields) at (drop at s) ≡ ok w m u)
+      → (v : List DataValue) (m : ℕ) (u : List ℕ) → dataValuesParser version (l .fields) start (drop start s) ≡ ok v m u
+      → (k : Fields) × (fieldsParser field (drop field s) ≡ ok k n t) × (w : List DataValue) × (dataValuesParser version (k .fields) at (drop at s) ≡ ok w m u)
 
-pub past-start : {s : List ℕ} {fields start : ℕ} → InPast s fields start fields start
+pub past-start : {version : ℕ} {s : List ℕ} {fields start : ℕ} → InPast version s fields start fields start
 past-start = record { rest = λ l n t e v m u f. (l, e, v, f) }
 
-module _ {s : List ℕ} {fields start field at : ℕ} (i : InPast s fields start field at) where
-  pub past-last : {n : ℕ} → Last n ≡ entryOf (field + 8) (entryWith uncheckedStr field (drop field s)) → ValuesSkipped s fields start (Next at)
+module _ {version : ℕ} {s : List ℕ} {fields start field at : ℕ} (i : InPast version s fields start field at) where
+  pub past-last : {n : ℕ} → Last n ≡ entryOf (field + 8) (entryWith uncheckedStr field (drop field s)) → ValuesSkipped version s fields start (Next at)
   past-last e = record {
     ends = λ l n t h v m u f.
         let x = i .rest l n t h v m u f in
-        let none : dataValuesParser [] at (drop at s) ≡ ok (x .2) m u = ap (λ fs. dataValuesParser fs at (drop at s)) (sym (turn-last s field (x .1) e .0)) ∙ x .3 in
-        ap Next (sym (done none .1));
+        let none : dataValuesParser version [] at (drop at s) ≡ ok (x .2) m u = ap (λ fs. dataValuesParser version fs at (drop at s)) (sym (turn-last s field (x .1) e .0)) ∙ x .3 in
+        ap Next (sym (done version none .1));
   }
 
-  pub past-bad : {x : Refusal} → Bad x ≡ entryOf (field + 8) (entryWith uncheckedStr field (drop field s)) → (r : Parsed) → ValuesSkipped s fields start r
+  pub past-bad : {x : Refusal} → Bad x ≡ entryOf (field + 8) (entryWith uncheckedStr field (drop field s)) → (r : Parsed) → ValuesSkipped version s fields start r
   past-bad e r = record { ends = λ l n t h v m u f. turn-bad s field (i .rest l n t h v m u f .1) e }
 
   module _ {type a b next : ℕ} (e : Field type a b next ≡ entryOf (field + 8) (entryWith uncheckedStr field (drop field s))) where
@@ -53,58 +53,58 @@ module _ {s : List ℕ} {fields start field at : ℕ} (i : InPast s fields start
       pub rest : Fields
       pub more : fieldsParser next (drop next s) ≡ ok rest n t
       pub end : ℕ
-      pub past : endOf (uncheckedValue type at (drop at s)) ≡ Next end
+      pub past : endOf (uncheckedValue version type at (drop at s)) ≡ Next end
       pub values : List DataValue
-      pub others : dataValuesParser (rest .fields) end (drop end s) ≡ ok values m u
+      pub others : dataValuesParser version (rest .fields) end (drop end s) ≡ ok values m u
 
     both : (l : Fields) (n : ℕ) (t : List ℕ) → fieldsParser fields (drop fields s) ≡ ok l n t
-        → (v : List DataValue) (m : ℕ) (u : List ℕ) → dataValuesParser (l .fields) start (drop start s) ≡ ok v m u → Both l n t m u
+        → (v : List DataValue) (m : ℕ) (u : List ℕ) → dataValuesParser version (l .fields) start (drop start s) ≡ ok v m u → Both l n t m u
     unfolding consField
     both l n t h v m u f =
         let x = i .rest l n t h v m u f in
         let y = turn-field s field (x .1) e in
-        let z : dataValuesParser (with (y .field) (take (next - field) (drop field s)) ∷ y .rest .fields) at (drop at s) ≡ ok (x .2) m u =
-        ap (λ (k : Fields). dataValuesParser (k .fields) at (drop at s)) (sym (y .list)) ∙ x .3 in
+        let z : dataValuesParser version (with (y .field) (take (next - field) (drop field s)) ∷ y .rest .fields) at (drop at s) ≡ ok (x .2) m u =
+        ap (λ (k : Fields). dataValuesParser version (k .fields) at (drop at s)) (sym (y .list)) ∙ x .3 in
         let w = turn (with (y .field) (take (next - field) (drop field s))) (y .rest .fields) s at z in
-        record { rest = y .rest; more = y .more; end = w .end; past = ap (λ k. endOf (uncheckedValue k at (drop at s))) (y .typed) ∙ w .past; values = w .values; others = w .others }
+        record { rest = y .rest; more = y .more; end = w .end; past = ap (λ k. endOf (uncheckedValue version k at (drop at s))) (y .typed) ∙ w .past; values = w .values; others = w .others }
 
-    pub past-fault : {x : Refusal} → Fault x ≡ endOf (uncheckedValue type at (drop at s)) → (r : Parsed) → ValuesSkipped s fields start r
+    pub past-fault : {x : Refusal} → Fault x ≡ endOf (uncheckedValue version type at (drop at s)) → (r : Parsed) → ValuesSkipped version s fields start r
     past-fault v r = record { ends = λ l n t h w m u f. next≢fault (sym (both l n t h w m u f .past) ∙ sym v) }
 
-    pub past-next : {end : ℕ} → Next end ≡ endOf (uncheckedValue type at (drop at s)) → InPast s fields start next end
+    pub past-next : {end : ℕ} → Next end ≡ endOf (uncheckedValue version type at (drop at s)) → InPast version s fields start next end
     past-next {end} v = record {
       rest = λ l n t h w m u f.
           let x = both l n t h w m u f in
           let k : x .end ≡ end = next-same (sym (x .past) ∙ sym v) in
-          (x .rest, x .more, x .values, ap (λ y. dataValuesParser (x .rest .fields) y (drop y s)) (sym k) ∙ x .others);
+          (x .rest, x .more, x .values, ap (λ y. dataValuesParser version (x .rest .fields) y (drop y s)) (sym k) ∙ x .others);
     }
 
 -- ---- a block
 
-module _ (s : List ℕ) (o at : ℕ) {r : Parsed} (e : r ≡ endOf (uncheckedHead o (drop o s))) where
+module _ (version : ℕ) (s : List ℕ) (o at : ℕ) {r : Parsed} (e : r ≡ endOf (uncheckedHead o (drop o s))) where
   head-is : (p : Prototype) (h : DefinedAt s o p) → r ≡ Next (h .fields)
   head-is p h = e ∙ head-next o (drop o s) (h .head)
 
-  pub block-head-fault : {x : Refusal} → r ≡ Fault x → (v : Parsed) → BlockSkipped s o at v
+  pub block-head-fault : {x : Refusal} → r ≡ Fault x → (v : Parsed) → BlockSkipped version s o at v
   block-head-fault z v = record { ends = λ p h w m u f. next≢fault (sym (head-is p h) ∙ z) }
 
   module _ {first : ℕ} (z : r ≡ Next first) {i : Parsed} (d : i ≡ endOf (uncheckedId at (drop at s))) where
     -- the id's end, and the values behind it
-    split : (p : Prototype) → (w : List DataValue) (m : ℕ) (u : List ℕ) → (idParser >>= (λ i. dataValuesParser (p .fields))) at (drop at s) ≡ ok w m u
-        → (k : ℕ) × (i ≡ Next k) × (dataValuesParser (p .fields) k (drop k s) ≡ ok w m u)
+    split : (p : Prototype) → (w : List DataValue) (m : ℕ) (u : List ℕ) → (idParser >>= (λ i. dataValuesParser version (p .fields))) at (drop at s) ≡ ok w m u
+        → (k : ℕ) × (i ≡ Next k) × (dataValuesParser version (p .fields) k (drop k s) ≡ ok w m u)
     unfolding _>>=_
     split p w m u f =
-        let x = after-ok (idParser at (drop at s)) (λ i. dataValuesParser (p .fields)) f in
-        (x .1, d ∙ id-same at (drop at s) (x .3), ap (dataValuesParser (p .fields) (x .1)) (sym (moved id-exact s at (x .3) .rest)) ∙ x .4)
+        let x = after-ok (idParser at (drop at s)) (λ i. dataValuesParser version (p .fields)) f in
+        (x .1, d ∙ id-same at (drop at s) (x .3), ap (dataValuesParser version (p .fields) (x .1)) (sym (moved id-exact s at (x .3) .rest)) ∙ x .4)
 
-    pub block-id-fault : {x : Refusal} → i ≡ Fault x → (v : Parsed) → BlockSkipped s o at v
+    pub block-id-fault : {x : Refusal} → i ≡ Fault x → (v : Parsed) → BlockSkipped version s o at v
     block-id-fault y v = record { ends = λ p h w m u f. next≢fault (sym (split p w m u f .1) ∙ y) }
 
-    pub block-values : {next : ℕ} {v : Parsed} → i ≡ Next next → ValuesSkipped s first next v → BlockSkipped s o at v
+    pub block-values : {next : ℕ} {v : Parsed} → i ≡ Next next → ValuesSkipped version s first next v → BlockSkipped version s o at v
     block-values {next} y x = record {
       ends = λ p h w m u f.
           let q = split p w m u f in
           let a : first ≡ h .fields = next-same (sym z ∙ head-is p h) in
           let b : next ≡ q .0 = next-same (sym y ∙ q .1) in
-          x .ends _ _ _ (ap (λ n. fieldsParser n (drop n s)) a ∙ h .list) w m u (ap (λ n. dataValuesParser (p .fields) n (drop n s)) b ∙ q .2);
+          x .ends _ _ _ (ap (λ n. fieldsParser n (drop n s)) a ∙ h .list) w m u (ap (λ n. dataValuesParser version (p .fields) n (drop n s)) b ∙ q .2);
     }

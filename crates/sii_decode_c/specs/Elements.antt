@@ -4,7 +4,7 @@ use mathlib.Core.Bool.{cond}
 use lib.IntN.{ℤ}
 use lib.Ieee.{Float}
 use Rattle.bsii_format.specs.Replies.{Fault, Reply, gives, refuses}
-use Rattle.bsii_format.specs.Calls.{Place, Datum, dString, dEncodedString, dFloat, dFloatVec2, dFloatVec3, dFloatVec4, dFloatVec8, dInt32, dInt32Vec3, dUInt32, dUInt16, dInt64, dUInt64, dBool, dEnum, dId}
+use Rattle.bsii_format.specs.Calls.{Place, Datum, dString, dEncodedString, dFloat, dFloatVec2, dFloatVec3, dFloatVec4, dFloatVec7, dFloatVec8, dInt32, dInt32Vec3, dUInt32, dUInt16, dInt64, dUInt64, dBool, dEnum, dId}
 use Rattle.bsii_float.specs.Bits.{bitsOf}
 use Rattle.bsii_element.specs.Twos.{twos}
 use Rattle.sii_decode_c.specs.declared.elements.SiiElement.{SiiElement}
@@ -38,6 +38,7 @@ datumOut (dFloat a) = wordsOut 3 (word a) 0 0 0 0 0 0 0
 datumOut (dFloatVec2 a b) = wordsOut 4 (word a) (word b) 0 0 0 0 0 0
 datumOut (dFloatVec3 a b c) = wordsOut 5 (word a) (word b) (word c) 0 0 0 0 0
 datumOut (dFloatVec4 a b c d) = wordsOut 7 (word a) (word b) (word c) (word d) 0 0 0 0
+datumOut (dFloatVec7 a b c d e f g) = wordsOut 17 (word a) (word b) (word c) (word d) (word e) (word f) (word g) 0
 datumOut (dFloatVec8 a b c d e f g h) = wordsOut 8 (word a) (word b) (word c) (word d) (word e) (word f) (word g) (word h)
 datumOut (dInt32 n) = valueOut 9 (twos64 n)
 datumOut (dInt32Vec3 a b c) = wordsOut 6 (twos32 a) (twos32 b) (twos32 c) 0 0 0 0 0

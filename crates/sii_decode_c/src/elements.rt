@@ -4,6 +4,7 @@ use bsii_element::elements::element;
 use bsii_element::signed::bits32;
 use bsii_element::signed::bits64;
 use bsii_float::floats::Placement;
+use bsii_float::floats::Vec7;
 use bsii_float::floats::bits_of;
 use bsii_string::answers::Refusal;
 ghost use mathlib.Core.Path.{_≡_};
@@ -126,6 +127,28 @@ fn words(kind: u32, a: u32, b: u32, c: u32, d: u32) -> SiiElement
     }
 }
 
+fn seven(v: Vec7) -> SiiElement
+    ensures { λ r. ⌜ r ≡ wordsOut 17 (word (v .a)) (word (v .b)) (word (v .c)) (word (v .d)) (word (v .e)) (word (v .f)) (word (v .g)) 0 ⌝ }
+{
+    SiiElement {
+        number: 0,
+        offset: 0,
+        lacking: 0,
+        kind: 17,
+        place_offset: 0,
+        place_len: 0,
+        value: 0,
+        a: bits(v.a),
+        b: bits(v.b),
+        c: bits(v.c),
+        d: bits(v.d),
+        e: bits(v.e),
+        f: bits(v.f),
+        g: bits(v.g),
+        h: 0,
+    }
+}
+
 fn placement(p: Placement) -> SiiElement
     ensures { λ r. ⌜ r ≡ wordsOut 8 (word (p .a)) (word (p .b)) (word (p .c)) (word (p .d)) (word (p .e)) (word (p .f)) (word (p .g)) (word (p .h)) ⌝ }
 {
@@ -174,6 +197,7 @@ fn copied(answer: Element) -> SiiElement
         Element::FloatVec2(v) => words(4, bits(v.a), bits(v.b), 0, 0),
         Element::FloatVec3(v) => words(5, bits(v.a), bits(v.b), bits(v.c), 0),
         Element::FloatVec4(v) => words(7, bits(v.a), bits(v.b), bits(v.c), bits(v.d)),
+        Element::FloatVec7(v) => seven(v),
         Element::FloatVec8(p) => placement(p),
         Element::Int32(n) => number(9, extended(n)),
         Element::Int32Vec3(v) => words(6, bits32(v.a), bits32(v.b), bits32(v.c), 0),
@@ -189,8 +213,8 @@ fn copied(answer: Element) -> SiiElement
 }
 
 #[no_mangle]
-pub extern "C" fn sii_element_of(type_id: u32, part: &[u8], index: u64) -> SiiElement
-    ensures { λ r. ⌜ r ≡ elementOut (elementCall «type_id» (now (part .entry)) index) ⌝ }
+pub extern "C" fn sii_element_of(version: u32, type_id: u32, part: &[u8], index: u64) -> SiiElement
+    ensures { λ r. ⌜ r ≡ elementOut (elementCall version «type_id» (now (part .entry)) index) ⌝ }
 {
-    copied(element(type_id, part, index as usize))
+    copied(element(version, type_id, part, index as usize))
 }

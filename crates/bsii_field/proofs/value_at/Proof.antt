@@ -12,10 +12,10 @@ use Rattle.bsii_field.proofs.value_at.Statement.{statement}
 use Rattle.bsii_field.proofs.value_at.Tie as tie
 
 abbrev Inv-loop : tie.InvT-loop
-Inv-loop s fields start index field₀ at₀ passed₀ field at passed = (passed ≤ index) × Going s fields start index field at passed
+Inv-loop s version fields start index field₀ at₀ passed₀ field at passed = (passed ≤ index) × Going version s fields start index field at passed
 
 abbrev μ-loop : tie.MeasureT-loop
-μ-loop s fields start index field₀ at₀ passed₀ field at passed = length s - field
+μ-loop s version fields start index field₀ at₀ passed₀ field at passed = length s - field
 
 loop-holds : tie.Need-loop-holds Inv-loop μ-loop
 loop-holds c = (omega arith, go-start)

@@ -26,7 +26,8 @@ Of c = kindIs (c .before .before .shape2 .given .0 .0)
 
 -- the shape is an array of this kind
 array : (c : tie.After-le-u32)
-    → endOf (uncheckedArray (Of c) (At c) (drop (At c) (S c))) ≡ endOf (uncheckedValue (c .before .before .before .before .before .before .args .type-id) (At c) (drop (At c) (S c)))
+    → let a = c .before .before .before .before .before .before .args in
+    endOf (uncheckedArray (Of c) (At c) (drop (At c) (S c))) ≡ endOf (uncheckedValue (a .version) (a .type-id) (At c) (drop (At c) (S c)))
 unfolding uncheckedValue uncheckedShape
 array c =
     ap (λ (o : Option Shape). endOf (uncheckedShape o (At c) (drop (At c) (S c)))) (ap shapeIs (sym (c .before .before .shape2 .given .1)) ∙ c .before .before .before .before .shape-of .ensures)

@@ -57,7 +57,7 @@ unfolding elementCall valueParser
 returns-2 c =
     let a = c .before .before .before .before .before .before .before .before .before .args in
     let k = c .before .before .before .before .before .shape2 .given in
-    let o : some (many (kindIs (k .0 .0))) ≡ shapeOf (a .type-id) = ap shapeIs (sym (k .1)) ∙ c .before .before .before .before .before .before .before .shape-of .ensures in
+    let o : some (many (kindIs (k .0 .0))) ≡ shapeOf (a .version) (a .type-id) = ap shapeIs (sym (k .1)) ∙ c .before .before .before .before .before .before .before .shape-of .ensures in
     c .in-array .ensures _ (sym (c .before .enum-told .given .1) ∙ c .before .before .before .value-parser .ensures ∙ ap (λ (o : Option Shape). endOf (shapeParser o 0 (now (a .part)))) (sym o))
     ∙ ap (λ (o : Option Shape). ofValue (a .index) (shapeParser o 0 (now (a .part)))) o
 
@@ -65,7 +65,7 @@ returns-3 : tie.Need-returns-3
 unfolding elementCall
 returns-3 c =
     let a = c .before .before .before .before .before .before .before .before .before .args in
-    value-fault (a .index) (valueParser (a .type-id) 0 (now (a .part))) (sym (c .before .whole .given .1) ∙ c .before .before .before .value-parser .ensures)
+    value-fault (a .index) (valueParser (a .version) (a .type-id) 0 (now (a .part))) (sym (c .before .whole .given .1) ∙ c .before .before .before .value-parser .ensures)
 
 returns-4 : tie.Need-returns-4
 unfolding elementCall valueParser shapeParser fail ofValue

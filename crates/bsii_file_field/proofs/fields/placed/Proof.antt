@@ -15,8 +15,8 @@ refused-requires c κs = search needs
 enum-known-found : tie.Need-enum-known-found
 enum-known-found c = search needs
 
-sub-t10 : tie.Need-sub-t10
-sub-t10 c = let k = c .before .before .before in placed-room (k .field-found .ensures) (c .before .found .given .1)
+sub-t11 : tie.Need-sub-t11
+sub-t11 c = let k = c .before .before .before in placed-room (k .field-found .ensures) (c .before .found .given .1)
 
 returns : tie.Need-returns
 returns c = let k = c .before .before .before in rw (c .refused .ensures) (placed-absent (k .field-found .ensures) (c .before .enum-told .given .1))
@@ -26,4 +26,4 @@ returns-2 c = let k = c .before .before .before in placed-value (k .field-found 
 
 pub placed-spec : {M : Type 1} → statement M
 placed-spec =
-    tie.close (tie.spec field-found-requires enum-told refused-requires enum-known-found sub-t10 returns returns-2)
+    tie.close (tie.spec field-found-requires enum-told refused-requires enum-known-found sub-t11 returns returns-2)

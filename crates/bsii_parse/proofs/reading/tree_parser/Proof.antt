@@ -24,17 +24,17 @@ enum-known-header c = search needs
 returns-2 : tie.Need-returns-2
 returns-2 c = let a = c .before .before .before .before .before .before .before .args in header-fault (now (a .file)) (now (a .table)) (omega (arith, c .before .before .before .before .if1 .left)) (sym (c .before .before .before .header-parser .ensures) ∙ ap (headerIs (now (a .file))) (c .before .header .given .1))
 
-enum-told : tie.Need-enum-told
-enum-told c = search needs
+enum-known-header-2 : tie.Need-enum-known-header-2
+enum-known-header-2 c = search needs
 
 walk-requires : tie.Need-walk-requires
-walk-requires c κs = let a = c .before .before .before .before .before .before .before .args in (omega (arith, c .before .before .before .before .if1 .left), header-long (now (a .file)) (now (a .table)) (omega (arith, c .before .before .before .before .if1 .left)) (sym (c .before .before .before .header-parser .ensures) ∙ ap (headerIs (now (a .file))) (c .before .enum-told .given .1)))
+walk-requires c κs = let a = c .before .before .before .before .before .before .before .before .args in (omega (arith, c .before .before .before .before .before .if1 .left), header-long (now (a .file)) (now (a .table)) (omega (arith, c .before .before .before .before .before .if1 .left)) (sym (c .before .before .before .before .header-parser .ensures) ∙ ap (headerIs (now (a .file))) (c .before .before .header2 .given .1)))
 
 same-length : tie.Need-same-length
 same-length c = search needs
 
 returns-3 : tie.Need-returns-3
-returns-3 c = let a = c .before .before .before .before .before .before .before .before .before .before .args in file-walked (now (a .file)) (now (a .table)) (omega (arith, c .before .before .before .before .before .before .before .if1 .left)) (sym (c .before .before .before .before .before .before .header-parser .ensures) ∙ ap (headerIs (now (a .file))) (c .before .before .before .before .enum-told .given .1)) (c .before .before .walk .ensures)
+returns-3 c = let a = c .before .before .before .before .before .before .before .before .before .before .before .args in file-walked (now (a .file)) (now (a .table)) (omega (arith, c .before .before .before .before .before .before .before .before .if1 .left)) (sym (c .before .before .before .before .before .before .before .header-parser .ensures) ∙ ap (headerIs (now (a .file))) (c .before .before .before .before .before .header2 .given .1)) (c .before .before .walk .ensures)
 
 pub tree-parser-spec : {M : Type 1} → statement M
 tree-parser-spec =
@@ -45,7 +45,7 @@ tree-parser-spec =
     header-parser-requires
     enum-known-header
     returns-2
-    enum-told
+    enum-known-header-2
     walk-requires
     same-length
     returns-3)

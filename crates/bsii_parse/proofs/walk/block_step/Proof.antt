@@ -35,8 +35,8 @@ returns-2 c = carrying-fault (c .before .before .before .before .before .before 
 enum-known-parsed-2 : tie.Need-enum-known-parsed-2
 enum-known-parsed-2 c = search needs
 
-add-t15 : tie.Need-add-t15
-add-t15 c = search needs
+add-t16 : tie.Need-add-t16
+add-t16 c = search needs
 
 returns-3 : tie.Need-returns-3
 returns-3 c = carrying-passed (c .before .before .before .before .before .before .before .before .before .find .ensures) (c .before .before .before .before .before .before .before .found .given .1) (c .before .before .before .before .before .size .ensures) (c .before .before .before .before .block-parser .ensures) (c .before .before .parsed2 .given .1)
@@ -55,5 +55,5 @@ block-step-spec =
     enum-known-parsed
     returns-2
     enum-known-parsed-2
-    add-t15
+    add-t16
     returns-3)

@@ -4,7 +4,7 @@ use mathlib.Core.Path.{sym, ap, _∙_}
 use denote.Ref.{now}
 use borrow.Author.Needs.{needs}
 use Rattle.bsii_string.specs.Answers.{numOf}
-use Rattle.bsii_prototype.proofs.Beginnings.{is-not, header-not, header-short, header-old, header-version}
+use Rattle.bsii_prototype.proofs.Beginnings.{is-not, header-not, header-rest, header-version}
 use Rattle.bsii_prototype.proofs.heads.header_parser.Statement.{statement}
 use Rattle.bsii_prototype.proofs.heads.header_parser.Tie as tie
 
@@ -29,29 +29,19 @@ enum-known-version c = search needs
 enum-known-version-2 : tie.Need-enum-known-version-2
 enum-known-version-2 c = search needs
 
-refused-requires-2 : tie.Need-refused-requires-2
-refused-requires-2 c κs = search needs
-
 returns-2 : tie.Need-returns-2
 returns-2 c =
-    let s = now (c .before .before .before .before .before .before .before .before .before .before .args .s) in
-    let h = sym (c .before .before .before .before .before .before .before .tag .ensures) ∙ is-not (c .before .before .before .before .before .before .before .tag .result) false (c .before .before .before .before .before .before .if1 .left) in
-    let e = sym (c .before .before .before .before .before .le-u32 .ensures) ∙ ap (numOf s) (c .before .before .before .version2 .given .1) in
-    rw (c .refused2 .ensures) (sym (header-old s h e (c .before .if2 .taken)))
+    let s = now (c .before .before .before .before .before .before .before .before .args .s) in
+    let h = sym (c .before .before .before .before .before .tag .ensures) ∙ is-not (c .before .before .before .before .before .tag .result) false (c .before .before .before .before .if1 .left) in
+    let e = sym (c .before .before .before .le-u32 .ensures) ∙ ap (numOf s) (c .before .version .given .1) in
+    sym (header-rest s h ∙ e)
 
 returns-3 : tie.Need-returns-3
 returns-3 c =
     let s = now (c .before .before .before .before .before .before .before .before .args .s) in
     let h = sym (c .before .before .before .before .before .tag .ensures) ∙ is-not (c .before .before .before .before .before .tag .result) false (c .before .before .before .before .if1 .left) in
-    let e = sym (c .before .before .before .le-u32 .ensures) ∙ ap (numOf s) (c .before .version .given .1) in
-    sym (header-short s h e)
-
-returns-4 : tie.Need-returns-4
-returns-4 c =
-    let s = now (c .before .before .before .before .before .before .before .before .before .args .s) in
-    let h = sym (c .before .before .before .before .before .before .tag .ensures) ∙ is-not (c .before .before .before .before .before .before .tag .result) false (c .before .before .before .before .before .if1 .left) in
-    let e = sym (c .before .before .before .before .le-u32 .ensures) ∙ ap (numOf s) (c .before .before .version2 .given .1) in
-    sym (header-version s h e (c .if2 .left))
+    let e = sym (c .before .before .before .le-u32 .ensures) ∙ ap (numOf s) (c .before .version2 .given .1) in
+    sym (header-version s h e)
 
 pub header-parser-spec : {M : Type 1} → statement M
 header-parser-spec =
@@ -64,7 +54,5 @@ header-parser-spec =
     le-u32-requires
     enum-known-version
     enum-known-version-2
-    refused-requires-2
     returns-2
-    returns-3
-    returns-4)
+    returns-3)

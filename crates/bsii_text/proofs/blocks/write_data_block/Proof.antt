@@ -27,7 +27,7 @@ returns : tie.Need-returns
 returns c =
     let told = c .before in
     let a = told .before .before .before .before .before .args in
-    no-definition (now (a .s)) (a .offset) (a .id) (a .in-force) (a .last) (now (a .out)) (a .to) (told .before .before .fields-at .ensures) (told .enum-told .given .1) _
+    no-definition (a .version) (now (a .s)) (a .offset) (a .id) (a .in-force) (a .last) (now (a .out)) (a .to) (told .before .before .fields-at .ensures) (told .enum-told .given .1) _
 
 fields-at-requires-2 : tie.Need-fields-at-requires-2
 fields-at-requires-2 c κs = search needs
@@ -45,7 +45,7 @@ returns-2 : tie.Need-returns-2
 returns-2 c =
     let told = c .before in
     let a = told .before .before .before .before .before .before .before .before .before .args in
-    no-last (now (a .s)) (a .offset) (a .id) (a .in-force) (a .last) (now (a .out)) (a .to) (told .before .before .fields-at2 .ensures) (told .enum-told2 .given .1) _
+    no-last (a .version) (now (a .s)) (a .offset) (a .id) (a .in-force) (a .last) (now (a .out)) (a .to) (told .before .before .fields-at2 .ensures) (told .enum-told2 .given .1) _
 
 skip-element-requires : tie.Need-skip-element-requires
 skip-element-requires c κs = search needs
@@ -63,7 +63,7 @@ returns-3 : tie.Need-returns-3
 returns-3 c =
     let told = c .before in
     let a = told .before .before .before .before .before .before .before .before .before .before .before .before .before .args in
-    no-id (now (a .s)) (a .offset) (a .id) (a .in-force) (a .last) (now (a .out)) (a .to) (told .before .before .skip-element .ensures) (told .enum-told3 .given .1) _
+    no-id (a .version) (now (a .s)) (a .offset) (a .id) (a .in-force) (a .last) (now (a .out)) (a .to) (told .before .before .skip-element .ensures) (told .enum-told3 .given .1) _
 
 same-fields-requires : tie.Need-same-fields-requires
 same-fields-requires c κs = search needs
@@ -77,7 +77,7 @@ returns-4 c =
     let lasts = uneven .before .before .before .before .before .before .before in
     let forces = lasts .before .before .before .before in
     let a = forces .before .before .before .before .before .args in
-    other-count (now (a .s)) (a .offset) (a .id) (a .in-force) (a .last) (now (a .out)) (a .to) (forces .before .before .fields-at .ensures) (forces .list .given .1) (lasts .before .before .fields-at2 .ensures) (lasts .last-list .given .1) (uneven .before .same-fields .ensures) (c .refused4 .ensures) (uneven .if1 .taken)
+    other-count (a .version) (now (a .s)) (a .offset) (a .id) (a .in-force) (a .last) (now (a .out)) (a .to) (forces .before .before .fields-at .ensures) (forces .list .given .1) (lasts .before .before .fields-at2 .ensures) (lasts .last-list .given .1) (uneven .before .same-fields .ensures) (c .refused4 .ensures) (uneven .if1 .taken)
 
 add-name : tie.Need-add-name
 add-name c =
@@ -104,7 +104,7 @@ returns-5 c =
     let lasts = ids .before .before .before .before in
     let forces = lasts .before .before .before .before in
     let a = forces .before .before .before .before .before .args in
-    whole-block (now (a .s)) (a .offset) (a .id) (a .in-force) (a .last) (now (a .out)) (a .to) (forces .before .before .fields-at .ensures) (forces .list .given .1) (lasts .before .before .fields-at2 .ensures) (lasts .last-list .given .1) (even .before .same-fields .ensures) (even .if1 .left) (ids .before .before .skip-element .ensures) (ids .end .given .1) (c .before .before .write-body .ensures)
+    whole-block (a .version) (now (a .s)) (a .offset) (a .id) (a .in-force) (a .last) (now (a .out)) (a .to) (forces .before .before .fields-at .ensures) (forces .list .given .1) (lasts .before .before .fields-at2 .ensures) (lasts .last-list .given .1) (even .before .same-fields .ensures) (even .if1 .left) (ids .before .before .skip-element .ensures) (ids .end .given .1) (c .before .before .write-body .ensures)
 
 pub write-data-block-spec : {M : Type 1} → statement M
 write-data-block-spec =

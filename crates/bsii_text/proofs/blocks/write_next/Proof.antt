@@ -16,7 +16,7 @@ returns : tie.Need-returns
 returns c =
     let met = c .before .before in
     let a = met .before .before .before .args in
-    turn-ends (now (a .s)) (a .p .field) (a .p .«last_field») (a .p .at) (a .p .to) (now (a .out)) (omega arith) (omega arith) (pair-by (c .enum-told .given .1) (met .pair-at .ensures))
+    turn-ends (a .version) (now (a .s)) (a .p .field) (a .p .«last_field») (a .p .at) (a .p .to) (now (a .out)) (omega arith) (omega arith) (pair-by (c .enum-told .given .1) (met .pair-at .ensures))
 
 enum-told-2 : tie.Need-enum-told-2
 enum-told-2 c = search needs
@@ -25,7 +25,7 @@ returns-2 : tie.Need-returns-2
 returns-2 c =
     let met = c .before .before in
     let a = met .before .before .before .args in
-    turn-uneven (now (a .s)) (a .p .field) (a .p .«last_field») (a .p .at) (a .p .to) (now (a .out)) (pair-by (c .enum-told2 .given .1) (met .pair-at .ensures)) _
+    turn-uneven (a .version) (now (a .s)) (a .p .field) (a .p .«last_field») (a .p .at) (a .p .to) (now (a .out)) (pair-by (c .enum-told2 .given .1) (met .pair-at .ensures)) _
 
 enum-known-pair : tie.Need-enum-known-pair
 enum-known-pair c = search needs
@@ -52,7 +52,7 @@ returns-3 c =
     let chosen = wrote .before .before .before in
     let met = chosen .before .before in
     let a = met .before .before .before .args in
-    turn-absent (now (a .s)) (a .p .field) (a .p .«last_field») (a .p .at) (a .p .to) (now (a .out)) (pair-by (chosen .pair .given .1) (met .pair-at .ensures)) (c .refused .ensures)
+    turn-absent (a .version) (now (a .s)) (a .p .field) (a .p .«last_field») (a .p .at) (a .p .to) (now (a .out)) (pair-by (chosen .pair .given .1) (met .pair-at .ensures)) (c .refused .ensures)
     (field-by (told .enum-told3 .given .1) (wrote .write-field .ensures))
 
 enum-known-lines : tie.Need-enum-known-lines
@@ -72,7 +72,7 @@ returns-4 c =
       omega (arith, p .inside),
       omega (arith, p .inside),
       wrote .write-field .ensures .size,
-      turn-on (now (a .s)) (a .p .field) (a .p .«last_field») (a .p .at) (a .p .to) (now (a .out)) p (field-by (told .lines .given .1) (wrote .write-field .ensures)),
+      turn-on (a .version) (now (a .s)) (a .p .field) (a .p .«last_field») (a .p .at) (a .p .to) (now (a .out)) p (field-by (told .lines .given .1) (wrote .write-field .ensures)),
     )
 
 pub write-next-spec : {M : Type 1} → statement M

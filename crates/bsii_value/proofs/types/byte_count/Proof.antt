@@ -27,6 +27,9 @@ enum-told-3 c = search needs
 enum-told-4 : tie.Need-enum-told-4
 enum-told-4 c = search needs
 
+enum-told-5 : tie.Need-enum-told-5
+enum-told-5 c = search needs
+
 returns : tie.Need-returns
 unfolding arity width
 returns c = ap (λ (n : Numeric). bytes (numericIs n)) (sym (c .enum-told .given .1))
@@ -37,11 +40,11 @@ returns-2 c = ap (λ (n : Numeric). bytes (numericIs n)) (sym (c .enum-told2 .gi
 
 returns-3 : tie.Need-returns-3
 unfolding arity width every numerics
-returns-3 c = arm bytes 8 (9 ∷ 10 ∷ 1 ∷ []) (c .before .args .n) tt (c .match .keys3)
+returns-3 c = arm bytes 8 (10 ∷ 11 ∷ 1 ∷ []) (c .before .args .n) tt (c .match .keys3)
 
 returns-4 : tie.Need-returns-4
 unfolding arity width every numerics
-returns-4 c = arm bytes 12 (2 ∷ 6 ∷ []) (c .before .args .n) tt (c .match .keys4)
+returns-4 c = arm bytes 12 (2 ∷ 7 ∷ []) (c .before .args .n) tt (c .match .keys4)
 
 returns-5 : tie.Need-returns-5
 unfolding arity width
@@ -52,8 +55,12 @@ unfolding arity width
 returns-6 c = ap (λ (n : Numeric). bytes (numericIs n)) (sym (c .enum-told4 .given .1))
 
 returns-7 : tie.Need-returns-7
+unfolding arity width
+returns-7 c = ap (λ (n : Numeric). bytes (numericIs n)) (sym (c .enum-told5 .given .1))
+
+returns-8 : tie.Need-returns-8
 unfolding arity width every numerics
-returns-7 c = arm bytes 4 (0 ∷ 5 ∷ 7 ∷ 12 ∷ []) (c .before .args .n) tt (c .match .keys7)
+returns-8 c = arm bytes 4 (0 ∷ 6 ∷ 8 ∷ 13 ∷ []) (c .before .args .n) tt (c .match .keys8)
 
 pub byte-count-spec : {M : Type 1} → statement M
 byte-count-spec =
@@ -63,10 +70,12 @@ byte-count-spec =
     enum-told-2
     enum-told-3
     enum-told-4
+    enum-told-5
     returns
     returns-2
     returns-3
     returns-4
     returns-5
     returns-6
-    returns-7)
+    returns-7
+    returns-8)

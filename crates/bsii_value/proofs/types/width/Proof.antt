@@ -22,7 +22,7 @@ returns c = ap (λ (n : Numeric). width (numericIs n)) (sym (c .enum-told .given
 
 returns-2 : tie.Need-returns-2
 unfolding width every numerics
-returns-2 c = arm width 8 (9 ∷ 10 ∷ []) (c .before .args .n) tt (c .match .keys2)
+returns-2 c = arm width 8 (10 ∷ 11 ∷ []) (c .before .args .n) tt (c .match .keys2)
 
 returns-3 : tie.Need-returns-3
 unfolding width
@@ -30,7 +30,7 @@ returns-3 c = ap (λ (n : Numeric). width (numericIs n)) (sym (c .enum-told2 .gi
 
 returns-4 : tie.Need-returns-4
 unfolding width every numerics
-returns-4 c = arm width 4 (0 ∷ 1 ∷ 2 ∷ 3 ∷ 4 ∷ 5 ∷ 6 ∷ 7 ∷ 12 ∷ []) (c .before .args .n) tt (c .match .keys4)
+returns-4 c = arm width 4 (0 ∷ 1 ∷ 2 ∷ 3 ∷ 4 ∷ 5 ∷ 6 ∷ 7 ∷ 8 ∷ 13 ∷ []) (c .before .args .n) tt (c .match .keys4)
 
 pub width-spec : {M : Type 1} → statement M
 width-spec = tie.close (tie.spec enum-told enum-told-2 returns returns-2 returns-3 returns-4)

@@ -32,7 +32,7 @@ returns : tie.Need-returns
 returns c =
     let a = c .before .before .before .before .before .before .before .before .before .args in
     c .numeric-end .ensures ∙ ap (λ (k : Kind). endOf (elementParser (kindIs k) (a .at) (drop (a .at) (now (a .s))))) (sym (c .before .before .kind .given .1))
-    ∙ one-value (a .type-id) (a .at) (drop (a .at) (now (a .s))) (ap shapeIs (sym (c .before .before .before .before .before .shape .given .1)) ∙ c .before .before .before .before .before .before .before .shape-of .ensures)
+    ∙ one-value (a .version) (a .type-id) (a .at) (drop (a .at) (now (a .s))) (ap shapeIs (sym (c .before .before .before .before .before .shape .given .1)) ∙ c .before .before .before .before .before .before .before .shape-of .ensures)
 
 enum-told : tie.Need-enum-told
 enum-told c = search needs
@@ -45,7 +45,7 @@ unfolding elementParser
 returns-2 c =
     let a = c .before .before .before .before .before .before .before .before .args in
     c .str-end .ensures ∙ sym (mapped str strParser (a .at) (drop (a .at) (now (a .s)))) ∙ ap (λ (k : Kind). endOf (elementParser (kindIs k) (a .at) (drop (a .at) (now (a .s))))) (sym (c .before .enum-told .given .1))
-    ∙ one-value (a .type-id) (a .at) (drop (a .at) (now (a .s))) (ap shapeIs (sym (c .before .before .before .before .shape .given .1)) ∙ c .before .before .before .before .before .before .shape-of .ensures)
+    ∙ one-value (a .version) (a .type-id) (a .at) (drop (a .at) (now (a .s))) (ap shapeIs (sym (c .before .before .before .before .shape .given .1)) ∙ c .before .before .before .before .before .before .shape-of .ensures)
 
 enum-told-2 : tie.Need-enum-told-2
 enum-told-2 c = search needs
@@ -58,7 +58,7 @@ unfolding elementParser
 returns-3 c =
     let a = c .before .before .before .before .before .before .before .before .args in
     c .word-end .ensures ∙ sym (mapped word encodedStrParser (a .at) (drop (a .at) (now (a .s)))) ∙ ap (λ (k : Kind). endOf (elementParser (kindIs k) (a .at) (drop (a .at) (now (a .s))))) (sym (c .before .enum-told2 .given .1))
-    ∙ one-value (a .type-id) (a .at) (drop (a .at) (now (a .s))) (ap shapeIs (sym (c .before .before .before .before .shape .given .1)) ∙ c .before .before .before .before .before .before .shape-of .ensures)
+    ∙ one-value (a .version) (a .type-id) (a .at) (drop (a .at) (now (a .s))) (ap shapeIs (sym (c .before .before .before .before .shape .given .1)) ∙ c .before .before .before .before .before .before .shape-of .ensures)
 
 enum-told-3 : tie.Need-enum-told-3
 enum-told-3 c = search needs
@@ -71,7 +71,7 @@ unfolding elementParser
 returns-4 c =
     let a = c .before .before .before .before .before .before .before .before .args in
     c .id-parser .ensures ∙ sym (mapped ident idParser (a .at) (drop (a .at) (now (a .s)))) ∙ ap (λ (k : Kind). endOf (elementParser (kindIs k) (a .at) (drop (a .at) (now (a .s))))) (sym (c .before .enum-told3 .given .1))
-    ∙ one-value (a .type-id) (a .at) (drop (a .at) (now (a .s))) (ap shapeIs (sym (c .before .before .before .before .shape .given .1)) ∙ c .before .before .before .before .before .before .shape-of .ensures)
+    ∙ one-value (a .version) (a .type-id) (a .at) (drop (a .at) (now (a .s))) (ap shapeIs (sym (c .before .before .before .before .shape .given .1)) ∙ c .before .before .before .before .before .before .shape-of .ensures)
 
 enum-known-shape-2 : tie.Need-enum-known-shape-2
 enum-known-shape-2 c = search needs

@@ -10,10 +10,10 @@ use Rattle.bsii_walk.proofs.cursor.next_block.Statement.{statement}
 use Rattle.bsii_walk.proofs.cursor.next_block.Tie as tie
 
 abbrev Inv-loop : tie.InvT-loop
-Inv-loop s start table₀ rows at₀ table at = Over s start table₀ rows at table Same
+Inv-loop s version start table₀ rows at₀ table at = Over version s start table₀ rows at table Same
 
 abbrev μ-loop : tie.MeasureT-loop
-μ-loop s start table₀ rows at₀ table at = length s - at
+μ-loop s version start table₀ rows at₀ table at = length s - at
 
 loop-holds : tie.Need-loop-holds Inv-loop μ-loop
 loop-holds c = over-start (c .before .before .pre .inside) (λ last l. refl)

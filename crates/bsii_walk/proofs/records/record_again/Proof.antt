@@ -14,7 +14,7 @@ enum-told : tie.Need-enum-told
 enum-told c = search needs
 
 returns : tie.Need-returns
-returns c = let a = c .before .before .before .before .before .args in again-end (now (a .s)) (a .at) (now (a .table)) (a .rows) (c .before .before .kind-at .ensures) (c .enum-told .given .1)
+returns c = let a = c .before .before .before .before .before .args in again-end (a .version) (now (a .s)) (a .at) (now (a .table)) (a .rows) (c .before .before .kind-at .ensures) (c .enum-told .given .1)
 
 enum-known-kind : tie.Need-enum-known-kind
 enum-known-kind c = search needs
@@ -26,7 +26,7 @@ same-length : tie.Need-same-length
 same-length c = search needs
 
 returns-2 : tie.Need-returns-2
-returns-2 c = let a = c .before .before .before .before .before .before .before .before .before .before .args in again-prototype (now (a .s)) (a .at) (now (a .table)) (a .rows) (c .before .before .before .before .before .before .before .kind-at .ensures) (c .before .before .before .before .before .kind .given .1) (c .before .before .prototype-again .ensures)
+returns-2 c = let a = c .before .before .before .before .before .before .before .before .before .before .args in again-prototype (a .version) (now (a .s)) (a .at) (now (a .table)) (a .rows) (c .before .before .before .before .before .before .before .kind-at .ensures) (c .before .before .before .before .before .kind .given .1) (c .before .before .prototype-again .ensures)
 
 enum-known-kind-2 : tie.Need-enum-known-kind-2
 enum-known-kind-2 c = search needs
@@ -38,7 +38,7 @@ same-length-2 : tie.Need-same-length-2
 same-length-2 c = search needs
 
 returns-3 : tie.Need-returns-3
-returns-3 c = let a = c .before .before .before .before .before .before .before .before .args in again-carries (now (a .s)) (a .at) (now (a .table)) (a .rows) (c .before .before .before .before .before .kind-at .ensures) (c .before .before .before .kind2 .given .1) (c .block-again .ensures)
+returns-3 c = let a = c .before .before .before .before .before .before .before .before .args in again-carries (a .version) (now (a .s)) (a .at) (now (a .table)) (a .rows) (c .before .before .before .before .before .kind-at .ensures) (c .before .before .before .kind2 .given .1) (c .block-again .ensures)
 
 pub record-again-spec : {M : Type 1} → statement M
 record-again-spec =

@@ -29,13 +29,13 @@ skip-values-requires : tie.Need-skip-values-requires
 skip-values-requires c κs = search needs
 
 returns : tie.Need-returns
-returns c = let a = c .before .before .before .before .before .args in block-head-fault (now (a .s)) (a .prototype) (a .at) (c .before .before .before .fields-at .ensures) (c .before .fields .given .1) _
+returns c = let a = c .before .before .before .before .before .args in block-head-fault (a .version) (now (a .s)) (a .prototype) (a .at) (c .before .before .before .fields-at .ensures) (c .before .fields .given .1) _
 
 returns-2 : tie.Need-returns-2
-returns-2 c = let a = c .before .before .before .before .before .before .before .before .before .args in block-id-fault (now (a .s)) (a .prototype) (a .at) (c .before .before .before .before .before .before .before .fields-at .ensures) (c .before .before .before .before .before .fields2 .given .1) (c .before .before .before .skip-id .ensures) (c .before .id .given .1) _
+returns-2 c = let a = c .before .before .before .before .before .before .before .before .before .args in block-id-fault (a .version) (now (a .s)) (a .prototype) (a .at) (c .before .before .before .before .before .before .before .fields-at .ensures) (c .before .before .before .before .before .fields2 .given .1) (c .before .before .before .skip-id .ensures) (c .before .id .given .1) _
 
 returns-3 : tie.Need-returns-3
-returns-3 c = let a = c .before .before .before .before .before .before .before .before .before .before .args in block-values (now (a .s)) (a .prototype) (a .at) (c .before .before .before .before .before .before .before .before .fields-at .ensures) (c .before .before .before .before .before .before .fields2 .given .1) (c .before .before .before .before .skip-id .ensures) (c .before .before .id2 .given .1) (c .skip-values .ensures)
+returns-3 c = let a = c .before .before .before .before .before .before .before .before .before .before .args in block-values (a .version) (now (a .s)) (a .prototype) (a .at) (c .before .before .before .before .before .before .before .before .fields-at .ensures) (c .before .before .before .before .before .before .fields2 .given .1) (c .before .before .before .before .skip-id .ensures) (c .before .before .id2 .given .1) (c .skip-values .ensures)
 
 pub skip-block-spec : {M : Type 1} → statement M
 skip-block-spec =

@@ -14,10 +14,10 @@ use Rattle.bsii_walk.proofs.records.skip_values.Statement.{statement}
 use Rattle.bsii_walk.proofs.records.skip_values.Tie as tie
 
 abbrev Inv-loop : tie.InvT-loop
-Inv-loop s fields start field₀ at₀ field at = InPast s fields start field at
+Inv-loop s version fields start field₀ at₀ field at = InPast version s fields start field at
 
 abbrev μ-loop : tie.MeasureT-loop
-μ-loop s fields start field₀ at₀ field at = length s - field
+μ-loop s version fields start field₀ at₀ field at = length s - field
 
 loop-holds : tie.Need-loop-holds Inv-loop μ-loop
 loop-holds c = past-start

@@ -11,10 +11,10 @@ use Rattle.bsii_walk.proofs.seek.seek.Statement.{statement}
 use Rattle.bsii_walk.proofs.seek.seek.Tie as tie
 
 abbrev Inv-loop : tie.InvT-loop
-Inv-loop s start table₀ rows any name k at₀ number₀ left₀ table at number left = Over s start table₀ rows at table (Asked any name k number left) × (number ≤ at)
+Inv-loop s version start table₀ rows any name k at₀ number₀ left₀ table at number left = Over version s start table₀ rows at table (Asked any name k number left) × (number ≤ at)
 
 abbrev μ-loop : tie.MeasureT-loop
-μ-loop s start table₀ rows any name k at₀ number₀ left₀ table at number left = length s - at
+μ-loop s version start table₀ rows any name k at₀ number₀ left₀ table at number left = length s - at
 
 loop-holds : tie.Need-loop-holds Inv-loop μ-loop
 loop-holds c = (over-start (c .before .before .before .pre .inside) (λ last l. record { equal = refl }), omega arith)
