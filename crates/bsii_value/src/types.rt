@@ -1,7 +1,7 @@
 // The table of types.
 ghost use mathlib.Core.Path.{_≡_};
 ghost use Prim.Native.Nat.{_*_};
-ghost use Rattle.bsii_format.specs.Types.{placementIn, shapeOf, width as widthOf, arity as arityOf};
+ghost use Rattle.bsii_format.specs.Types.{shapeOf, width as widthOf, arity as arityOf};
 ghost use Rattle.bsii_value.specs.Kinds.{numericIs, shapeIs};
 
 // Values that are one or more numbers of one width.
@@ -37,20 +37,18 @@ pub enum Shape {
     Unlisted,
 }
 
-// A placement: version 1 has one float less.
-fn placement_in(version: u32) -> Numeric
-    ensures { λ r. ⌜ numericIs r ≡ placementIn version ⌝ }
-{
-    if version == 1 {
-        return Numeric::FloatVec7;
-    }
-    Numeric::FloatVec8
-}
-
-// The table of types, row by row. A type that is not there has no length that could be guessed.
+// The table of types, row by row. A type that is not there has no length that could be guessed. Version 1 has two rows of its own, ahead of the others: so
+// each row is a constant, and the rows are compiled to a table and not to jumps.
 pub fn shape_of(version: u32, type_id: u32) -> Shape
     ensures { λ r. ⌜ shapeIs r ≡ shapeOf version «type_id» ⌝ }
 {
+    if version == 1 {
+        match type_id {
+            0x19 => return Shape::One(Kind::Numbers(Numeric::FloatVec7)),
+            0x1a => return Shape::Many(Kind::Numbers(Numeric::FloatVec7)),
+            _ => {}
+        }
+    }
     match type_id {
         0x01 => Shape::One(Kind::String),
         0x02 => Shape::Many(Kind::String),
@@ -65,8 +63,8 @@ pub fn shape_of(version: u32, type_id: u32) -> Shape
         0x12 => Shape::Many(Kind::Numbers(Numeric::Int32Vec3)),
         0x17 => Shape::One(Kind::Numbers(Numeric::FloatVec4)),
         0x18 => Shape::Many(Kind::Numbers(Numeric::FloatVec4)),
-        0x19 => Shape::One(Kind::Numbers(placement_in(version))),
-        0x1a => Shape::Many(Kind::Numbers(placement_in(version))),
+        0x19 => Shape::One(Kind::Numbers(Numeric::FloatVec8)),
+        0x1a => Shape::Many(Kind::Numbers(Numeric::FloatVec8)),
         0x25 => Shape::One(Kind::Numbers(Numeric::Int32)),
         0x26 => Shape::Many(Kind::Numbers(Numeric::Int32)),
         0x27 => Shape::One(Kind::Numbers(Numeric::UInt32)),

@@ -1,6 +1,7 @@
 //! Files at the limits of length, and texts that no memory holds.
 
 use calls::LENGTH_LIMIT;
+use generate::bytes::{array, block, definition, file, file_of, floats, prototype};
 use generate::worked_bytes;
 
 pub fn files() -> Vec<Vec<u8>> {
@@ -14,6 +15,7 @@ pub fn files() -> Vec<Vec<u8>> {
         long_string(1 << 22),
         many_prototypes(3000),
         many_blocks(100),
+        many_placements(500_000),
     ]
 }
 
@@ -32,13 +34,6 @@ fn start(id: u32, name: &[u8]) -> Vec<u8> {
     record
 }
 
-fn file_of(records: &[Vec<u8>]) -> Vec<u8> {
-    let mut file = b"BSII\x02\0\0\0".to_vec();
-    file.extend(records.concat());
-    file.extend([0; 5]);
-    file
-}
-
 /// A field name that is repeated for every element.
 fn long_text(name: u32, count: u32) -> Vec<u8> {
     let mut record = start(1, b"p");
@@ -48,7 +43,7 @@ fn long_text(name: u32, count: u32) -> Vec<u8> {
     record.extend([0, 0, 0, 0, 1, 0, 0, 0, 0]);
     record.extend(count.to_le_bytes());
     record.extend(vec![1; count as usize]);
-    file_of(&[record])
+    file(&[record])
 }
 
 fn long_string(len: u32) -> Vec<u8> {
@@ -56,12 +51,12 @@ fn long_string(len: u32) -> Vec<u8> {
     record.extend(b"\x01\0\0\0\x01\0\0\0s\0\0\0\0\x01\0\0\0\0");
     record.extend(len.to_le_bytes());
     record.extend((0..len).map(|i| (i % 128) as u8));
-    file_of(&[record])
+    file(&[record])
 }
 
 fn many_prototypes(count: u32) -> Vec<u8> {
     let record = |i: u32| [start(i * 7 % count, b"n"), vec![0; 4]].concat();
-    file_of(&(0..count).map(record).collect::<Vec<_>>())
+    file(&(0..count).map(record).collect::<Vec<_>>())
 }
 
 fn many_blocks(count: u32) -> Vec<u8> {
@@ -72,5 +67,13 @@ fn many_blocks(count: u32) -> Vec<u8> {
         block.extend(i.to_le_bytes());
         records.push(block);
     }
-    file_of(&records)
+    file(&records)
+}
+
+/// Of version 1: no sum is made of any of them.
+fn many_placements(count: u32) -> Vec<u8> {
+    let seven = |i: u32| floats(&[0, 1, 2, 3, 4, 5, 6].map(|k| ((7 * i + k) as f32).to_bits()));
+    let all: Vec<_> = (0..count).map(seven).collect();
+    let fields = [definition(0x1a, b"a")];
+    file_of(1, &[prototype(1, b"p", &fields), block(1, &array(&all))])
 }

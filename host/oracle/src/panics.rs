@@ -8,7 +8,7 @@ use std::sync::Once;
 #[derive(Clone, Debug, PartialEq, Eq)]
 pub enum Fault {
     Number(u32),
-    /// UnsupportedVersion, of version 1: document 02 reads it, and no reply has this class any more.
+    /// UnsupportedVersion, of version 1: document 02 reads it, so no reply has this class.
     Version,
     /// The reader's `todo!` at a value of this type, which is reply 7 for an unlisted one.
     Todo(u32),
