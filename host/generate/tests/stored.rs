@@ -64,8 +64,8 @@ fn break_each_word_once() {
         let those = stored.iter().filter(|list| list.is_allowed == is_allowed);
         those.map(|list| &list.label).collect::<BTreeSet<_>>()
     };
-    assert_eq!((labels(true).len(), labels(false).len()), (216, 70));
-    assert_eq!(stored.len(), 286);
+    assert_eq!((labels(true).len(), labels(false).len()), (216, 72));
+    assert_eq!(stored.len(), 288);
 }
 
 #[test]

@@ -113,7 +113,22 @@ pub const BREAKS: &[(&str, Plain)] = &[
         let bytes = parts::prototype(random, save, 2).bytes();
         Some(block_bytes(save.records.len(), bytes))
     }),
+    (
+        "(iii) with a placement of eight floats in version 1",
+        |random, save, _| (save.version == 1).then(|| with_floats(random, save, 8))?,
+    ),
+    (
+        "(iii) with a placement of seven floats, not in version 1",
+        |random, save, _| (save.version != 1).then(|| with_floats(random, save, 7))?,
+    ),
 ];
+
+/// A block with so many floats in its first placement.
+fn with_floats(random: &mut Random, save: &Save, count: usize) -> Option<Written> {
+    let floats = (0..count).flat_map(|_| corners::float(random).to_le_bytes());
+    let floats = floats.collect();
+    with_value(random, save, 0x19, |_| floats)
+}
 
 /// A prototype with a field or more, and something changed.
 fn prototype(
