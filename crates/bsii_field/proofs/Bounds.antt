@@ -53,4 +53,5 @@ shape-none (some (many k)) = (short 0 4, refl)
 
 pub value-moves : (version t : ℕ) (s : List ℕ) (at : ℕ) {n : ℕ} → Next n ≡ endOf (uncheckedValue version t at (drop at s)) → (at < n) × (n ≤ length s)
 unfolding uncheckedValue
-value-moves version t s at e = moved-on (unchecked-value-exact version t) (shape-none (shapeOf version t) .1) s at (next-is (uncheckedValue version t at (drop at s)) e .2)
+value-moves version t s at e =
+    moved-on (unchecked-value-exact version t) (shape-none (shapeOf version t) .1) s at (next-is (uncheckedValue version t at (drop at s)) e .2)

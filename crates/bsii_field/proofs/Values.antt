@@ -44,7 +44,8 @@ pub record ValueStep (version : ℕ) (s : List ℕ) (at type next end : ℕ) (vs
 module _ (version : ℕ) (s : List ℕ) (field at : ℕ) {l : Fields} {n : ℕ} {t : List ℕ} (read : fieldsParser field (drop field s) ≡ ok l n t)
     {vs : List DataValue} {m : ℕ} {u : List ℕ} (carried : dataValuesParser version (l .fields) at (drop at s) ≡ ok vs m u)
     {type a b next : ℕ} (e : Field type a b next ≡ entryOf (field + 8) (entryWith uncheckedStr field (drop field s))) where
-  step-of : (y : FieldTurn s field type a b next l n t) (w : Turn version (with (y .field) (take (next - field) (drop field s))) (y .rest .fields) s at vs m u)
+  step-of : (y : FieldTurn s field type a b next l n t)
+      (w : Turn version (with (y .field) (take (next - field) (drop field s))) (y .rest .fields) s at vs m u)
       → ValueStep version s at type next (w .end) vs n t m u
   step-of y w =
       let g = value-good (with (y .field) (take (next - field) (drop field s))) at (drop at s) (w .value) (w .end) (drop (w .end) s) (w .first) in

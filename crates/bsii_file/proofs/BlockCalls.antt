@@ -74,8 +74,11 @@ pub record WasFound (version : ℕ) (s : List ℕ) (last : List Prototype) (o : 
   pub parts : BlockIs version s last b block
   pub found : o ≡ some (record { number = b .number; of = block })
 
-was-found : {version : ℕ} {s : List ℕ} {last : List Prototype} {o : Option Numbered} {r : BlockAt} → Sought version s last o r → (b : Block) → r ≡ ABlock b → WasFound version s last o b
-was-found {version} {s} {last} {o} (sought {b = c} x i e) b z = let y : c ≡ b = cc in subst (WasFound version s last o) y (record { block = x; parts = i; found = e })
+was-found : {version : ℕ} {s : List ℕ} {last : List Prototype} {o : Option Numbered} {r : BlockAt} → Sought version s last o r → (b : Block) → r ≡ ABlock b
+    → WasFound version s last o b
+was-found {version} {s} {last} {o} (sought {b = c} x i e) b z =
+    let y : c ≡ b = cc in
+    subst (WasFound version s last o) y (record { block = x; parts = i; found = e })
 was-found (missed e) b z = let y : _≡_ {A = ℕ} 0 1 = cc in let f : ⊥ = omega arith in absurd f
 
 was-missed : {version : ℕ} {s : List ℕ} {last : List Prototype} {o : Option Numbered} {r : BlockAt} → Sought version s last o r → r ≡ NoBlock → o ≡ none

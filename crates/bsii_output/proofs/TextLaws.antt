@@ -40,7 +40,8 @@ stand-again : {version : ℕ} {s t : List ℕ} {rooms rows : ℕ} {last : List P
 stand-again w e = record { end = w .end; n = w .n; reads = w .reads; entered = e; lasts = w .lasts }
 
 module _ {version : ℕ} {s t : List ℕ} {rows : ℕ} {old : List ℕ} {e : ℕ} {t′ new : List ℕ} (h : BsiiWritten version s 8 t rows old (To e) t′ new) where
-  pub serves : {rooms : ℕ} {last : List Prototype} {rest : List Record} → WalkAt version s rooms rows last t 8 [] rest → WalkAt version s rooms rows last t′ 8 [] rest
+  pub serves : {rooms : ℕ} {last : List Prototype} {rest : List Record} → WalkAt version s rooms rows last t 8 [] rest
+      → WalkAt version s rooms rows last t′ 8 [] rest
   serves {rooms} {last} {rest} w = stand-again w (h .writes rooms last rest w .1)
 
   pub read-again : Readable version s 8 t rows → Readable version s 8 t′ rows
@@ -113,7 +114,8 @@ module _ {version : ℕ} (s t : List ℕ) (rows : ℕ) (old : List ℕ) {m : Tex
       go (gives x) a = absurd a
       go (refuses x) a = rw (a, untouched) refl
 
-  pub text-measured : {e : ℕ} → m ≡ To e → {r : TextReply} {new : List ℕ} → TextWritten version s t′ rows (lent ++ old) e r new → TextRead version s t rows old r new
+  pub text-measured : {e : ℕ} → m ≡ To e → {r : TextReply} {new : List ℕ} → TextWritten version s t′ rows (lent ++ old) e r new
+      → TextRead version s t rows old r new
   text-measured {e} z {r} {new} v = record { answers = λ rooms last rest w b. go rooms last rest w b (framedText last rest) refl (walk-by z h .writes rooms last rest w .0) }
     where
       go : (rooms : ℕ) (last : List Prototype) (rest : List Record) (w : WalkAt version s rooms rows last t 8 [] rest) → ((x : List ℕ) → framedText last rest ≡ gives x → length x < 0x4000_0000_0000_0000)

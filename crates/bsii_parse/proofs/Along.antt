@@ -58,7 +58,8 @@ unfolding behind
 behind-none (ok q at r) = refl
 behind-none (fault f) = refl
 
-pub along-start : {version : ℕ} (s : List ℕ) (start : ℕ) (t : List ℕ) → start ≤ length s → Along version s start t (record { at = start; rows = 0; blocks = 0 }) t
+pub along-start : {version : ℕ} (s : List ℕ) (start : ℕ) (t : List ℕ) → start ≤ length s
+    → Along version s start t (record { at = start; rows = 0; blocks = 0 }) t
 unfolding recordsBytes blockCount prototypesIn placed
 along-start {version} s start t h = record {
   so = [];
@@ -72,7 +73,8 @@ along-start {version} s start t h = record {
   rest = behind-none (recordsAt version (length t / 3) [] start s);
 }
 
-pub along-ready : {version : ℕ} {s : List ℕ} {start : ℕ} {t₀ : List ℕ} {p : Progress} {t : List ℕ} → length s ≤ lengthLimit → Along version s start t₀ p t → Ready s p t
+pub along-ready : {version : ℕ} {s : List ℕ} {start : ℕ} {t₀ : List ℕ} {p : Progress} {t : List ℕ} → length s ≤ lengthLimit → Along version s start t₀ p t
+    → Ready s p t
 along-ready h a = record { short = h; inside = a .inside; counted = a .counted; rows = a .kept .holds .valid; few = a .few }
 
 go≢end : {P : Type 0} {q : Progress} {n : ℕ} → _≡_ {A = ReadStep} (Go q) (End n) → P
@@ -110,7 +112,8 @@ module _ {version : ℕ} {s : List ℕ} {start : ℕ} {t₀ : List ℕ} {p : Pro
   from-here : {q : Result Records} → recordsAt version (length t / 3) (bare (defsFrom start (a .so))) (p .at) s ≡ q → recordsAt version (length t₀ / 3) [] start s ≡ behind (a .so) q
   from-here e = a .rest ∙ ap (behind (a .so)) (ap (λ m. recordsAt version m (bare (defsFrom start (a .so))) (p .at) s) (sym rooms) ∙ e)
 
-  pub along-step : {r : ReadStep} {t′ : List ℕ} → StepMeets version s p t (defsFrom start (a .so)) r t′ → {q : Progress} → r ≡ Go q → Further version s start t₀ p q t′
+  pub along-step : {r : ReadStep} {t′ : List ℕ} → StepMeets version s p t (defsFrom start (a .so)) r t′ → {q : Progress} → r ≡ Go q
+      → Further version s start t₀ p q t′
   unfolding blockCount
   along-step {t′ = t′} (passed i {n = n} {rows = rows} e on inside place kept size) z =
       let defs : defsFrom start (a .so ++ (i ∷ [])) ≡ consPrototype (p .at) i (defsFrom start (a .so)) =
@@ -155,7 +158,8 @@ module _ {version : ℕ} {s : List ℕ} {start : ℕ} {t₀ : List ℕ} {p : Pro
       let q : Records = record { records = a .so; end = l } in
       let all : recordsAt version (length t₀ / 3) [] start s ≡ ok q m (drop m s) = from-here e ∙ last l m in
       subst (λ k. Walks version s start t₀ (Done (record { version = version; rows = p .rows; blocks = p .blocks; next = k })) t) here
-      (subst (λ k. Walks version s start t₀ (Done (record { version = version; rows = p .rows; blocks = k; next = m })) t) (sym (a .blocks)) (done q all (a .kept) (a .size)))
+      (subst (λ k. Walks version s start t₀ (Done (record { version = version; rows = p .rows; blocks = k; next = m })) t) (sym (a .blocks))
+      (done q all (a .kept) (a .size)))
     where
       last : (l : List ℕ) (m : ℕ) → behind (a .so) (ok (record { records = []; end = l }) m (drop m s)) ≡ ok (record { records = a .so; end = l }) m (drop m s)
       last l m = unfold behind in ap (λ w. ok (record { records = w; end = l }) m (drop m s)) (append-nil (a .so))

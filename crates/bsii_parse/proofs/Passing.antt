@@ -76,7 +76,8 @@ module _ {version : ℕ} {s : List ℕ} {p : Progress} {t : List ℕ} {env : Lis
       let m = moved-on (record-exact version (bare env)) (record-empty version (bare env) 0) s (p .at) e in
       let g = record-good (bare env) (p .at) (drop (p .at) s) (more i) n (drop n s) e in
       passed i
-      (records-more version (length t / 3) (bare env) (p .at) s e h ∙ ap (λ z. behind (i ∷ []) (recordsAt version (length t / 3) z n s)) (sym (bare-cons (p .at) i env)))
+      (records-more version (length t / 3) (bare env) (p .at) s e h
+      ∙ ap (λ z. behind (i ∷ []) (recordsAt version (length t / 3) z n s)) (sym (bare-cons (p .at) i env)))
       (m .0) (m .1) (g .place) k l
 
   -- ---- by the head
@@ -129,7 +130,8 @@ module _ {version : ℕ} {s : List ℕ} {p : Progress} {t : List ℕ} {env : Lis
       unfolding blockCount consPrototype hasRoom
       block-passed {n} z =
           let x = found-at (DefinedAt s) (k .holds) id e f in
-          let y = record-block version (bare env) (p .at) (drop (p .at) s) h (x .1) (next-ended (block-exact version (x .0 .fields)) s at (sym z ∙ w .ends (x .0) (x .2))) in
+          let e = next-ended (block-exact version (x .0 .fields)) s at (sym z ∙ w .ends (x .0) (x .2)) in
+          let y = record-block version (bare env) (p .at) (drop (p .at) s) h (x .1) e in
           step-passed (block (y .0)) (y .1) refl k refl
 
 -- ---- the same for the code's answers
@@ -153,7 +155,9 @@ module _ {s : List ℕ} {p : Progress} {t : List ℕ} {id fields : ℕ} where
 
   module _ {c n : ℕ} (e : Counted-Fields c n ≡ countOf (fieldsParser fields (drop fields s))) {o : ℕ} (w : o ≡ p .at) {d : Defined} {t′ : List ℕ} (x : Defines s t (p .rows) id o d t′) where
     pub defining-full : d ≡ Full → Defining s p t id fields (Refused (refusedAt tableFull (p .at))) t′
-    defining-full f = record { steps = λ version env k name h. prototype-full h (counted-is s fields e .1) k f (subst (λ z. Defines s t (p .rows) id z d t′) w x) }
+    defining-full f = record {
+      steps = λ version env k name h. prototype-full h (counted-is s fields e .1) k f (subst (λ z. Defines s t (p .rows) id z d t′) w x);
+    }
 
     pub defining-passed : {rows : ℕ} → d ≡ Rows rows → Defining s p t id fields (Go (record { at = n; rows = rows; blocks = p .blocks })) t′
     defining-passed f = record { steps = λ version env k name h. prototype-passed h (counted-is s fields e .1) k f (subst (λ z. Defines s t (p .rows) id z d t′) w x) }
@@ -176,7 +180,8 @@ module _ {version : ℕ} {s : List ℕ} {p : Progress} {t : List ℕ} {h : HeadA
   pub stepped-bad : {f : Refusal} → h ≡ BadHead f → Stepped version s p t (Refused f) t
   stepped-bad z = record { steps = λ env k. step-head-fault (sym e ∙ ap (headIs s) z) }
 
-  pub stepped-defining : {id name next : ℕ} {r : ReadStep} {t′ : List ℕ} → h ≡ HeadPrototype id name next → Defining s p t id next r t′ → Stepped version s p t r t′
+  pub stepped-defining : {id name next : ℕ} {r : ReadStep} {t′ : List ℕ} → h ≡ HeadPrototype id name next → Defining s p t id next r t′
+      → Stepped version s p t r t′
   stepped-defining z d = record { steps = λ env k. d .steps version env k _ (sym e ∙ ap (headIs s) z) }
 
   pub stepped-carrying : {id next : ℕ} {r : ReadStep} → h ≡ HeadBlock id next → Carrying version s p t id next r → Stepped version s p t r t

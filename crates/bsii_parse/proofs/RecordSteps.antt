@@ -75,7 +75,8 @@ is-ok (ok a at t) e = (a, cc)
 is-ok (fault x) e = fault≢ok e
 
 module _ (version : ℕ) (env : List Prototype) (at : ℕ) (s : List ℕ) {id n : ℕ} {r : List ℕ} {p : Prototype} (e : headParser at s ≡ ok (carrying id) n r) (k : getPrototype id env ≡ some p) where
-  pub record-block-fault : {f : Fault} → ended ((idParser >>= (λ i. dataValuesParser version (p .fields))) n r) ≡ fault f → recordParser version env at s ≡ fault f
+  pub record-block-fault : {f : Fault} → ended ((idParser >>= (λ i. dataValuesParser version (p .fields))) n r) ≡ fault f
+      → recordParser version env at s ≡ fault f
   record-block-fault h = is-fault (recordParser version env at s) (block-ended version env at s e k ∙ h)
 
   is-block : {z : Step} {m : ℕ} {t : List ℕ} → recordParser version env at s ≡ ok z m t → (b : DataBlock) × (z ≡ more (block b)) × (b .prototypeId ≡ id)

@@ -52,7 +52,8 @@ records-fuel version rooms (suc n) (suc m) env at s h k =
 -- ---- the records from a position on, and one step of them
 
 module _ (version rooms : ℕ) (env : List Prototype) (at : ℕ) (s : List ℕ) where
-  unfolded : recordsAt version rooms env at s ≡ after (recordParser version env at (drop at s)) (recordsThen rooms env at (λ e. recordsFrom version rooms (length (drop at s)) e))
+  unfolded : recordsAt version rooms env at s
+      ≡ after (recordParser version env at (drop at s)) (recordsThen rooms env at (λ e. recordsFrom version rooms (length (drop at s)) e))
   unfolding recordsFrom
   unfolded = records-fuel version rooms (length (drop at s)) (suc (length (drop at s))) env at (drop at s) (omega arith) (omega arith)
 

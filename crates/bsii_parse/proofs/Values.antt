@@ -29,7 +29,8 @@ values-bind : (version : ℕ) (f : Consumed ValuePrototype) (fs : List (Consumed
 unfolding dataValuesParser dataValueParser _<$>_
 values-bind version f fs at s =
     ended-bind (dataValueParser version (f .value .typeId)) (valueParser version (f .value .typeId)) _ (λ v. dataValuesParser version fs) at s
-    (ended-map (dataValue (f .value .typeId)) (consumed (valueParser version (f .value .typeId))) at s ∙ ended-consumed (valueParser version (f .value .typeId)) at s)
+    (ended-map (dataValue (f .value .typeId)) (consumed (valueParser version (f .value .typeId))) at s
+    ∙ ended-consumed (valueParser version (f .value .typeId)) at s)
     (λ a b i r. ended-map (λ l. a ∷ l) (dataValuesParser version fs) i r)
 
 module _ (version : ℕ) (f : Consumed ValuePrototype) (fs : List (Consumed ValuePrototype)) (s : List ℕ) (at : ℕ) where
@@ -38,14 +39,17 @@ module _ (version : ℕ) (f : Consumed ValuePrototype) (fs : List (Consumed Valu
   value-next {e} h =
       alike (dataValuesParser version fs e (drop e s)) (dataValuesParser version (f ∷ fs) at (drop at s))
       (sym (values-bind version f fs at (drop at s)
-      ∙ ended-after {B = Unit {0}} (valueParser version (f .value .typeId) at (drop at s)) (ok tt e (drop e s)) (λ v. dataValuesParser version fs) (λ v. dataValuesParser version fs)
+      ∙ ended-after {B = Unit {0}} (valueParser version (f .value .typeId) at (drop at s)) (ok tt e (drop e s))
+      (λ v. dataValuesParser version fs) (λ v. dataValuesParser version fs)
       (next-ended (value-exact version (f .value .typeId)) s at h) (λ a b i r. refl)))
 
-  value-fault : {x : Refusal} → Fault x ≡ endOf (valueParser version (f .value .typeId) at (drop at s)) → Fault x ≡ endOf (dataValuesParser version (f ∷ fs) at (drop at s))
+  value-fault : {x : Refusal} → Fault x ≡ endOf (valueParser version (f .value .typeId) at (drop at s))
+      → Fault x ≡ endOf (dataValuesParser version (f ∷ fs) at (drop at s))
   unfolding _>>=_ after endOf ended
   value-fault {x} h =
       sym (end-ended (dataValuesParser version (f ∷ fs) at (drop at s)) ∙ ap endOf (values-bind version f fs at (drop at s)
-      ∙ ended-after {B = Unit {0}} (valueParser version (f .value .typeId) at (drop at s)) (fault (faultIs x)) (λ v. dataValuesParser version fs) (λ v. dataValuesParser version fs)
+      ∙ ended-after {B = Unit {0}} (valueParser version (f .value .typeId) at (drop at s)) (fault (faultIs x))
+      (λ v. dataValuesParser version fs) (λ v. dataValuesParser version fs)
       (fault-ended (valueParser version (f .value .typeId) at (drop at s)) h) (λ a b i r. refl)))
 
 values-none : (version at : ℕ) (s : List ℕ) → Next at ≡ endOf (dataValuesParser version [] at s)
@@ -107,7 +111,8 @@ module _ {version : ℕ} {s : List ℕ} {fields at : ℕ} where
         ∙ ap endOf (ended-after {B = Unit {0}} (idParser at (drop at s)) (fault (faultIs f)) (λ i. dataValuesParser version (l .fields)) (λ i. dataValuesParser version (l .fields)) (fault-ended (idParser at (drop at s)) e) (λ a b i r. refl)));
   }
 
-  pub block-values : {next : ℕ} {r : Parsed} → Next next ≡ endOf (idParser at (drop at s)) → ValuesEnd version s fields next r → BlockEnd version s fields at r
+  pub block-values : {next : ℕ} {r : Parsed} → Next next ≡ endOf (idParser at (drop at s)) → ValuesEnd version s fields next r
+      → BlockEnd version s fields at r
   unfolding _>>=_ after ended
   block-values {next} e v = record {
     ends = λ l n t h.

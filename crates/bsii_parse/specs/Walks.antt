@@ -122,7 +122,8 @@ pub data Walks (version : ℕ) (s : List ℕ) (start : ℕ) (t : List ℕ) : Wal
   done : (q : Records) {rows n : ℕ} {t′ : List ℕ} → recordsAt version (length t / 3) [] start s ≡ ok q n (drop n s)
       → Growing s t′ rows (prototypesIn (placed (λ r. length (recordBytes r)) start (q .records)) []) → length t′ ≡ length t
       → Walks version s start t (Done (totalsOf version rows (q .records) n)) t′
-  stopped : {f : Refusal} {t′ : List ℕ} → recordsAt version (length t / 3) [] start s ≡ fault (faultIs f) → length t′ ≡ length t → Walks version s start t (Stopped f) t′
+  stopped : {f : Refusal} {t′ : List ℕ} → recordsAt version (length t / 3) [] start s ≡ fault (faultIs f) → length t′ ≡ length t
+      → Walks version s start t (Stopped f) t′
 
 -- `Table t′ rows env` is what the table holds then
 pub data ReadAs (Table : List ℕ → ℕ → List (Placed Prototype) → Type 0) (s : List ℕ) (t : List ℕ) : Walked → List ℕ → Type 0 where

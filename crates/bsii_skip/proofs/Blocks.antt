@@ -53,6 +53,7 @@ turn {version} f fs s at {l} {n} {r} e =
     }
 
 -- no definition is left
-pub done : (version : ℕ) {at : ℕ} {s : List ℕ} {l : List DataValue} {n : ℕ} {r : List ℕ} → dataValuesParser version [] at s ≡ ok l n r → (l ≡ []) × (n ≡ at) × (r ≡ s)
+pub done : (version : ℕ) {at : ℕ} {s : List ℕ} {l : List DataValue} {n : ℕ} {r : List ℕ} → dataValuesParser version [] at s ≡ ok l n r
+    → (l ≡ []) × (n ≡ at) × (r ≡ s)
 unfolding dataValuesParser success
 done version e = (sym (ok-val e), sym (ok-at e), sym (ok-rest e))

@@ -69,5 +69,6 @@ pub elements-same : (k : Kind) (m at : ℕ) (s : List ℕ) {v : List Element} {n
     → endOf (repeat m (uncheckedElement k) at s) ≡ Next n
 elements-same k m = next (repeat-follows m (element-follows k))
 
-pub value-same : (version t at : ℕ) (s : List ℕ) {v : Value} {n : ℕ} {r : List ℕ} → valueParser version t at s ≡ ok v n r → endOf (uncheckedValue version t at s) ≡ Next n
+pub value-same : (version t at : ℕ) (s : List ℕ) {v : Value} {n : ℕ} {r : List ℕ} → valueParser version t at s ≡ ok v n r
+    → endOf (uncheckedValue version t at s) ≡ Next n
 value-same version t = next (value-follows version t)

@@ -160,7 +160,8 @@ module _ (version : ℕ) (s : List ℕ) (field lastField at here : ℕ) (out : L
         stop (some v) more e m a h = absurd a
 
     pub turn-on : {behind to : ℕ} {new : List ℕ} → FieldWritten version s at type (definition lastType name nameEnd) out here (More behind to) new
-        → (r : Written) (last : List ℕ) → FieldsWritten version s behind next lastNext new to r last → FieldsWritten version s at field lastField out here r last
+        → (r : Written) (last : List ℕ) → FieldsWritten version s behind next lastNext new to r last
+        → FieldsWritten version s at field lastField out here r last
     unfolding orRefuse
     turn-on {behind} {to} {new} w r last h = record {
       writes = λ l n t e m o u f vs i c k.
@@ -188,5 +189,6 @@ pair-by {s} {a} {b} e h = subst (PairOf s a b) e h
 pub field-by : {version : ℕ} {s : List ℕ} {at type : ℕ} {d : Definition} {old : List ℕ} {to : ℕ} {x r : Lines} {new : List ℕ} → x ≡ r → FieldWritten version s at type d old to x new → FieldWritten version s at type d old to r new
 field-by {version} {s} {at} {type} {d} {old} {to} {x} {r} {new} e h = subst (λ (y : Lines). FieldWritten version s at type d old to y new) e h
 
-pub turned-by : (version : ℕ) (s : List ℕ) (p : FieldPlace) (old new : List ℕ) {x r : FieldTurn} → x ≡ r → FieldTurned version s p old x new → FieldTurned version s p old r new
+pub turned-by : (version : ℕ) (s : List ℕ) (p : FieldPlace) (old new : List ℕ) {x r : FieldTurn} → x ≡ r → FieldTurned version s p old x new
+    → FieldTurned version s p old r new
 turned-by version s p old new e h = subst (λ (y : FieldTurn). FieldTurned version s p old y new) e h

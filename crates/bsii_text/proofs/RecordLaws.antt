@@ -127,7 +127,8 @@ finish s at rows old to rooms last env rest n b l (Go m r) new t (refuses f) a e
 finish s at rows old to rooms last env rest n b l (Refused g) new t (refuses f) a e w p q = refused (e ∙ ap refuses (sym a))
 finish s at rows old to rooms last env rest n b l End new t (refuses f) a e w p q = absurd a
 
-module _ {version : ℕ} (s : List ℕ) (at : ℕ) (t : List ℕ) (rows : ℕ) (old : List ℕ) (to : ℕ) (inside : at ≤ length s) {k : RecordKind} (e : KindAt s at k) where
+module _ {version : ℕ} (s : List ℕ) (at : ℕ) (t : List ℕ) (rows : ℕ) (old : List ℕ) (to : ℕ) (inside : at ≤ length s) {k : RecordKind}
+    (e : KindAt s at k) where
   here : (rooms : ℕ) (last env : List Prototype) (rest : List Record) (w : WalkAt version s rooms rows last t at env rest) → Accepted version rooms env at s (w .n) (w .end) rest
   here rooms last env rest w = accepted rooms env at s (w .n) (w .end) rest (w .reads)
 

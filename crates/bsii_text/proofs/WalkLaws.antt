@@ -27,7 +27,8 @@ use Rattle.bsii_text.specs.declared.records.Texts.the-variants.{To, Refu
 use Rattle.bsii_text.proofs.FieldLaws.{joined-none, joined-behind}
 
 -- the records from `at` on, with the text of those in front
-pub record Here (version : ℕ) (s : List ℕ) (rooms rows : ℕ) (last : List Prototype) (old : List ℕ) (to at here : ℕ) (t out : List ℕ) (whole : Reply (List ℕ)) : Type 0 where
+pub record Here (version : ℕ) (s : List ℕ) (rooms rows : ℕ) (last : List Prototype) (old : List ℕ) (to at here : ℕ)
+    (t out : List ℕ) (whole : Reply (List ℕ)) : Type 0 where
   pub env : List Prototype
   pub rest : List Record
   pub standing : WalkAt version s rooms rows last t at env rest
@@ -154,7 +155,8 @@ unfolding joined
 unframed old to p mid x y (gives t) g new h = absurd h
 unframed old to p mid x y (refuses f) g new h = h
 
-module _ {version : ℕ} (s : List ℕ) (start : ℕ) (t : List ℕ) (rows : ℕ) {old : List ℕ} {p : ℕ} {mid : List ℕ} (w : Wrote old 0x8000_0000_0000_0000 fileOpening p mid) where
+module _ {version : ℕ} (s : List ℕ) (start : ℕ) (t : List ℕ) (rows : ℕ) {old : List ℕ} {p : ℕ} {mid : List ℕ}
+    (w : Wrote old 0x8000_0000_0000_0000 fileOpening p mid) where
   pub file-written : {e : ℕ} {t′ out : List ℕ} → RecordsWritten version s start t rows mid p (To e) t′ out → {r : ℕ} {new : List ℕ} → Wrote out e closing r new → BsiiWritten version s start t rows old (To r) t′ new
   file-written {e} {t′} {out} h v = record {
     writes = λ rooms last rest x. let y = h .writes rooms last rest x in (framed w (recordsText valueText last start rest) e out (y .0) v, y .1);
@@ -162,7 +164,8 @@ module _ {version : ℕ} (s : List ℕ) (start : ℕ) (t : List ℕ) (rows : ℕ
     tableSize = h .tableSize;
   }
 
-  pub file-refused : {f : Refusal} {t′ new : List ℕ} → RecordsWritten version s start t rows mid p (Not f) t′ new → BsiiWritten version s start t rows old (Not f) t′ new
+  pub file-refused : {f : Refusal} {t′ new : List ℕ} → RecordsWritten version s start t rows mid p (Not f) t′ new
+      → BsiiWritten version s start t rows old (Not f) t′ new
   file-refused {f} {t′} {new} h = record {
     writes = λ rooms last rest x. (unframed old 0x8000_0000_0000_0000 p mid fileOpening closing (recordsText valueText last start rest) f new (h .writes rooms last rest x .0), tt);
     size = h .size ∙ same w;
@@ -171,4 +174,5 @@ module _ {version : ℕ} (s : List ℕ) (start : ℕ) (t : List ℕ) (rows : ℕ
 
 -- contracts at the case that was answered
 pub records-by : {version : ℕ} {s : List ℕ} {start : ℕ} {t : List ℕ} {rows : ℕ} {old : List ℕ} {to : ℕ} {x r : Texts} {t′ new : List ℕ} → x ≡ r → RecordsWritten version s start t rows old to x t′ new → RecordsWritten version s start t rows old to r t′ new
-records-by {version} {s} {start} {t} {rows} {old} {to} {x} {r} {t′} {new} e h = subst (λ (y : Texts). RecordsWritten version s start t rows old to y t′ new) e h
+records-by {version} {s} {start} {t} {rows} {old} {to} {x} {r} {t′} {new} e h =
+    subst (λ (y : Texts). RecordsWritten version s start t rows old to y t′ new) e h

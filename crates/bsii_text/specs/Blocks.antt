@@ -67,5 +67,6 @@ pub record SameFields (s : List ℕ) (inForce last fields lastFields : ℕ) (r :
 pub record BlockWritten (version : ℕ) (s : List ℕ) (offset id inForce last : ℕ) (old : List ℕ) (to : ℕ) (r : Written) (new : List ℕ) : Type 0 where
   pub writes : (p q : Prototype) → DefinedAt s inForce p → DefinedAt s last q → (b : DataBlock) → id ≡ offset + length (b .head)
       → (i : ℕ) → i ≡ id + length (b .id .raw) → idParser id (drop id s) ≡ ok (b .id .value) i (drop i s)
-      → (e : ℕ) → dataValuesParser version (p .fields) i (drop i s) ≡ ok (b .values) e (drop e s) → WrittenIs old to (blockText valueText offset (some q) b) e r new
+      → (e : ℕ) → dataValuesParser version (p .fields) i (drop i s) ≡ ok (b .values) e (drop e s)
+      → WrittenIs old to (blockText valueText offset (some q) b) e r new
   pub size : length new ≡ length old

@@ -35,10 +35,12 @@ StepIs old to (refuses f) n (Go at r) new = ⊥
 StepIs old to (refuses f) n End new = ⊥
 
 -- a block b at an offset, read up to e, where the table follows the walk
-pub record BlockStep (version : ℕ) (s : List ℕ) (offset : ℕ) (t : List ℕ) (rows prototypeId id : ℕ) (old : List ℕ) (to : ℕ) (r : WriteStep) (new : List ℕ) : Type 0 where
+pub record BlockStep (version : ℕ) (s : List ℕ) (offset : ℕ) (t : List ℕ) (rows prototypeId id : ℕ)
+    (old : List ℕ) (to : ℕ) (r : WriteStep) (new : List ℕ) : Type 0 where
   pub steps : (env last : List Prototype) → Entered (DefinedAt s) t rows env last → (p q : Prototype) → getPrototype prototypeId env ≡ some p → getPrototype prototypeId last ≡ some q
       → (b : DataBlock) → id ≡ offset + length (b .head) → (i : ℕ) → i ≡ id + length (b .id .raw) → idParser id (drop id s) ≡ ok (b .id .value) i (drop i s)
-      → (e : ℕ) → dataValuesParser version (p .fields) i (drop i s) ≡ ok (b .values) e (drop e s) → StepIs old to (blockText valueText offset (some q) b) e r new
+      → (e : ℕ) → dataValuesParser version (p .fields) i (drop i s) ≡ ok (b .values) e (drop e s)
+      → StepIs old to (blockText valueText offset (some q) b) e r new
   pub size : length new ≡ length old
 
 pub record PrototypeStep (s : List ℕ) (at : ℕ) (t : List ℕ) (rows id to : ℕ) (r : WriteStep) (t′ : List ℕ) : Type 0 where
@@ -48,7 +50,8 @@ pub record PrototypeStep (s : List ℕ) (at : ℕ) (t : List ℕ) (rows id to : 
 
 -- The records `rest` from `at` on: the first one i is passed and its text x written; or there is none left; or their text is refused.
 pub data Stepped (version : ℕ) (s : List ℕ) (rooms rows : ℕ) (last : List Prototype) (at : ℕ) (env : List Prototype) (rest : List Record) (old : List ℕ) (to : ℕ) : WriteStep → List ℕ → List ℕ → Type 0 where
-  went : (i : Record) (l : List Record) {n r : ℕ} {t new : List ℕ} (x : List ℕ) → WalkAt version s rooms rows last t n (define i env) l → at < n → n ≤ length s
+  went : (i : Record) (l : List Record) {n r : ℕ} {t new : List ℕ} (x : List ℕ) → WalkAt version s rooms rows last t n (define i env) l → at < n
+      → n ≤ length s
       → recordsText valueText last at rest ≡ joined (gives x) (recordsText valueText last n l) → Wrote old to x r new → Stepped version s rooms rows last at env rest old to (Go n r) t new
   ended : {t new : List ℕ} → rest ≡ [] → new ≡ old → Entered (DefinedAt s) t rows env last → Stepped version s rooms rows last at env rest old to End t new
   refused : {f : Refusal} {t new : List ℕ} → recordsText valueText last at rest ≡ refuses (faultIs f) → Stepped version s rooms rows last at env rest old to (Refused f) t new

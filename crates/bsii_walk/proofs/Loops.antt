@@ -26,7 +26,8 @@ use Rattle.bsii_walk.proofs.Parts.{block-parts}
 use Rattle.bsii_walk.proofs.Seeking.{Passed, Accepted, the-end, a-record, accepted}
 
 -- a walk stands at an offset, and this is known of the blocks in front of it
-pub record Here (version : ℕ) (s : List ℕ) (rooms rows : ℕ) (last : List Prototype) (at : ℕ) (t : List ℕ) (Q : List (Placed DataBlock) → Type 0) : Type 0 where
+pub record Here (version : ℕ) (s : List ℕ) (rooms rows : ℕ) (last : List Prototype) (at : ℕ) (t : List ℕ)
+    (Q : List (Placed DataBlock) → Type 0) : Type 0 where
   pub env : List Prototype
   pub rest : List Record
   pub standing : WalkAt version s rooms rows last t at env rest
@@ -65,14 +66,17 @@ block-is {version} {s} {at} env {n} {b} {p} {q} f g h x =
       head = c .head;
       idPlace = refl;
       id = c .id;
-      values = subst (λ (r : Prototype). dataValuesParser version (r .fields) i (drop i s) ≡ ok (b .values) n (drop n s)) (some-is (sym (c .found) ∙ f)) (c .values);
+      values = subst (λ (r : Prototype). dataValuesParser version (r .fields) i (drop i s) ≡ ok (b .values) n (drop n s)) (some-is (sym (c .found) ∙ f))
+          (c .values);
     }
   where
     some-is : {A : Type 0} {a b : A} → _≡_ {A = Option A} (some a) (some b) → a ≡ b
     some-is e = cc
 
-module _ {version : ℕ} {s : List ℕ} {at : ℕ} {t : List ℕ} {rows : ℕ} {m : Met} {t′ : List ℕ} (a : RecordAgain version s at t rows m t′) (inside : at ≤ length s) where
-  record-is : {rooms : ℕ} {last env : List Prototype} {rest : List Record} → WalkAt version s rooms rows last t at env rest → RecordIs version s rooms rows last at rest m t′
+module _ {version : ℕ} {s : List ℕ} {at : ℕ} {t : List ℕ} {rows : ℕ} {m : Met} {t′ : List ℕ} (a : RecordAgain version s at t rows m t′)
+    (inside : at ≤ length s) where
+  record-is : {rooms : ℕ} {last env : List Prototype} {rest : List Record} → WalkAt version s rooms rows last t at env rest
+      → RecordIs version s rooms rows last at rest m t′
   unfolding placed blocksIn define defineAll
   record-is {rooms} {last} {env} {rest} w = go refl (accepted rooms env at s (w .n) (w .end) rest (w .reads))
     where
@@ -125,7 +129,8 @@ pub record Over (version : ℕ) (s : List ℕ) (start : ℕ) (t₀ : List ℕ) (
   pub size : length t ≡ length t₀
   pub here : (rooms : ℕ) (last env : List Prototype) (rest : List Record) → WalkAt version s rooms rows last t₀ start env rest → Here version s rooms rows last at t (Q last (blocksFrom start rest))
 
-pub over-start : {version : ℕ} {s : List ℕ} {start : ℕ} {t₀ : List ℕ} {rows : ℕ} {Q : List Prototype → List (Placed DataBlock) → List (Placed DataBlock) → Type 0}
+pub over-start : {version : ℕ} {s : List ℕ} {start : ℕ} {t₀ : List ℕ} {rows : ℕ}
+    {Q : List Prototype → List (Placed DataBlock) → List (Placed DataBlock) → Type 0}
     → start ≤ length s → ((last : List Prototype) (l : List (Placed DataBlock)) → Q last l l) → Over version s start t₀ rows start t₀ Q
 over-start {start = start} h q = record {
   after = omega arith;
@@ -134,7 +139,8 @@ over-start {start = start} h q = record {
   here = λ rooms last env rest w. record { env = env; rest = rest; standing = w; known = q last (blocksFrom start rest) };
 }
 
-module _ {version : ℕ} {s : List ℕ} {start : ℕ} {t₀ : List ℕ} {rows at : ℕ} {t : List ℕ} {Q : List Prototype → List (Placed DataBlock) → List (Placed DataBlock) → Type 0}
+module _ {version : ℕ} {s : List ℕ} {start : ℕ} {t₀ : List ℕ} {rows at : ℕ} {t : List ℕ}
+    {Q : List Prototype → List (Placed DataBlock) → List (Placed DataBlock) → Type 0}
     (o : Over version s start t₀ rows at t Q) where
   pub over-stood : Stood version s start t₀ rows → Stood version s at t rows
   over-stood w =
@@ -196,7 +202,8 @@ module _ {version : ℕ} {s : List ℕ} {start : ℕ} {t₀ : List ℕ} {rows at
     size = a .size ∙ o .size;
   }
 
-  pub cursor-block : {i u v n : ℕ} → m ≡ MetBlock i u v n → NextBlock version s start t₀ rows (ABlock (record { at = at; id = i; under = u; last = v; next = n })) t′
+  pub cursor-block : {i u v n : ℕ} → m ≡ MetBlock i u v n
+      → NextBlock version s start t₀ rows (ABlock (record { at = at; id = i; under = u; last = v; next = n })) t′
   cursor-block z = record {
     next = λ rooms last env rest w.
         let h = o .here rooms last env rest w in

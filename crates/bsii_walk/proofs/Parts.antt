@@ -71,7 +71,8 @@ module _ (version : ℕ) (env : List Prototype) (s : List ℕ) (at n : ℕ) wher
   block-body b p = rw (p .id) (p .values)
 
   -- the end record
-  pub end-head : (l u : List ℕ) → recordParser version env at (drop at s) ≡ ok (end l) n u → (m : ℕ) × (r : List ℕ) × (headParser at (drop at s) ≡ ok ending m r)
+  pub end-head : (l u : List ℕ) → recordParser version env at (drop at s) ≡ ok (end l) n u
+      → (m : ℕ) × (r : List ℕ) × (headParser at (drop at s) ≡ ok ending m r)
   unfolding stepBytes
   end-head l u e =
       let g = record-good env at (drop at s) (end l) n u e in

@@ -37,7 +37,8 @@ module _ {version : ℕ} (rooms : ℕ) (env : List Prototype) (at : ℕ) (s : Li
       takes (prototype p) g = rw length-append (omega (arith, head-takes (g .head)))
       takes (block b) g = rw length-append (omega (arith, head-takes (g .head)))
 
-  pub accepted : (rest : List Record) → recordsAt version rooms env at s ≡ ok (record { records = rest; end = e }) n (drop n s) → Accepted version rooms env at s n e rest
+  pub accepted : (rest : List Record) → recordsAt version rooms env at s ≡ ok (record { records = rest; end = e }) n (drop n s)
+      → Accepted version rooms env at s n e rest
   unfolding behind
   accepted rest h = go (recordParser version env at (drop at s)) refl
     where

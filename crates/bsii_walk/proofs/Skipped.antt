@@ -31,7 +31,8 @@ use Rattle.bsii_walk.specs.Again.{ValuesSkipped, BlockSkipped}
 pub record InPast (version : ℕ) (s : List ℕ) (fields start field at : ℕ) : Type 0 where
   pub rest : (l : Fields) (n : ℕ) (t : List ℕ) → fieldsParser fields (drop fields s) ≡ ok l n t
       → (v : List DataValue) (m : ℕ) (u : List ℕ) → dataValuesParser version (l .fields) start (drop start s) ≡ ok v m u
-      → (k : Fields) × (fieldsParser field (drop field s) ≡ ok k n t) × (w : List DataValue) × (dataValuesParser version (k .fields) at (drop at s) ≡ ok w m u)
+      → (k : Fields) × (fieldsParser field (drop field s) ≡ ok k n t) × (w : List DataValue)
+      × (dataValuesParser version (k .fields) at (drop at s) ≡ ok w m u)
 
 pub past-start : {version : ℕ} {s : List ℕ} {fields start : ℕ} → InPast version s fields start fields start
 past-start = record { rest = λ l n t e v m u f. (l, e, v, f) }
@@ -45,7 +46,8 @@ module _ {version : ℕ} {s : List ℕ} {fields start field at : ℕ} (i : InPas
         ap Next (sym (done version none .1));
   }
 
-  pub past-bad : {x : Refusal} → Bad x ≡ entryOf (field + 8) (entryWith uncheckedStr field (drop field s)) → (r : Parsed) → ValuesSkipped version s fields start r
+  pub past-bad : {x : Refusal} → Bad x ≡ entryOf (field + 8) (entryWith uncheckedStr field (drop field s)) → (r : Parsed)
+      → ValuesSkipped version s fields start r
   past-bad e r = record { ends = λ l n t h v m u f. turn-bad s field (i .rest l n t h v m u f .1) e }
 
   module _ {type a b next : ℕ} (e : Field type a b next ≡ entryOf (field + 8) (entryWith uncheckedStr field (drop field s))) where

@@ -66,7 +66,8 @@ pub record BlockMet (s : List ℕ) (idAt n : ℕ) (p q : Prototype) (r : Met) : 
 
 pub record BlockAgain (version : ℕ) (s : List ℕ) (idAt : ℕ) (t : List ℕ) (rows id : ℕ) (r : Met) : Type 0 where
   pub meets : (env last : List Prototype) → Entered (DefinedAt s) t rows env last → (p q : Prototype) → getPrototype id env ≡ some p → getPrototype id last ≡ some q
-      → (v : List DataValue) (n : ℕ) (u : List ℕ) → (idParser >>= (λ i. dataValuesParser version (p .fields))) idAt (drop idAt s) ≡ ok v n u → BlockMet s idAt n p q r
+      → (v : List DataValue) (n : ℕ) (u : List ℕ) → (idParser >>= (λ i. dataValuesParser version (p .fields))) idAt (drop idAt s) ≡ ok v n u
+      → BlockMet s idAt n p q r
 
 -- one record that was accepted under the definitions so far, up to n
 pub data Meets (s : List ℕ) (at rows : ℕ) (env last : List Prototype) (n : ℕ) : Record → Met → List ℕ → Type 0 where

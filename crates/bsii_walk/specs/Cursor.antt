@@ -21,7 +21,8 @@ abbrev pub blocksFrom : ℕ → List Record → List (Placed DataBlock)
 blocksFrom at l = blocksIn (placed (λ r. length (recordBytes r)) at l)
 
 -- The walk at an offset: `env` is the definitions so far, `rest` the records from here on, which are accepted; the table follows.
-pub record WalkAt (version : ℕ) (s : List ℕ) (rooms rows : ℕ) (last : List Prototype) (t : List ℕ) (at : ℕ) (env : List Prototype) (rest : List Record) : Type 0 where
+pub record WalkAt (version : ℕ) (s : List ℕ) (rooms rows : ℕ) (last : List Prototype) (t : List ℕ) (at : ℕ)
+    (env : List Prototype) (rest : List Record) : Type 0 where
   pub end : List ℕ
   pub n : ℕ
   pub reads : recordsAt version rooms env at s ≡ ok (record { records = rest; end = end }) n (drop n s)
@@ -73,5 +74,6 @@ NextIs version s rooms rows last at rest (ABlock b) t = Ahead version s rooms ro
 NextIs version s rooms rows last at rest NoBlock t = (blocksFrom at rest ≡ []) × Entered (DefinedAt s) t rows [] last
 
 pub record NextBlock (version : ℕ) (s : List ℕ) (at : ℕ) (t : List ℕ) (rows : ℕ) (r : BlockAt) (t′ : List ℕ) : Type 0 where
-  pub next : (rooms : ℕ) (last env : List Prototype) (rest : List Record) → WalkAt version s rooms rows last t at env rest → NextIs version s rooms rows last at rest r t′
+  pub next : (rooms : ℕ) (last env : List Prototype) (rest : List Record) → WalkAt version s rooms rows last t at env rest
+      → NextIs version s rooms rows last at rest r t′
   pub size : length t′ ≡ length t

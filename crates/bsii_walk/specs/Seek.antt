@@ -71,7 +71,8 @@ pub record Readable (version : ℕ) (s : List ℕ) (start : ℕ) (t : List ℕ) 
 
 -- the whole search
 pub data Sought (version : ℕ) (s : List ℕ) (last : List Prototype) (o : Option Numbered) : BlockAt → Type 0 where
-  sought : {b : Block} (x : Placed DataBlock) → BlockIs version s last b x → o ≡ some (record { number = b .number; of = x }) → Sought version s last o (ABlock b)
+  sought : {b : Block} (x : Placed DataBlock) → BlockIs version s last b x → o ≡ some (record { number = b .number; of = x })
+      → Sought version s last o (ABlock b)
   missed : o ≡ none → Sought version s last o NoBlock
 
 pub record Seeks (version : ℕ) (s : List ℕ) (start : ℕ) (t : List ℕ) (rows : ℕ) (any : Bool) (name : List ℕ) (k : ℕ) (r : BlockAt) : Type 0 where

@@ -14,7 +14,8 @@ use Rattle.bsii_text.proofs.blocks.write_fields.Tie as tie
 
 abbrev Inv-loop : tie.InvT-loop
 Inv-loop out₀ to s version start fields last-fields p₀ out p =
-    ((r : Written) (new : List ℕ) → FieldsFrom version s p out r new → FieldsWritten version s start fields last-fields out₀ to r new) × (length out ≡ length out₀)
+    ((r : Written) (new : List ℕ) → FieldsFrom version s p out r new → FieldsWritten version s start fields last-fields out₀ to r new)
+    × (length out ≡ length out₀)
 
 abbrev μ-loop : tie.MeasureT-loop
 μ-loop out₀ to s version start fields last-fields p₀ out p = length s - p .field
