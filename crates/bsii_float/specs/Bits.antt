@@ -30,7 +30,15 @@ abbrev pub vec4Of : Bits4 → Vec4
 vec4Of v = record { a = ofBits binary32 (v .a); b = ofBits binary32 (v .b); c = ofBits binary32 (v .c); d = ofBits binary32 (v .d) }
 
 abbrev pub vec7Of : Bits7 → Vec7
-vec7Of v = record { a = ofBits binary32 (v .a); b = ofBits binary32 (v .b); c = ofBits binary32 (v .c); d = ofBits binary32 (v .d); e = ofBits binary32 (v .e); f = ofBits binary32 (v .f); g = ofBits binary32 (v .g) }
+vec7Of v = record {
+  a = ofBits binary32 (v .a);
+  b = ofBits binary32 (v .b);
+  c = ofBits binary32 (v .c);
+  d = ofBits binary32 (v .d);
+  e = ofBits binary32 (v .e);
+  f = ofBits binary32 (v .f);
+  g = ofBits binary32 (v .g);
+}
 
 abbrev pub placementOf : PlacementBits → Placement
 placementOf v = record { a = ofBits binary32 (v .a); b = ofBits binary32 (v .b); c = ofBits binary32 (v .c); d = ofBits binary32 (v .d); e = ofBits binary32 (v .e); f = ofBits binary32 (v .f); g = ofBits binary32 (v .g); h = ofBits binary32 (v .h) }
@@ -46,7 +54,15 @@ abbrev pub bits4At : List ℕ → Bits4
 bits4At s = record { a = numberAt 4 s 0; b = numberAt 4 s 4; c = numberAt 4 s 8; d = numberAt 4 s 12 }
 
 abbrev pub bits7At : List ℕ → Bits7
-bits7At s = record { a = numberAt 4 s 0; b = numberAt 4 s 4; c = numberAt 4 s 8; d = numberAt 4 s 12; e = numberAt 4 s 16; f = numberAt 4 s 20; g = numberAt 4 s 24 }
+bits7At s = record {
+  a = numberAt 4 s 0;
+  b = numberAt 4 s 4;
+  c = numberAt 4 s 8;
+  d = numberAt 4 s 12;
+  e = numberAt 4 s 16;
+  f = numberAt 4 s 20;
+  g = numberAt 4 s 24;
+}
 
 abbrev pub placementBitsAt : List ℕ → PlacementBits
 placementBitsAt s = record { a = numberAt 4 s 0; b = numberAt 4 s 4; c = numberAt 4 s 8; d = numberAt 4 s 12; e = numberAt 4 s 16; f = numberAt 4 s 20; g = numberAt 4 s 24; h = numberAt 4 s 28 }

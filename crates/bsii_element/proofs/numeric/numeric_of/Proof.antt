@@ -179,7 +179,8 @@ unfolding arity width numericDatum numbersAt
 returns-5 c =
     let told = c .before .before in
     let a = told .before .before .before .args in
-    ap (λ (v : Vec7). elementIs (FloatVec7 v)) (c .vec7-of .ensures ∙ ap vec7Of (c .before .bits7-at .ensures)) ∙ ap (Answer (now (a .raw))) (sym (told .enum-told5 .given .1))
+    ap (λ (v : Vec7). elementIs (FloatVec7 v)) (c .vec7-of .ensures ∙ ap vec7Of (c .before .bits7-at .ensures))
+    ∙ ap (Answer (now (a .raw))) (sym (told .enum-told5 .given .1))
 
 returns-6 : tie.Need-returns-6
 unfolding arity width numericDatum numbersAt
