@@ -6,6 +6,9 @@ use differential::report::Tally;
 use generate::bytes::one_value;
 use generate::Random;
 use model::Model;
+use texts::store;
+
+mod texts;
 
 /// What an impostor does; otherwise it answers like the model.
 #[derive(Clone, Copy, Debug, PartialEq)]
@@ -501,15 +504,7 @@ impl Impostor {
 /// Another text than the one that was written, if there is room for it.
 fn in_place_of_text(text: &[u8], out: &mut [u8], before: &[u8]) -> Text {
     out.copy_from_slice(before);
-    let fits = text.len() <= out.len();
-    if fits {
-        out[..text.len()].copy_from_slice(text);
-    }
-    Text {
-        number: if fits { 0 } else { 11 },
-        length: text.len() as u64,
-        ..Text::default()
-    }
+    store(text, out)
 }
 
 /// The labels of the differences in so many files.

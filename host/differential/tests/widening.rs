@@ -1,11 +1,14 @@
 //! The run over lists of insertions has to find each of these wrong implementations out.
 
-use calls::{Answer, Call, Field, Implementation, Lent, Reading, Text};
+use calls::{Answer, Call, Field, Implementation, Lent, Reading};
 use differential::report::Tally;
 use differential::widening::{first_unlisted, run, Widenings};
 use generate::save::{Record, Save};
 use generate::widening::{widening, Insertion, Widening};
 use model::Model;
+use texts::store;
+
+mod texts;
 
 /// What an impostor does to a save with insertions; otherwise it answers like the model.
 #[derive(Clone, Copy, Debug, PartialEq)]
@@ -120,18 +123,6 @@ impl Implementation for Impostor {
             }
             (answer, _) => answer,
         }
-    }
-}
-
-fn store(text: &[u8], out: &mut [u8]) -> Text {
-    let fits = text.len() <= out.len();
-    if fits {
-        out[..text.len()].copy_from_slice(text);
-    }
-    Text {
-        number: if fits { 0 } else { 11 },
-        length: text.len() as u64,
-        ..Text::default()
     }
 }
 
