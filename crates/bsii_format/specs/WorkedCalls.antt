@@ -107,14 +107,21 @@ sevenFile version = fileOf version (prototypeRecord 2 (ascii "j") (definition 0x
 unfoldable pub sevenText : List ℕ
 sevenText = ascii "SiiNunit\n{\nj : null {\n  w: (1, -0, -0) (&7f800002; 0, &3fc00000, -2)\n}\n}\n"
 
--- an array of two
+-- an array of two, the second one with seven unlike numbers: the bits of -0, 1.5, a NaN, -2, 1, 0.5, 0
 unfoldable pub sevensPart : List ℕ
-sevensPart = u32 2 ++ sevenPart ++ sevenPart
+sevensPart =
+    u32 2 ++ sevenPart
+    ++ u32 0x8000_0000 ++ u32 0x3fc0_0000 ++ u32 0x7f80_0001 ++ u32 0xc000_0000 ++ u32 0x3f80_0000 ++ u32 0x3f00_0000 ++ u32 0
 
 -- 115 bytes: a block of prototype 2 at 44, with the array at 49 and a bool `b` behind it at 109
 unfoldable pub sevensFile : List ℕ
 sevensFile =
     fileOf 1 (prototypeRecord 2 (ascii "j") (definition 0x1a (ascii "w") ++ definition 0x35 (ascii "b")) ++ u32 2 ++ le 1 0 ++ sevensPart ++ le 1 1)
+
+unfoldable pub sevensText : List ℕ
+sevensText =
+    ascii "SiiNunit\n{\nj : null {\n  w: 2\n  w[0]: (1, -0, -0) (&7f800002; 0, &3fc00000, -2)\n"
+    ++ ascii "  w[1]: (-0, &3fc00000, &7f800001) (-2; 1, &3f000000, 0)\n  b: true\n}\n}\n"
 
 -- prototype 1 with the definitions `first`; a block of it with the u32 5; prototype 1 again, with the definitions `last`
 abbrev pub againFile : List ℕ → List ℕ → List ℕ
@@ -292,7 +299,7 @@ elements =
     elementCall 2 0x18 (u32 1 ++ fourBits) 0 says gives (dFloatVec4 one oneAndHalf minusTwo minusZero) ∷
     elementCall 2 0x19 (fourBits ++ fourBits) 0 says gives (dFloatVec8 one oneAndHalf minusTwo minusZero one oneAndHalf minusTwo minusZero) ∷
     elementCall 1 0x19 sevenPart 0 says gives (dFloatVec7 one minusZero minusZero nan zero oneAndHalf minusTwo) ∷
-    elementCall 1 0x1a sevensPart 1 says gives (dFloatVec7 one minusZero minusZero nan zero oneAndHalf minusTwo) ∷
+    elementCall 1 0x1a sevensPart 1 says gives (dFloatVec7 minusZero oneAndHalf nan minusTwo one half zero) ∷
     elementCall 1 0x18 (u32 1 ++ fourBits) 0 says gives (dFloatVec4 one oneAndHalf minusTwo minusZero) ∷
     elementCall 2 0x25 (u32 0xffff_fffe) 0 says gives (dInt32 (negsuc 1)) ∷
     elementCall 2 0x11 (u32 1 ++ u32 0xffff_ffff ++ u32 0x8000_0000) 0 says gives (dInt32Vec3 (pos 1) (negsuc 0) (negsuc 0x7fff_ffff)) ∷
@@ -359,6 +366,7 @@ texts =
     textCall 3 enumFile (replicate 36 1) says written (ascii "SiiNunit\n{\np : null {\n  e: high\n}\n}\n") [] ∷
     textCall 3 vectorsFile (replicate 80 1) says written vectorsText (1 ∷ []) ∷
     textCall 3 (sevenFile 1) (replicate 74 1) says written sevenText (1 ∷ []) ∷
+    textCall 3 sevensFile (replicate 151 1) says written sevensText (1 ∷ []) ∷
     textCall 3 recountedFile [] says unwritten fieldCount 44 0 [] ∷
     textCall 3 unlistedEnumFile [] says unwritten enumValue 65 0 [] ∷
     textCall 3 (againFile fiveField (definition 0x37 (ascii "e") ++ u32 0 ++ plainField)) [] says unwritten fieldCount 51 0 [] ∷

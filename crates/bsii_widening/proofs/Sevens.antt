@@ -15,7 +15,7 @@ use Rattle.bsii_widening.specs.Insertions.{AllAllowed}
 use Rattle.bsii_widening.specs.Marks.{markRecords}
 use Rattle.bsii_widening.specs.Parts.{renumber}
 use Rattle.bsii_widening.specs.Claim.{OldSave, Room, StillConverts, newText, widened, newFile}
-use Rattle.bsii_widening.specs.Sevens.{sevenSave, sevens, sevensText, eight}
+use Rattle.bsii_widening.specs.Sevens.{sevenSave, sevens, widenedText, eight}
 use Rattle.bsii_widening.proofs.Computes.{computesAll}
 use Rattle.bsii_widening.proofs.Decided.{allowed, allowed-proves}
 use Rattle.bsii_widening.proofs.Demand3.{demand3}
@@ -35,11 +35,11 @@ room = record { file = lit≤ tt; table = lit≤ tt }
 pub sevens-convert : StillConverts 3 (sevenFile 1) (replicate 73 0) sevenSave [] 73 6 (widened sevenSave sevens)
 sevens-convert = demand3 3 (sevenFile 1) (replicate 73 0) sevenSave 73 [] 73 old-save sevens sevens-allowed 6 .1 room
 
-pub sevens-text : newText valueText (widened sevenSave sevens) ≡ sevensText
+pub sevens-text : newText valueText (widened sevenSave sevens) ≡ widenedText
 unfolding computesAll
 sevens-text = refl
 
--- the placement of the old block, number 1 now, was found at 40
+-- the placement of the old block, which is number 1 there, was found at 40
 pub seven-found : fieldCall 6 (newFile sevenSave [] (widened sevenSave sevens)) (renumber (widened sevenSave sevens) 0) (ascii "w") ≡ carries 0x19 169 sevenPart
 unfolding computesAll
 seven-found = refl

@@ -24,10 +24,10 @@ sevens =
     madeAll 1 (arrayField sevensPart ∷ prototypeAt 0 (prototypeRecord 9 (ascii "p") (definition 0x19 (ascii "q"))) ∷ blockAt 1 (u32 9 ++ le 1 0 ++ sevenPart) ∷ [])
     (markRecords (sevenSave .records))
 
-unfoldable pub sevensText : List ℕ
-sevensText =
+unfoldable pub widenedText : List ℕ
+widenedText =
     ascii "SiiNunit\n{\np : null {\n  q: (1, -0, -0) (&7f800002; 0, &3fc00000, -2)\n}\nj : null {\n  v: 2\n  v[0]: (1, -0, -0) (&7f800002; 0, &3fc00000, -2)\n"
-    ++ ascii "  v[1]: (1, -0, -0) (&7f800002; 0, &3fc00000, -2)\n  w: (1, -0, -0) (&7f800002; 0, &3fc00000, -2)\n}\n}\n"
+    ++ ascii "  v[1]: (-0, &3fc00000, &7f800001) (-2; 1, &3f000000, 0)\n  w: (1, -0, -0) (&7f800002; 0, &3fc00000, -2)\n}\n}\n"
 
 -- the array with one placement of eight f32: well-formed in version 2, and not in this save
 unfoldable pub eight : List Insertion
