@@ -108,7 +108,8 @@ fn answer(content: &[u8], question: &Question, output: Option<&Path>) -> Result<
             writeln!(out, "prototypes {}", file.prototype_count())?;
             writeln!(out, "blocks {}", file.block_count())?;
             writeln!(out, "bytes {}", content.len())?;
-            writeln!(out, "end {}", file.end())
+            writeln!(out, "end {}", file.end())?;
+            writeln!(out, "version {}", file.version())
         }),
         Question::Prototype(id) => {
             let prototype = file.get_prototype(*id)?;
