@@ -1,5 +1,5 @@
 -- Numbers in files: document 01, "Integers in files are little-endian"; FORMAT.md, "Numbers".
-use Prim.Native.Nat.{ℕ, _+_, _*_}
+use Prim.Native.Nat.{ℕ, zero, suc, _+_, _*_, _/_, _%_}
 use mathlib.Core.Bool.{cond}
 use mathlib.Core.List.{List, [], _∷_}
 use lib.Dec.{ltb}
@@ -22,6 +22,11 @@ leU32 = number 4
 
 abbrev pub leU64 : Reader ℕ
 leU64 = number 8
+
+-- n in w bytes, the low ones where it has more
+unfoldable pub le : ℕ → ℕ → List ℕ
+le zero n = []
+le (suc w) n = n % 256 ∷ le w (n / 256)
 
 -- i32 and i64, two's complement: `half` is 2^31 or 2^63
 unfoldable pub signed : ℕ → ℕ → ℤ

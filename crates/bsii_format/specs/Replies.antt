@@ -1,4 +1,4 @@
--- Refusals: document 01, "Replies in number order"; document 02, E2 and E12; FORMAT.md, "Replies".
+-- Refusals: document 01, "Replies in number order"; document 02, E1, E2 and E12; FORMAT.md, "Replies".
 use Prim.Native.Nat.{ℕ}
 
 -- The numbers, each with its trade word. Where a refusal is given, and its offset, is said where it is used. 2 has no name: "Reply 2 is retired and never
@@ -39,6 +39,9 @@ inputLong = 12
 
 abbrev pub absent : ℕ  -- absent
 absent = 13
+
+abbrev pub misfit : ℕ  -- misfit
+misfit = 14
 
 abbrev pub badMark : ℕ  -- mark
 badMark = 15

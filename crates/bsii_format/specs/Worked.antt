@@ -1,20 +1,16 @@
 -- Document 01's "Worked bytes": the file of 82 bytes with its text of 73, and the cases marked * as one table. proofs/Worked.antt computes
 -- them; FORMAT.md, "A worked file", goes through the same bytes.
-use Prim.Native.Nat.{ℕ, zero, suc, _/_, _%_}
+use Prim.Native.Nat.{ℕ}
 use mathlib.Core.Path.{_≡_}
 use mathlib.Core.List.{List, [], _∷_, _++_, map}
 use Rattle.bsii_format.specs.Ascii.{ascii}
 use Rattle.bsii_format.specs.Replies.{Reply, gives, refuses, refusal, zeroDigit, enumValue, absent}
 use Rattle.bsii_format.specs.Reader.{Result, ok, fault}
+unfoldable pub use Rattle.bsii_format.specs.Numbers.{le}
 use Rattle.bsii_format.specs.Strings.{characters, low63}
 use Rattle.bsii_format.specs.Values.{Value, single, array, valueParser}
 use Rattle.bsii_format.specs.Text.{elementText}
 use Rattle.bsii_format.specs.BlockText.{orRefuse}
-
--- n in w bytes, little-endian
-unfoldable pub le : ℕ → ℕ → List ℕ
-le zero n = []
-le (suc w) n = n % 256 ∷ le w (n / 256)
 
 abbrev pub u32 : ℕ → List ℕ
 u32 = le 4
