@@ -19,7 +19,7 @@ use Rattle.bsii_format.specs.Blocks.{DataBlock, findBy, getPrototype}
 use Rattle.bsii_format.specs.File.{Record, block, recordBytes, recordsBytes, headerParser, BsiiFile, lengthLimit, parse, fileBytes, defineAll, distinctIds, prototypesOf}
 use Rattle.bsii_format.specs.BlockText.{orRefuse}
 use Rattle.bsii_format.specs.Calls.{ofFile, orAbsent, Placed, placed, placedRecords, blocksOf, Reading, readingOf, readingCall, fieldUnder, fieldIn, fieldAnswer, fieldOf, fieldCall}
-use Rattle.bsii_format.proofs.Readers.{Fits, ok-move, after-ok, cond-ok, is-true, takes, same→eq, same-refl}
+use Rattle.bsii_format.proofs.Readers.{Fits, ok-val, ok-move, after-ok, cond-ok, is-true, takes, same→eq, same-refl}
 use Rattle.bsii_format.proofs.File.{GoodFile, FileTaken, file-good, parse-ok, parse-fits}
 use Rattle.bsii_format.proofs.ReplyLaws.{refuses≢gives, gives-inj}
 use Rattle.bsii_derived.specs.Index.{IndexRecord, indexRecord, indexOf, indexBytes, indexBytesOf, recordAt, agreeing}
@@ -142,8 +142,17 @@ module _ {f : BsiiFile} {s r : List ℕ} (d : Read f s r) where
           ap (fieldBy s name) (record-there w (indexOf f) k e (entry-held w h (d .short) b p i)) ∙ looked name b p i
           ∙ rw (g, i .lasting o) refl
 
+pub looks-as-walk : {f : BsiiFile} {s r : List ℕ} → Read f s r → (w : ℕ) → Wide w → once (prototypesOf (f .records)) ≡ true → (k : ℕ) (name : List ℕ)
+    → indexFieldCall w s (indexBytesOf w f) k name ≡ orAbsent (fieldOf k name f)
+unfolding indexFieldCall
+looks-as-walk {s = s} d w h o k name = rw (is-true (leb (length s) lengthLimit) (le→leb (length s) lengthLimit (d .short))) (by-entry d w h o k name)
+
+-- an index that fits is the one of the file
+pub fits-file : (w words : ℕ) (s i : List ℕ) → checkIndexCall w words s i ≡ gives tt → {f : BsiiFile} {at : ℕ} {r : List ℕ} → parse words s ≡ ok f at r → i ≡ indexBytesOf w f
+fits-file w words s i e q = let x = checks-exactly w words s i .0 e in x .4 ∙ ap (indexBytesOf w) (ok-val (sym (x .3) ∙ q))
+
 pub answers-as-walk : AnswersAsWalk
-unfolding indexFieldCall fieldCall definesOnceCall readingCall readingOf ofFile
+unfolding fieldCall definesOnceCall readingCall readingOf ofFile
 answers-as-walk w h words s i e o a g words′ m k name =
     let x = checks-exactly w words s i .0 e in
     go (x .0) (x .1) (x .2) (x .3) (x .4)
@@ -161,4 +170,4 @@ answers-as-walk w h words s i e o a g words′ m k name =
         let c : a ≡ readingOf f at = sym (gives-inj (sym (ap (ofFile (λ f at. gives (readingOf f at))) q) ∙ g)) in
         let t = once-is (once (prototypesOf (f .records))) (sym (ap (ofFile (λ f at. gives (cond (once (prototypesOf (f .records))) 1 0))) q) ∙ o) in
         let room : distinctIds (prototypesOf (f .records)) ≤ words′ / 3 = div-room (subst (λ (y : Reading). 3 * y .prototypes ≤ words′) c m) in
-        rw (z, is-true (leb (length s) lengthLimit) (le→leb (length s) lengthLimit (d .short)), reads-again d words′ room) (by-entry d w h t k name)
+        ap (λ y. indexFieldCall w s y k name) z ∙ looks-as-walk d w h t k name ∙ sym (ap (ofFile (λ f at. orAbsent (fieldOf k name f))) (reads-again d words′ room))

@@ -78,12 +78,12 @@ module _ {words : ℕ} {s out : List ℕ} {f : BsiiFile} {at : ℕ} {r : List �
 
 -- ---- after the last definition
 
-one-more : (l : List Insertion) (i : Insertion) (M : MarkedRecords) → insertAll (l ++ (i ∷ [])) M ≡ insert i (insertAll l M)
+pub one-more : (l : List Insertion) (i : Insertion) (M : MarkedRecords) → insertAll (l ++ (i ∷ [])) M ≡ insert i (insertAll l M)
 unfolding insertAll
 one-more [] i M = refl
 one-more (j ∷ l) i M = one-more l i (insert j M)
 
-one-more-allowed : (version : ℕ) (l : List Insertion) (i : Insertion) (M : MarkedRecords) → AllAllowed version l M → Allowed version i (insertAll l M)
+pub one-more-allowed : (version : ℕ) (l : List Insertion) (i : Insertion) (M : MarkedRecords) → AllAllowed version l M → Allowed version i (insertAll l M)
     → AllAllowed version (l ++ (i ∷ [])) M
 unfolding insertAll
 one-more-allowed version [] i M a b = (b, tt)

@@ -15,15 +15,15 @@ use Rattle.bsii_widening.specs.Marks.{MarkedRecords}
 use Rattle.bsii_widening.specs.Claim.{newFile, newText, StillConverts, Refused, ExactlyWhen}
 use Rattle.bsii_widening.proofs.Environments.{none≢some}
 
-both-ways : {A : Type 0} (q : Reply A) (o : Option ℕ) → ((x : ℕ) → o ≡ some x → q ≡ refusal unlistedType x) → ((x : ℕ) → o ≡ none → q ≡ refusal unlistedType x → ⊥)
+pub both-ways : {A : Type 0} (q : Reply A) (o : Option ℕ) → ((x : ℕ) → o ≡ some x → q ≡ refusal unlistedType x) → ((x : ℕ) → o ≡ none → q ≡ refusal unlistedType x → ⊥)
     → (x : ℕ) → (q ≡ refusal unlistedType x) ↔ (o ≡ some x)
 both-ways q none c u x = ((λ e. absurd (u x refl e)), (λ e. none≢some e))
 both-ways q (some y) c u x = ((λ e. ap some (ap (λ (z : Fault). z .offset) (refuses-inj (sym (c y refl) ∙ e)))), (λ e. c x e))
 
-number-of : {n m x y : ℕ} {A : Type 0} → _≡_ {A = Reply A} (refusal n x) (refusal m y) → n ≡ m
+pub number-of : {n m x y : ℕ} {A : Type 0} → _≡_ {A = Reply A} (refusal n x) (refusal m y) → n ≡ m
 number-of e = ap (λ (z : Fault). z .number) (refuses-inj e)
 
-not-seven : (out t : List ℕ) (x : ℕ) → textAnswer out (gives t) .reply ≡ refusal unlistedType x → ⊥
+pub not-seven : (out t : List ℕ) (x : ℕ) → textAnswer out (gives t) .reply ≡ refusal unlistedType x → ⊥
 not-seven out t x e =
     text-cases (λ a. a .reply ≡ refusal unlistedType x → ⊥) out t (λ e. refuses≢gives (sym e)) (λ e. let z : _≡_ {A = ℕ} outputShort unlistedType = number-of e in omega arith) e
 

@@ -14,6 +14,7 @@ pub mod Survives
 pub mod Counts
 pub mod Exactly
 pub mod Demand3
+pub mod Indexed
 pub mod Equal
 pub mod Decided
 pub mod Written

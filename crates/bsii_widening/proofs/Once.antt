@@ -16,7 +16,7 @@ use Rattle.bsii_widening.specs.Insertions.{insertAt, insertField, Insert
 use Rattle.bsii_widening.proofs.Marks.{new-insertPrototype, new-insertBlock}
 use Rattle.bsii_widening.proofs.Environments.{none≢some, this-id}
 
-nor-left : (a b : Bool) → T (not (a || b)) → T (not a)
+pub nor-left : (a b : Bool) → T (not (a || b)) → T (not a)
 nor-left true b h = absurd h
 nor-left false b h = tt
 
@@ -28,7 +28,7 @@ nor : (a b : Bool) → T (not a) → T (not b) → T (not (a || b))
 nor true b h k = absurd h
 nor false b h k = k
 
-not-both : (y : Bool) → T y → T (not y) → ⊥
+pub not-both : (y : Bool) → T y → T (not y) → ⊥
 not-both true i j = j
 not-both false i j = i
 

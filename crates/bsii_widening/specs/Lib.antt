@@ -5,6 +5,7 @@ pub mod Insertions
 pub mod Parts
 pub mod Claim
 pub mod Observers
+pub mod Indexed
 pub mod Splices
 pub mod Written
 pub mod EveryType
