@@ -2,3 +2,4 @@
 pub mod Index
 pub mod IndexCalls
 pub mod IndexClaims
+pub mod WorkedIndex
