@@ -5,3 +5,4 @@ pub mod Defined
 pub mod Entries
 pub mod Claims
 pub mod WorkedIndex
+pub mod IndexRefusals

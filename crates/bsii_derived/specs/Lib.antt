@@ -2,4 +2,5 @@
 pub mod Index
 pub mod IndexCalls
 pub mod IndexClaims
+pub mod IndexRefusals
 pub mod WorkedIndex

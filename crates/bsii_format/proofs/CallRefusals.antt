@@ -27,13 +27,13 @@ use Rattle.bsii_format.proofs.Refusals.{allAmong, told-all, Told, value
 -- ---- no others
 
 module _ (l : List ℕ) where
-  or-within : {A : Type 0} (n at : ℕ) → T (among l n && counted (refused n 0)) → (o : Option A) → Within l (orRefuse n at o)
+  pub or-within : {A : Type 0} (n at : ℕ) → T (among l n && counted (refused n 0)) → (o : Option A) → Within l (orRefuse n at o)
   unfolding orRefuse
   or-within n at h none = h
   or-within n at h (some a) = tt
 
   -- a call that takes a file: the file's refusals are among its own, and so is what it makes of an accepted file
-  call-within : {A : Type 0} (answer : BsiiFile → ℕ → Reply A) → T (allAmong l fileNumbers) → ((f : BsiiFile) (at : ℕ) → Within l (answer f at)) → (words : ℕ) (s : List ℕ)
+  pub call-within : {A : Type 0} (answer : BsiiFile → ℕ → Reply A) → T (allAmong l fileNumbers) → ((f : BsiiFile) (at : ℕ) → Within l (answer f at)) → (words : ℕ) (s : List ℕ)
       → Within l (ofFile answer (parse words s))
   call-within answer h k words s = go (parse words s) (parse-told words s)
     where
@@ -98,7 +98,7 @@ text-within words s out = go (ofFile (λ f at. fileText valueText f) (parse word
 
 -- ---- each of them
 
-abbrev given : {Q A : Type 0} {call : Q → Reply A} (q : Q) (f : Fault) → call q ≡ refuses f → Gives call (f .number)
+abbrev pub given : {Q A : Type 0} {call : Q → Reply A} (q : Q) (f : Fault) → call q ≡ refuses f → Gives call (f .number)
 given q f e = record { question = q; fault = f; refused = e; numbered = refl }
 
 -- a table's words and a file, whose first fault has the number n
@@ -117,7 +117,7 @@ unfolding parse
 parse-long words s h = rw (is-false (leb (length s) lengthLimit) (λ t. omega (arith, leb→le (length s) lengthLimit t)))
 
 -- shut, so that no list of sixteen million bytes is computed
-long : (n : ℕ) → (s : List ℕ) × (n < length s)
+pub long : (n : ℕ) → (s : List ℕ) × (n < length s)
 long n = (replicate (suc n) 0, rw length-replicate (omega arith))
 
 -- FORMAT.md, "A worked file": "Damaged or starved"
@@ -144,7 +144,7 @@ each-append nothing e = e
 each-append (h also d) e = h also each-append d e
 
 -- a call that hands the file's first fault on gives each of the file's refusals, and those of its own
-handed : {Q A : Type 0} {call : Q → Reply A} (ask : ℕ → List ℕ → Q) → ((words : ℕ) (s : List ℕ) (f : Fault) → parse words s ≡ fault f → call (ask words s) ≡ refuses f)
+pub handed : {Q A : Type 0} {call : Q → Reply A} (ask : ℕ → List ℕ → Q) → ((words : ℕ) (s : List ℕ) (f : Fault) → parse words s ≡ fault f → call (ask words s) ≡ refuses f)
     → {own : List ℕ} → Each (Gives call) own → Each (Gives call) (fileNumbers ++ own)
 handed ask h own = each-append (each-map (λ n x. record { question = ask (x .words) (x .file); fault = x .first; refused = h (x .words) (x .file) (x .first) (x .faulty); numbered = x .numbered }) file-faults) own
 

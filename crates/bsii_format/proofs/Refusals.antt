@@ -59,7 +59,7 @@ pub record Only (l : List ℕ) (A : Type 0) (R : Reader A) : Type 0 where
   pub only : (at : ℕ) (s : List ℕ) → Told l (R at s)
 
 module _ {l : List ℕ} where
-  success-only : {A : Type 0} (a : A) → Only l A (success a)
+  pub success-only : {A : Type 0} (a : A) → Only l A (success a)
   unfolding success
   success-only a = record { only = λ at s. tt }
 
@@ -67,26 +67,26 @@ module _ {l : List ℕ} where
   unfolding fail
   fail-only n h = record { only = λ at s. h }
 
-  after-only : {A B : Type 0} (q : Result A) (g : A → Reader B) → Told l q → ((a : A) → Only l B (g a)) → Told l (after q g)
+  pub after-only : {A B : Type 0} (q : Result A) (g : A → Reader B) → Told l q → ((a : A) → Only l B (g a)) → Told l (after q g)
   unfolding after
   after-only (ok a at s) g h k = k a .only at s
   after-only (fault f) g h k = h
 
-  bind-only : {A B : Type 0} {R : Reader A} (g : A → Reader B) → Only l A R → ((a : A) → Only l B (g a)) → Only l B (R >>= g)
+  pub bind-only : {A B : Type 0} {R : Reader A} (g : A → Reader B) → Only l A R → ((a : A) → Only l B (g a)) → Only l B (R >>= g)
   unfolding _>>=_
   bind-only {R = R} g h k = record { only = λ at s. after-only (R at s) g (h .only at s) k }
 
-  map-only : {A B : Type 0} (g : A → B) {R : Reader A} → Only l A R → Only l B (g <$> R)
+  pub map-only : {A B : Type 0} (g : A → B) {R : Reader A} → Only l A R → Only l B (g <$> R)
   unfolding _<$>_
   map-only g h = bind-only (λ a. success (g a)) h (λ a. success-only (g a))
 
-  verify-only : {A : Type 0} (p : A → Bool) (n : ℕ) {R : Reader A} → T (among l n && counted (refused n 0)) → Only l A R → Only l A (verify p n R)
+  pub verify-only : {A : Type 0} (p : A → Bool) (n : ℕ) {R : Reader A} → T (among l n && counted (refused n 0)) → Only l A R → Only l A (verify p n R)
   unfolding verify
   verify-only p n {R} m h = record {
     only = λ at s. after-only (R at s) _ (h .only at s) (λ a. record { only = λ i t. cond-told l (p a) (ok a i t) (faultAt n at) tt m });
   }
 
-  consumed-only : {A : Type 0} {R : Reader A} → Only l A R → Only l (Consumed A) (consumed R)
+  pub consumed-only : {A : Type 0} {R : Reader A} → Only l A R → Only l (Consumed A) (consumed R)
   unfolding consumed
   consumed-only {R = R} h = record { only = λ at s. after-only (R at s) _ (h .only at s) (λ a. record { only = λ i t. tt }) }
 
@@ -111,13 +111,13 @@ module _ {l : List ℕ} where
   unfolding exhausted
   exhausted-only {A} n h p = record { only = λ at s. short-told A l at n h p }
 
-  number-only : (w : ℕ) → T (among l malformed) → Only l ℕ (number w)
+  pub number-only : (w : ℕ) → T (among l malformed) → Only l ℕ (number w)
   unfolding number
   number-only w h = map-only littleEndian (bytes-only w h)
 
 -- ---- values
 
-str-only : Only valueNumbers (List ℕ) strParser
+pub str-only : Only valueNumbers (List ℕ) strParser
 unfolding strParser
 str-only = bind-only _ (number-only 4 tt) (λ n. verify-only _ _ tt (bytes-only n tt))
 
@@ -125,7 +125,7 @@ word-only : Only valueNumbers ℕ encodedStrParser
 unfolding encodedStrParser
 word-only = verify-only _ _ tt (map-only low63 (number-only 8 tt))
 
-id-only : Only valueNumbers Id idParser
+pub id-only : Only valueNumbers Id idParser
 unfolding idParser
 id-only = bind-only _ (number-only 1 tt) (λ n. cond-only (eqb n 0xff) (map-only nameless (number-only 8 tt)) (map-only named (repeat-only n word-only)))
 
@@ -146,6 +146,39 @@ pub value-only : (version t : ℕ) → Only valueNumbers Value (valueParser vers
 unfolding valueParser
 value-only version t = shape-only (shapeOf version t)
 
+-- ---- definitions and the values under them
+
+enumValues-only : (t : ℕ) → Only valueNumbers (List EnumValue) (enumValuesParser t)
+unfolding enumValuesParser enumValueParser
+enumValues-only t =
+    cond-only (eqb t 0x37) (bind-only _ (number-only 4 tt) (λ n. repeat-only n (bind-only _ (number-only 4 tt) (λ c. bind-only _ str-only (λ s. success-only _))))) (success-only [])
+
+entry-only : Only valueNumbers (Option ValuePrototype) valuePrototypeParser
+unfolding valuePrototypeParser
+entry-only =
+    bind-only _ (number-only 4 tt) (λ t. cond-only (eqb t 0) (success-only none) (bind-only _ str-only (λ n. bind-only _ (enumValues-only t) (λ l. success-only _))))
+
+then-only : (R : Reader Fields) → Only valueNumbers Fields R → (o : Option ValuePrototype) (c : List ℕ) → Only valueNumbers Fields (fieldsThen R o c)
+unfolding fieldsThen
+then-only R h none c = success-only _
+then-only R h (some d) c = map-only (consField (with d c)) h
+
+fieldsFrom-only : (n : ℕ) → Only valueNumbers Fields (fieldsFrom n)
+unfolding fieldsFrom
+fieldsFrom-only zero = exhausted-only _ tt (omega arith)
+fieldsFrom-only (suc n) = bind-only _ (consumed-only entry-only) (λ e. then-only (fieldsFrom n) (fieldsFrom-only n) (e .value) (e .raw))
+
+pub fields-only : Only valueNumbers Fields fieldsParser
+unfolding fieldsParser
+fields-only = record { only = λ at s. fieldsFrom-only (length s) .only at s }
+
+pub values-only : (version : ℕ) (fs : List (Consumed ValuePrototype)) → Only valueNumbers (List DataValue) (dataValuesParser version fs)
+unfolding dataValuesParser dataValueParser
+values-only version [] = success-only []
+values-only version (f ∷ fs) =
+    bind-only _ (map-only (dataValue (f .value .typeId)) (consumed-only (value-only version (f .value .typeId))))
+    (λ v. bind-only _ (values-only version fs) (λ l. success-only (v ∷ l)))
+
 -- ---- the file
 
 -- what a value is refused with, a file is
@@ -162,37 +195,6 @@ string-only = in-file str-only
 u32-only : Only fileNumbers ℕ (number 4)
 u32-only = number-only 4 tt
 
-enumValues-only : (t : ℕ) → Only fileNumbers (List EnumValue) (enumValuesParser t)
-unfolding enumValuesParser enumValueParser
-enumValues-only t =
-    cond-only (eqb t 0x37) (bind-only _ u32-only (λ n. repeat-only n (bind-only _ u32-only (λ c. bind-only _ string-only (λ s. success-only _))))) (success-only [])
-
-entry-only : Only fileNumbers (Option ValuePrototype) valuePrototypeParser
-unfolding valuePrototypeParser
-entry-only =
-    bind-only _ u32-only (λ t. cond-only (eqb t 0) (success-only none) (bind-only _ string-only (λ n. bind-only _ (enumValues-only t) (λ l. success-only _))))
-
-then-only : (R : Reader Fields) → Only fileNumbers Fields R → (o : Option ValuePrototype) (c : List ℕ) → Only fileNumbers Fields (fieldsThen R o c)
-unfolding fieldsThen
-then-only R h none c = success-only _
-then-only R h (some d) c = map-only (consField (with d c)) h
-
-fieldsFrom-only : (n : ℕ) → Only fileNumbers Fields (fieldsFrom n)
-unfolding fieldsFrom
-fieldsFrom-only zero = exhausted-only _ tt (omega arith)
-fieldsFrom-only (suc n) = bind-only _ (consumed-only entry-only) (λ e. then-only (fieldsFrom n) (fieldsFrom-only n) (e .value) (e .raw))
-
-fields-only : Only fileNumbers Fields fieldsParser
-unfolding fieldsParser
-fields-only = record { only = λ at s. fieldsFrom-only (length s) .only at s }
-
-values-only : (version : ℕ) (fs : List (Consumed ValuePrototype)) → Only fileNumbers (List DataValue) (dataValuesParser version fs)
-unfolding dataValuesParser dataValueParser
-values-only version [] = success-only []
-values-only version (f ∷ fs) =
-    bind-only _ (map-only (dataValue (f .value .typeId)) (consumed-only (in-file (value-only version (f .value .typeId)))))
-    (λ v. bind-only _ (values-only version fs) (λ l. success-only (v ∷ l)))
-
 mark-only : (m : ℕ) → Only fileNumbers Head (markParser m)
 unfolding markParser
 mark-only zero = success-only ending
@@ -208,13 +210,13 @@ block-only : (version start : ℕ) (hd : List ℕ) (c : ℕ) (o : Option Prototy
 unfolding dataBlockParser
 block-only version start hd c none = record { only = λ at s. tt }
 block-only version start hd c (some p) = record {
-  only = bind-only (λ i. blockStep hd c i <$> dataValuesParser version (p .fields)) (consumed-only (in-file id-only)) (λ i. map-only (blockStep hd c i) (values-only version (p .fields))) .only;
+  only = bind-only (λ i. blockStep hd c i <$> dataValuesParser version (p .fields)) (consumed-only (in-file id-only)) (λ i. map-only (blockStep hd c i) (in-file (values-only version (p .fields)))) .only;
 }
 
 step-only : (version : ℕ) (env : List Prototype) (start : ℕ) (hd : List ℕ) (h : Head) → Only fileNumbers Step (stepParser version env start hd h)
 unfolding stepParser
 step-only version env start hd ending = success-only (end hd)
-step-only version env start hd (defining c name) = map-only (prototypeStep hd c name) fields-only
+step-only version env start hd (defining c name) = map-only (prototypeStep hd c name) (in-file fields-only)
 step-only version env start hd (carrying c) = block-only version start hd c (getPrototype c env)
 
 record-only : (version : ℕ) (env : List Prototype) → Only fileNumbers Step (recordParser version env)
