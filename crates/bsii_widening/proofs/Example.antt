@@ -25,11 +25,11 @@ pub old-save : OldSave 768 workedFile (replicate 128 0) oldFile 82 [] 73
 unfolding computesAll
 old-save = record { reads = refl; converts = refl; once = (tt, tt) }
 
-additions-allowed : AllAllowed (oldFile .header .value) additions (markRecords (oldFile .records))
+pub additions-allowed : AllAllowed (oldFile .header .value) additions (markRecords (oldFile .records))
 unfolding computesAll
 additions-allowed = allowed-proves (oldFile .header .value) additions (markRecords (oldFile .records)) tt
 
-room : Room lengthLimit 6 oldFile [] (widened oldFile additions)
+pub room : Room lengthLimit 6 oldFile [] (widened oldFile additions)
 unfolding computesAll
 room = record { file = lit≤ tt; table = lit≤ tt }
 
@@ -57,16 +57,16 @@ additions-read = refl
 
 -- ---- the last definition
 
-last-allowed : DefinitionAllowed 7 0 unlistedField (widened oldFile additions)
+pub last-allowed : DefinitionAllowed 7 0 unlistedField (widened oldFile additions)
 unfolding computesAll
 last-allowed = record { of = _; defined = refl; position = lit≤ tt; wellFormed = refl; newName = tt }
 
-last-room : Room lengthLimit 6 oldFile [] afterUnlisted
+pub last-room : Room lengthLimit 6 oldFile [] afterUnlisted
 unfolding computesAll
 last-room = record { file = lit≤ tt; table = lit≤ tt }
 
 -- the block of the id 7 carries it: its first value starts at 122
-carried : firstCarried 7 0 (length (oldFile .header .raw)) (newRecords afterUnlisted) ≡ some 122
+pub carried : firstCarried 7 0 (length (oldFile .header .raw)) (newRecords afterUnlisted) ≡ some 122
 unfolding computesAll
 carried = refl
 

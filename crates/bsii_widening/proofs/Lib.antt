@@ -26,3 +26,5 @@ pub mod Sevens
 pub mod Premises
 pub mod Splices
 pub mod Conclusions
+pub mod IndexExample
+pub mod IndexConclusions

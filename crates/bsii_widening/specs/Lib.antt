@@ -12,3 +12,4 @@ pub mod EveryType
 pub mod Example
 pub mod Vectors
 pub mod Sevens
+pub mod IndexExample
