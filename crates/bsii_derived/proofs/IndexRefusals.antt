@@ -24,7 +24,7 @@ use Rattle.bsii_derived.specs.Index.{IndexRecord, indexOf, indexBytes, i
 use Rattle.bsii_derived.specs.IndexCalls.{writeIndexCall, checked, checkIndexCall, demand, PrototypeHead, prototypeHead, prototypeWith, prototypeAt, isOf, blockAt, answering, fieldBy, indexFieldCall, once, definesOnceCall}
 use Rattle.bsii_derived.specs.IndexRefusals.{writeNumbers, checkNumbers, indexFieldNumbers, onceNumbers}
 use Rattle.bsii_derived.specs.WorkedIndex.{saveA, badString, indexA, offsets}
-use Rattle.bsii_derived.proofs.WorkedIndex.{computesIndex}
+use Rattle.bsii_derived.proofs.Computes.{computesIndex}
 
 -- ---- write, check, once; a question is the number of bytes of a number and of table words, the file, and what else is lent
 

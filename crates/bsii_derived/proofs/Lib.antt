@@ -1,8 +1,11 @@
--- Laws of the index.
+-- Laws of the index: its bytes (Bytes), ids that are defined once (Once), what a look-up reads of what the walk has read (Defined, Entries), the promises and
+-- what they say by themselves (Claims, Says), worked questions and the refusals of each call.
 pub mod Bytes
 pub mod Once
 pub mod Defined
 pub mod Entries
 pub mod Claims
+pub mod Computes
 pub mod WorkedIndex
 pub mod IndexRefusals
+pub mod Says

@@ -7,6 +7,7 @@ use Rattle.bsii_format.specs.Replies.{Reply, gives, refusal, notUtf8, zeroDigit
 use Rattle.bsii_format.specs.Worked.{le, u32, u64, workedFile, Fact, _says_}
 use Rattle.bsii_format.specs.WorkedCalls.{string, definition, prototypeRecord, fileOf, fileWith, redefinedFile, recountedFile, twinFile, sevenPart, sevenFile, lacks, carries, written, unwritten}
 use Rattle.bsii_format.specs.Calls.{FieldAnswer, partOf, TextAnswer}
+use Rattle.bsii_derived.specs.Index.{indexWidth}
 use Rattle.bsii_derived.specs.IndexCalls.{writeIndexCall, checkIndexCall, indexFieldCall, definesOnceCall}
 
 -- ---- files and indexes
@@ -45,7 +46,7 @@ indexA = entry 35 7 8 1 ++ entry 42 15 8 1
 
 unfoldable pub writes : List (Fact TextAnswer)
 writes =
-    writeIndexCall 3 3 saveA (replicate 25 1) says written indexA (1 ∷ []) ∷
+    writeIndexCall indexWidth 3 saveA (replicate 25 1) says written indexA (1 ∷ []) ∷
     writeIndexCall 3 3 saveA (replicate 23 1) says unwritten outputShort 0 24 (replicate 23 1) ∷
     writeIndexCall 4 3 saveA (replicate 32 1) says written (le 4 35 ++ le 4 7 ++ le 4 8 ++ le 4 1 ++ le 4 42 ++ le 4 15 ++ le 4 8 ++ le 4 1) [] ∷
     writeIndexCall 3 3 redefinedFile (replicate 12 1) says written (entry 35 9 8 1) [] ∷
@@ -58,7 +59,7 @@ writes =
 
 unfoldable pub checks : List (Fact (Reply (Unit {0})))
 checks =
-    checkIndexCall 3 3 saveA indexA says gives tt ∷
+    checkIndexCall indexWidth 3 saveA indexA says gives tt ∷
     checkIndexCall 3 3 saveA (take 23 indexA) says refusal misfit 12 ∷
     checkIndexCall 3 3 saveA (take 12 indexA) says refusal misfit 12 ∷
     checkIndexCall 3 3 saveA (indexA ++ le 2 0) says refusal misfit 24 ∷
@@ -77,7 +78,7 @@ checks =
 
 unfoldable pub looks : List (Fact (Reply FieldAnswer))
 looks =
-    indexFieldCall 3 saveA indexA 1 (ascii "n") says carries 0x2b 55 (le 2 7) ∷
+    indexFieldCall indexWidth saveA indexA 1 (ascii "n") says carries 0x2b 55 (le 2 7) ∷
     indexFieldCall 3 saveA indexA 0 (ascii "n") says carries 0x2b 40 (le 2 5) ∷
     indexFieldCall 3 saveA indexA 2 (ascii "n") says refusal absent 0 ∷
     indexFieldCall 3 saveA (take 23 indexA) 1 (ascii "n") says refusal absent 0 ∷

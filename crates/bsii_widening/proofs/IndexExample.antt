@@ -12,7 +12,7 @@ use Rattle.bsii_format.specs.Worked.{u32, workedFile}
 use Rattle.bsii_format.specs.WorkedCalls.{unlistedEnumFile, carries, written, unwritten}
 use Rattle.bsii_derived.specs.IndexCalls.{writeIndexCall, checkIndexCall, indexFieldCall}
 use Rattle.bsii_derived.specs.IndexClaims.{Wide}
-use Rattle.bsii_derived.proofs.WorkedIndex.{computesIndex}
+use Rattle.bsii_derived.proofs.Computes.{computesIndex}
 use Rattle.bsii_widening.specs.Marks.{markRecords}
 use Rattle.bsii_widening.specs.Parts.{renumber}
 use Rattle.bsii_widening.specs.Claim.{Room, widened, newFile}

@@ -1,0 +1,33 @@
+-- What follows from the promises, from the statements alone: each part by itself, so that a promise that says less is not enough for it.
+use mathlib.Core.Path.{_≡_, _∙_, sym}
+use Prim.Native.Nat.{ℕ, _*_, _^_, _≤_}
+use mathlib.Core.List.{List}
+use lib.ListN.{length}
+use Rattle.bsii_format.specs.Replies.{Fault, gives, refuses}
+use Rattle.bsii_format.specs.Reader.{ok}
+use Rattle.bsii_format.specs.File.{BsiiFile, lengthLimit, parse}
+use Rattle.bsii_format.specs.Calls.{Reading, readingCall, FieldAnswer, fieldCall}
+use Rattle.bsii_derived.specs.Index.{indexBytes, indexOf}
+use Rattle.bsii_derived.specs.IndexCalls.{checkIndexCall, indexFieldCall, definesOnceCall}
+use Rattle.bsii_derived.specs.IndexClaims.{ChecksExactly, AnswersAsWalk}
+
+-- what fits is what is written, and what is written fits
+pub only-the-written : ChecksExactly → (w words : ℕ) (s i : List ℕ) → checkIndexCall w words s i ≡ gives tt
+    → (f : BsiiFile) × (at : ℕ) × (r : List ℕ) × (parse words s ≡ ok f at r) × (i ≡ indexBytes w (indexOf f))
+only-the-written claim w words s i e = claim w words s i .0 e
+
+pub the-written-fits : ChecksExactly → (w words : ℕ) (s i : List ℕ) (f : BsiiFile) (at : ℕ) (r : List ℕ) → parse words s ≡ ok f at r → i ≡ indexBytes w (indexOf f)
+    → checkIndexCall w words s i ≡ gives tt
+the-written-fits claim w words s i f at r e z = claim w words s i .1 (f, at, r, e, z)
+
+-- found and refused alike, with any table that has room
+module _ (claim : AnswersAsWalk) (w : ℕ) (wide : lengthLimit ≤ 256 ^ w) (words : ℕ) (s i : List ℕ) (fits : checkIndexCall w words s i ≡ gives tt) (once : definesOnceCall words s ≡ gives 1)
+    (a : Reading) (read : readingCall words s ≡ gives a) (words′ : ℕ) (room : 3 * a .prototypes ≤ words′) (k : ℕ) (name : List ℕ) where
+  pub found-alike : (v : FieldAnswer) → fieldCall words′ s k name ≡ gives v → indexFieldCall w s i k name ≡ gives v
+  found-alike v e = claim w wide words s i fits once a read words′ room k name ∙ e
+
+  pub refused-alike : (x : Fault) → fieldCall words′ s k name ≡ refuses x → indexFieldCall w s i k name ≡ refuses x
+  refused-alike x e = claim w wide words s i fits once a read words′ room k name ∙ e
+
+  pub found-back : (v : FieldAnswer) → indexFieldCall w s i k name ≡ gives v → fieldCall words′ s k name ≡ gives v
+  found-back v e = sym (claim w wide words s i fits once a read words′ room k name) ∙ e
