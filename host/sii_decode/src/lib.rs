@@ -21,6 +21,7 @@
 
 mod file;
 mod id;
+mod index;
 #[allow(unsafe_code)]
 pub mod library;
 mod plain;
@@ -29,6 +30,7 @@ mod value;
 
 pub use file::{to_siin, Blocks, BlocksByPrototypeName, BsiiFile, DataBlock, Prototype};
 pub use id::Id;
+pub use index::{Definition, Definitions};
 pub use plain::OtherKind;
 pub use refusal::Refusal;
 pub use value::{DataField, DataValue, Elements, Placement};

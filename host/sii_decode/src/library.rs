@@ -187,3 +187,19 @@ pub fn defines_once(file: &[u8], table: &mut [u32]) -> Number {
     // SAFETY: as in `read`.
     unsafe { sii_defines_once(file.as_ptr(), file.len(), table, words) }
 }
+
+/// The index in the place of what `index` held, if its capacity has room for it; otherwise `index` is
+/// empty. No memory is touched but the index's.
+pub fn write_index_within(file: &[u8], table: &mut [u32], index: &mut Vec<u8>) -> Length {
+    let (words, table) = (table.len(), table.as_mut_ptr());
+    let (len, file) = (file.len(), file.as_ptr());
+    index.clear();
+    let (room, start) = (index.capacity(), index.as_mut_ptr());
+    // SAFETY: as in `to_siin_within`.
+    let answer = unsafe { sii_write_index(file, len, table, words, start, room) };
+    if answer.number == 0 {
+        // SAFETY: the call has written the first `length` bytes, which is at most `room`.
+        unsafe { index.set_len(answer.length as usize) };
+    }
+    answer
+}

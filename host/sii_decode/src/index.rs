@@ -1,0 +1,154 @@
+//! The records of an index, and what stands in the save at their offsets.
+//!
+//! The index is the library's own or was checked by it, so nothing here runs out; where it did, the
+//! answer is none, and the caller asks the library.
+
+use std::fmt;
+
+/// The bytes of a record.
+pub(crate) const RECORD: usize = calls::RECORD;
+/// A prototype's number 0 and its mark.
+const HEAD: usize = 5;
+/// A prototype's number 0, its mark and its id, which stand in front of its name's length.
+const BEFORE_NAME: usize = HEAD + 4;
+
+/// Where a block stands, and the definition of its prototype in force there.
+#[derive(Clone, Copy, Debug, PartialEq, Eq)]
+pub(crate) struct Record {
+    block: usize,
+    prototype: usize,
+    /// How many fields the definition has.
+    pub fields: u64,
+}
+
+impl Record {
+    /// The record of a block, by the block's number.
+    pub fn of(index: &[u8], number: u64) -> Option<Record> {
+        let start = usize::try_from(number).ok()?.checked_mul(RECORD)?;
+        let record: &[u8; RECORD] = index.get(start..)?.first_chunk()?;
+        let [a, b, c, _, _, _, d, e, f, g, h, i] = record.map(usize::from);
+        Some(Record {
+            block: a | b << 8 | c << 16,
+            prototype: d | e << 8 | f << 16,
+            fields: (g | h << 8 | i << 16) as u64,
+        })
+    }
+
+    /// The block's prototype id and the bytes of the block's id.
+    pub fn block<'a>(&self, content: &'a [u8]) -> Option<(u32, &'a [u8])> {
+        let mut reader = Reader::new(content, self.block);
+        let prototype_id = reader.number()?;
+        let id = content.get(reader.at..)?;
+        let words = match id.first()? {
+            0xff => 1,
+            words => usize::from(*words),
+        };
+        Some((prototype_id, id.get(..1 + 8 * words)?))
+    }
+
+    /// The id and the name of the definition.
+    pub fn prototype<'a>(&self, content: &'a [u8]) -> Option<(u32, &'a [u8])> {
+        let mut reader = Reader::new(content, self.prototype + HEAD);
+        Some((reader.number()?, reader.string()?))
+    }
+
+    /// The fields of the definition.
+    pub fn definitions<'a>(&self, content: &'a [u8], version: u32) -> Option<Definitions<'a>> {
+        Definitions::at(content, self.prototype + BEFORE_NAME, version)
+    }
+}
+
+/// Bytes of a save from an offset on.
+#[derive(Clone, Copy)]
+struct Reader<'a> {
+    content: &'a [u8],
+    at: usize,
+}
+
+impl<'a> Reader<'a> {
+    fn new(content: &'a [u8], at: usize) -> Reader<'a> {
+        Reader { content, at }
+    }
+
+    fn number(&mut self) -> Option<u32> {
+        let bytes = self.content.get(self.at..)?.first_chunk()?;
+        self.at += bytes.len();
+        Some(u32::from_le_bytes(*bytes))
+    }
+
+    fn string(&mut self) -> Option<&'a [u8]> {
+        let length = self.number()? as usize;
+        let bytes = self.content.get(self.at..)?.get(..length)?;
+        self.at += length;
+        Some(bytes)
+    }
+}
+
+/// A field as a prototype defines it.
+#[derive(Clone, Copy, Debug, PartialEq, Eq)]
+pub struct Definition<'a> {
+    /// The save's version, by which the type is told.
+    pub version: u32,
+    /// The type of its values.
+    pub type_id: u32,
+    /// What it is asked for by; another field may have the same name.
+    pub name: &'a str,
+}
+
+impl Definition<'_> {
+    /// Whether the type is an array's.
+    pub fn is_array(&self) -> bool {
+        crate::value::is_array(self.type_id)
+    }
+
+    /// What one element is, in the word of [`DataValue::kind_name`](crate::DataValue::kind_name).
+    pub fn kind_name(&self) -> &'static str {
+        crate::value::kind_name(self.version, self.type_id)
+    }
+}
+
+/// The fields that a prototype defines, in order.
+#[derive(Clone)]
+pub struct Definitions<'a> {
+    version: u32,
+    reader: Reader<'a>,
+}
+
+impl<'a> Definitions<'a> {
+    /// Those of the prototype whose name's length stands at that offset.
+    pub(crate) fn at(content: &'a [u8], at: usize, version: u32) -> Option<Definitions<'a>> {
+        let mut reader = Reader::new(content, at);
+        reader.string()?;
+        Some(Definitions { version, reader })
+    }
+}
+
+impl<'a> Iterator for Definitions<'a> {
+    type Item = Definition<'a>;
+
+    fn next(&mut self) -> Option<Definition<'a>> {
+        let mut reader = self.reader;
+        // The type 0 closes the prototype, and stays the next one to be read.
+        let type_id = reader.number().filter(|type_id| *type_id != 0)?;
+        let name = reader.string()?;
+        if type_id == 0x37 {
+            for _ in 0..reader.number()? {
+                reader.number()?;
+                reader.string()?;
+            }
+        }
+        self.reader = reader;
+        Some(Definition {
+            version: self.version,
+            type_id,
+            name: crate::utf8(name),
+        })
+    }
+}
+
+/// None of the save's other bytes.
+impl fmt::Debug for Definitions<'_> {
+    fn fmt(&self, f: &mut fmt::Formatter<'_>) -> fmt::Result {
+        f.debug_list().entries(self.clone()).finish()
+    }
+}
