@@ -112,7 +112,7 @@ impl Wants {
     fn value(self) -> &'static str {
         match self {
             Wants::Output => "FILE",
-            Wants::Index => "INDEX",
+            Wants::Index => "FILE",
             Wants::Into => "DIR",
         }
     }
