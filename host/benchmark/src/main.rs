@@ -5,6 +5,7 @@
 mod arguments;
 mod hostile;
 mod inputs;
+mod loops;
 mod machine;
 mod memory;
 mod orders;
@@ -121,6 +122,9 @@ fn measure(run: &Run) -> Result<(), String> {
         report::plain(&rows, run.rounds)
     };
     show(text.as_bytes())?;
+    if rows.iter().any(|row| row.name == inputs::NORMAL) {
+        show(loops::report(run.rounds)?.as_bytes())?;
+    }
     if let Some(path) = &run.plot {
         let mut all = Vec::new();
         for input in inputs::saves_for_plot() {
