@@ -2,7 +2,7 @@
 
 use crate::index::{Record, RECORD};
 use crate::library::{self, Reading};
-use crate::{DataField, Definitions, Id, Refusal, LENGTH_LIMIT};
+use crate::{DataField, Definitions, Id, Prototypes, Refusal, LENGTH_LIMIT};
 use std::borrow::Cow;
 use std::cell::{OnceCell, RefCell};
 use std::fmt;
@@ -274,6 +274,13 @@ impl<'a> BsiiFile<'a> {
             name: crate::utf8(self.place(answer.name_offset, answer.name_len)),
             fields: answer.fields,
         })
+    }
+
+    /// Each definition of a prototype, in the order of the file: of several with one id the last is the
+    /// one that [`get_prototype`](BsiiFile::get_prototype) gives. They are found by the index, so
+    /// without memory for that there are none to be had.
+    pub fn prototypes<'data>(&'data self) -> Option<Prototypes<'a, 'data>> {
+        Some(Prototypes::of(self.content, self.index()?))
     }
 
     fn prototype_answer(&self, id: u32) -> Result<library::Prototype, Refusal> {

@@ -3,10 +3,13 @@
 //! The index is the library's own or was checked by it, so nothing here runs out; where it did, the
 //! answer is none, and the caller asks the library.
 
+use crate::Prototype;
 use std::fmt;
 
 /// The bytes of a record.
 pub(crate) const RECORD: usize = calls::RECORD;
+/// Behind the header.
+const FIRST_RECORD: usize = 8;
 /// A prototype's number 0 and its mark.
 const HEAD: usize = 5;
 /// A prototype's number 0, its mark and its id, which stand in front of its name's length.
@@ -16,6 +19,7 @@ const BEFORE_NAME: usize = HEAD + 4;
 #[derive(Clone, Copy, Debug, PartialEq, Eq)]
 pub(crate) struct Record {
     block: usize,
+    length: usize,
     prototype: usize,
     /// How many fields the definition has.
     pub fields: u64,
@@ -26,11 +30,12 @@ impl Record {
     pub fn of(index: &[u8], number: u64) -> Option<Record> {
         let start = usize::try_from(number).ok()?.checked_mul(RECORD)?;
         let record: &[u8; RECORD] = index.get(start..)?.first_chunk()?;
-        let [a, b, c, _, _, _, d, e, f, g, h, i] = record.map(usize::from);
+        let [a, b, c, d, e, f, g, h, i, j, k, l] = record.map(usize::from);
         Some(Record {
             block: a | b << 8 | c << 16,
-            prototype: d | e << 8 | f << 16,
-            fields: (g | h << 8 | i << 16) as u64,
+            length: d | e << 8 | f << 16,
+            prototype: g | h << 8 | i << 16,
+            fields: (j | k << 8 | l << 16) as u64,
         })
     }
 
@@ -143,6 +148,63 @@ impl<'a> Iterator for Definitions<'a> {
             type_id,
             name: crate::utf8(name),
         })
+    }
+}
+
+/// The definitions of prototypes, in the order of the file: what stands between its blocks.
+#[derive(Clone)]
+pub struct Prototypes<'a, 'data> {
+    reader: Reader<'a>,
+    index: &'data [u8],
+    /// The next block.
+    number: u64,
+}
+
+impl<'a, 'data> Prototypes<'a, 'data> {
+    pub(crate) fn of(content: &'a [u8], index: &'data [u8]) -> Prototypes<'a, 'data> {
+        Prototypes {
+            reader: Reader::new(content, FIRST_RECORD),
+            index,
+            number: 0,
+        }
+    }
+}
+
+impl<'a> Iterator for Prototypes<'a, '_> {
+    type Item = Prototype<'a>;
+
+    fn next(&mut self) -> Option<Prototype<'a>> {
+        while let Some(record) = Record::of(self.index, self.number) {
+            if record.block != self.reader.at {
+                break;
+            }
+            self.reader.at += record.length;
+            self.number += 1;
+        }
+        let mut reader = self.reader;
+        // The end record's mark is 0, and it stays the next one to be read.
+        if reader.number()? != 0 || *reader.content.get(reader.at)? != 1 {
+            return None;
+        }
+        reader.at += 1;
+        let id = reader.number()?;
+        let name = crate::utf8(reader.string()?);
+        let mut definitions = Definitions { version: 0, reader };
+        let fields = definitions.by_ref().count() as u64;
+        // The closing type 0.
+        definitions.reader.number()?;
+        self.reader = definitions.reader;
+        Some(Prototype { id, name, fields })
+    }
+}
+
+/// None of the save's bytes.
+impl fmt::Debug for Prototypes<'_, '_> {
+    fn fmt(&self, f: &mut fmt::Formatter<'_>) -> fmt::Result {
+        let at = self.reader.at;
+        f.debug_struct("Prototypes")
+            .field("at", &at)
+            .finish_non_exhaustive()
     }
 }
 

@@ -5,6 +5,7 @@ use generate::widening::widening;
 use generate::{worked_bytes, Random};
 use sii_decode::library;
 use sii_decode::{BsiiFile, DataField, Refusal};
+use std::collections::HashMap;
 
 const ABSENT: Refusal = Refusal {
     number: 13,
@@ -163,6 +164,19 @@ fn definitions_fit(file: &BsiiFile) {
     assert_eq!(file.definitions(file.block_count()).err(), Some(ABSENT));
 }
 
+/// The definitions of prototypes: an id's last one is what the walk finds, and there is no other id.
+fn prototypes_fit(content: &[u8], file: &BsiiFile) {
+    let mut walk = Walk::new(content);
+    let defined: Vec<_> = file.prototypes().unwrap().collect();
+    let last: HashMap<_, _> = defined.iter().map(|it| (it.id, it)).collect();
+    assert_eq!(last.len() as u64, file.prototype_count());
+    assert_eq!(last.len() == defined.len(), file.defines_once());
+    for (id, prototype) in last {
+        let found = (prototype.name.as_bytes(), prototype.fields);
+        assert_eq!(found, walk.prototype(id));
+    }
+}
+
 /// The index kept and lent again, and changed in every way that a record can be.
 fn only_its_own_index(random: &mut Random, content: &[u8], file: &BsiiFile) {
     let index = file.index().unwrap();
@@ -199,6 +213,7 @@ fn generated_saves() {
         };
         equals_the_walk(&bytes, &file);
         definitions_fit(&file);
+        prototypes_fit(&bytes, &file);
         only_its_own_index(&mut random, &bytes, &file);
         let counted: &mut i32 = match file.defines_once() {
             true => &mut once,
@@ -227,6 +242,7 @@ fn widened_saves() {
             continue;
         };
         equals_the_walk(&new, &widened);
+        prototypes_fit(&new, &widened);
         let index = file.index().unwrap();
         match BsiiFile::with_index(&new, index) {
             Ok(_) => assert_eq!(Some(index), widened.index()),
@@ -318,6 +334,11 @@ fn definitions_of_the_sample() {
     let first = file.definitions(0).unwrap();
     assert!(format!("{first:?}").starts_with("[Definition { version: 2, type_id: 1, name: "));
     assert_eq!(first.count(), 34);
+    let prototypes = file.prototypes().unwrap();
+    assert_eq!(format!("{prototypes:?}"), "Prototypes { at: 8, .. }");
+    let shown: Vec<_> = prototypes.map(|it| (it.id, it.name, it.fields)).collect();
+    assert_eq!(shown[..2], [(1, "garage", 34), (2, "truck", 2)]);
+    assert_eq!(shown.len(), 3);
 }
 
 /// An index that is owned, and one that is borrowed.
