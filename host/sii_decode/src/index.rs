@@ -214,3 +214,60 @@ impl fmt::Debug for Definitions<'_> {
         f.debug_list().entries(self.clone()).finish()
     }
 }
+
+#[cfg(test)]
+mod tests {
+    use super::*;
+    use crate::library;
+    use crate::BsiiFile;
+
+    /// Nothing runs out in a save that was read: every record leads to what the library finds, so that
+    /// the library is not asked again.
+    #[test]
+    fn every_record_leads_somewhere() {
+        let (mut nameless, mut named) = (0, 0);
+        for number in 0..2000 {
+            let bytes = generate::file(8, number);
+            let Ok(file) = BsiiFile::parse(&bytes) else {
+                continue;
+            };
+            let index = file.index().unwrap();
+            let mut table = vec![0; bytes.len() / 17 * 3];
+            for number in 0..file.block_count() {
+                let record = Record::of(index, number).unwrap();
+                let found = library::block_at(&bytes, &mut table, number);
+                let start = found.id_offset as usize;
+                let id = &bytes[start..start + found.id_len as usize];
+                assert_eq!(record.block(&bytes), Some((found.prototype_id, id)));
+                let (prototype_id, _) = record.prototype(&bytes).unwrap();
+                assert_eq!(prototype_id, found.prototype_id);
+                let definitions = record.definitions(&bytes, 2).unwrap();
+                assert_eq!(definitions.count() as u64, record.fields);
+                match id[0] {
+                    0xff => nameless += 1,
+                    _ => named += 1,
+                }
+            }
+            assert_eq!(Record::of(index, file.block_count()), None);
+            assert_eq!(Record::of(index, u64::MAX), None);
+        }
+        assert!(nameless > 100 && named > 100, "{nameless} {named}");
+    }
+
+    /// Offsets that lead nowhere have no answer.
+    #[test]
+    fn records_that_run_out() {
+        let bytes = generate::worked_bytes();
+        let nowhere = [[0xff; RECORD], [78, 0, 0, 0, 0, 0, 78, 0, 0, 0, 0, 0]];
+        for index in nowhere {
+            let record = Record::of(&index, 0).unwrap();
+            assert_eq!(record.block(&bytes), None);
+            assert_eq!(record.prototype(&bytes), None);
+            assert!(record.definitions(&bytes, 2).is_none());
+            assert_eq!(Record::of(&index[1..], 0), None);
+        }
+        let index = &[8, 0, 0, 0xff, 0xff, 0xff, 8, 0, 0, 0, 0, 0];
+        assert_eq!(Prototypes::of(&bytes, index).next(), None);
+        assert_eq!(Prototypes::of(&bytes[..20], &[]).next(), None);
+    }
+}

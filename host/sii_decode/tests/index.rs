@@ -334,6 +334,12 @@ fn definitions_of_the_sample() {
     let first = file.definitions(0).unwrap();
     assert!(format!("{first:?}").starts_with("[Definition { version: 2, type_id: 1, name: "));
     assert_eq!(first.count(), 34);
+    // What the caller has made of a block is asked for by its prototype id.
+    let mut block = file.block(0).unwrap();
+    block.prototype_id = 2;
+    assert_eq!(block.prototype(&file).unwrap().name, "truck");
+    block.prototype_id = 9;
+    assert_eq!(block.prototype(&file), Err(ABSENT));
     let prototypes = file.prototypes().unwrap();
     assert_eq!(format!("{prototypes:?}"), "Prototypes { at: 8, .. }");
     let shown: Vec<_> = prototypes.map(|it| (it.id, it.name, it.fields)).collect();
