@@ -3,6 +3,7 @@
 
 use crate::inputs::{self, NORMAL};
 use crate::sides::{Compared, Rounds};
+use crate::statistics::Spread;
 use sii_decode::BsiiFile;
 use std::collections::HashMap;
 use std::hint::black_box;
@@ -117,20 +118,16 @@ pub fn time(content: &[u8], rounds: usize) -> Result<Looped, String> {
 pub fn report(rounds: usize) -> Result<String, String> {
     let save = inputs::by_name(NORMAL).ok_or("there is no such save")?;
     let looped = time(&(save.make)(), rounds)?;
-    let milliseconds = |seconds: f64| format!("{:.1}", 1000.0 * seconds);
     let Compared { ours, rust, ratio } = looped.compared;
+    let shown = |spread: Spread| {
+        let [median, least, most] = [spread.median, spread.least, spread.most];
+        format!("{median:.2} ({least:.2} to {most:.2})")
+    };
+    let (ours, rust) = (shown(ours.times(1000.0)), shown(rust.times(1000.0)));
     Ok(format!(
-        "\nOne field of the {} blocks under a name of {NORMAL}, reading included: crate {} ms ({} to {}), Rust {} ms ({} to {}), Rust / crate {:.2} ({:.2} to {:.2})\n",
+        "\nOne field of the {} blocks under a name of {NORMAL}, with the reading: crate {ours} ms, Rust {rust} ms, Rust / crate {}\n",
         looped.blocks,
-        milliseconds(ours.median),
-        milliseconds(ours.least),
-        milliseconds(ours.most),
-        milliseconds(rust.median),
-        milliseconds(rust.least),
-        milliseconds(rust.most),
-        ratio.median,
-        ratio.least,
-        ratio.most,
+        shown(ratio)
     ))
 }
 

@@ -36,7 +36,7 @@ pub struct BsiiFile<'a> {
     once: OnceCell<bool>,
 }
 
-/// A prototype by the last definition of its id.
+/// A prototype, by the last definition of its id where nothing else is said.
 #[derive(Clone, Copy, Debug, PartialEq, Eq)]
 pub struct Prototype<'a> {
     /// Blocks name their prototype by it.
