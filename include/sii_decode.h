@@ -8,13 +8,14 @@
  * every other member is 0, with two exceptions: the `lacking` of SII_MALFORMED and the `length` of SII_OUTPUT_SHORT. Compare structs member by
  * member: the padding between members holds anything.
  *
- * What is asked of the caller. At least as many bytes (or words, for the table) as its length says can be read at a pointer, and for table,
- * output and the space of a written index written. With length 0 nothing is read or written there, so any pointer is allowed, NULL too. The table
- * is aligned for uint32_t. What is written overlaps nothing else that is lent to the call. The floating-point environment is the one that a program starts with: sums of
- * floats round to nearest, and neither flush-to-zero nor denormals-are-zero is set (fesetround, or MXCSR, of the calling thread). With another
- * one the two sums of a placement (types 0x19 and 0x1a, in a file of another version than 1) are other numbers in the text of sii_to_siin, and no
- * refusal says so; no other call makes sums. Nothing else is asked: any bytes, any length and any number are allowed, and each call ends. The
- * library allocates nothing, keeps nothing between calls and keeps no pointer, so calls with different tables, outputs and spaces may run at the same time.
+ * What is asked of the caller. At least as many bytes (or words, for the table) as its length says can be read at a pointer, and for table, output
+ * and the space of a written index written. With length 0 nothing is read or written there, so any pointer is allowed, NULL too. The table is
+ * aligned for uint32_t. What is written overlaps nothing else that is lent to the call. The floating-point environment is the one that a program
+ * starts with: sums of floats round to nearest, and neither flush-to-zero nor denormals-are-zero is set (fesetround, or MXCSR, of the calling
+ * thread). With another one the two sums of a placement (types 0x19 and 0x1a, in a file of another version than 1) are other numbers in the text of
+ * sii_to_siin, and no refusal says so; no other call makes sums. Nothing else is asked: any bytes, any length and any number are allowed, and each
+ * call ends. The library allocates nothing, keeps nothing between calls and keeps no pointer, so calls with different tables, outputs and spaces may
+ * run at the same time.
  *
  * What the library needs. x86-64 and the System V calling convention. Of libc memcpy and memset, and nothing else. 4096 bytes of stack for
  * each call: tests/c/stack.c runs each call on a stack filled with a pattern and measures at most 3496, those two functions included; a dynamic
@@ -27,10 +28,10 @@
  * words for each distinct prototype id of the file are enough. A prototype has at least 17 bytes, so three words for each whole 17 bytes of
  * the file, file_len / 17 * 3, always are.
  *
- * An index is kept beside a file, so that a field can be found without reading all of it. It has no header and one record of SII_INDEX_RECORD bytes
- * for each block, in the order of the blocks: four numbers of three bytes, least byte first. They are the offset of the block, which is that of its
- * prototype id; its length from there to the end of its last value; the offset of the record that defines its prototype, by the definition in force
- * when the block was read; and the number of that definition's fields. sii_write_index writes it, sii_check_index compares it with the file,
+ * An index is kept beside a file, so that a field can be found without reading all of it. It has no header and one record of 12 bytes for each
+ * block, in the order of the blocks: four numbers of three bytes, least byte first. They are the offset of the block, which is that of its prototype
+ * id; its length from there to the end of its last value; the offset of the record that defines its prototype, by the definition in force when the
+ * block was read; and the number of that definition's fields. sii_write_index writes it, sii_check_index compares it with the file,
  * sii_field_by_index looks a field up by it.
  */
 #ifndef SII_DECODE_H
@@ -53,9 +54,6 @@ extern "C" {
 
 /* The most bytes that a file may have, those behind its end record included. */
 #define SII_LENGTH_LIMIT 16777216
-
-/* The bytes of an index that one block has. */
-#define SII_INDEX_RECORD 12
 
 /*
  * The refusals. Of several, SII_INPUT_LONG comes first, then the first fault of the file from front to back (1, 3 to 7, 10 and 15), whatever was
@@ -98,7 +96,7 @@ enum {
     SII_ABSENT = 13,
     /*
      * The index is not that of the file. Offset, in the index: of the first record that differs, is cut, is missing or stands past the last block;
-     * a multiple of SII_INDEX_RECORD.
+     * a multiple of 12.
      */
     SII_MISFIT = 14,
     /* The mark of a record, which is the byte behind a record number 0, is there and is neither 0 nor 1. Offset: the mark. */
@@ -281,10 +279,10 @@ SiiElement sii_element_of(uint32_t version, uint32_t type_id, const uint8_t *par
 SiiText sii_to_siin(const uint8_t *file, size_t file_len, uint32_t *table, size_t words, uint8_t *output, size_t output_len);
 
 /*
- * Writes the file's index into the space at `index`. Answers the index's length, SII_INDEX_RECORD times the number of blocks; without blocks that
- * is 0, and any space is enough. A file whose text is refused with 8 or 9 has an index too. Refusals, in this order: SII_INPUT_LONG; 1, 3 to 7, 10
- * and 15, the first in the file; SII_OUTPUT_SHORT, with `length` the length that the space must have. Afterwards the space starts with the index,
- * and its bytes beyond the index keep their values; after a refusal all of them do. The table is all 0.
+ * Writes the file's index into the space at `index`. Answers the index's length, 12 times the number of blocks; without blocks that is 0, and any
+ * space is enough. A file whose text is refused with 8 or 9 has an index too. Refusals, in this order: SII_INPUT_LONG; 1, 3 to 7, 10 and 15, the
+ * first in the file; SII_OUTPUT_SHORT, with `length` the length that the space must have. Afterwards the space starts with the index, and its bytes
+ * beyond the index keep their values; after a refusal all of them do. The table is all 0.
  */
 SiiLength sii_write_index(const uint8_t *file, size_t file_len, uint32_t *table, size_t words, uint8_t *index, size_t index_len);
 
