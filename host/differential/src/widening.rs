@@ -181,7 +181,7 @@ impl Asked<'_, '_> {
         let found = (answer.number, answer.length);
         let asked = || format!("with {room} bytes");
         self.same("text", asked, found, (0, length as u64))?;
-        Ok(self.side.written(answer).to_vec())
+        Ok(self.side.written(answer.length).to_vec())
     }
 
     /// What demand 3 says of a save after insertions.

@@ -181,7 +181,7 @@ impl Implementation for Impostor {
             Answer::Field(answer) => Answer::Field(self.field(answer, call, file)),
             Answer::Element(answer) => Answer::Element(self.element(answer, call)),
             Answer::Text(answer) => Answer::Text(self.text(answer, file, out, &before)),
-            Answer::Number(_) => answer,
+            Answer::Number(_) | Answer::Length(_) | Answer::Checked(_) => answer,
         }
     }
 }

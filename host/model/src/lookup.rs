@@ -42,6 +42,8 @@ pub struct Parsed {
     pub next: usize,
     /// Whether a prototype id is defined twice.
     pub redefined: bool,
+    /// Where each record starts, the end record and one with a fault too.
+    pub starts: Vec<usize>,
     /// Every prototype's and field's name, replaced ones too: what a test asks for.
     pub names: Vec<Place>,
     /// Every definition's type with its offset, replaced ones too.
@@ -79,6 +81,7 @@ impl Parsed {
     /// Reads one record; true if it is the end record.
     fn record(&mut self, cursor: &mut Cursor<'_>, capacity: usize) -> Result<bool, Refusal> {
         let start = cursor.at;
+        self.starts.push(start);
         match cursor.u32()? {
             0 => {
                 let mark = cursor.at;
