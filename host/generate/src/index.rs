@@ -89,7 +89,10 @@ pub fn hostile(random: &mut Random, index: &[u8], len: usize, places: &[usize]) 
             _ => {}
         }
         let [block, prototype] = offsets;
-        let [length, fields] = [0; 2].map(|_| random.number() as usize);
+        let [length, fields] = [0; 2].map(|_| match random.chance(50) {
+            true => random.below(4),
+            false => random.number() as usize,
+        });
         made.extend(record([block, length, prototype, fields]));
     }
     if random.chance(20) {
