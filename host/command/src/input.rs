@@ -1,16 +1,11 @@
 //! The bytes of a save and of an index.
 
 use crate::{show, system, Failure};
-use sii_decode::LENGTH_LIMIT;
+use sii_decode::{longest_index, LENGTH_LIMIT};
 use std::ffi::OsStr;
 use std::fs::File;
 use std::io::{self, Read};
 use std::os::fd::AsFd;
-
-/// A block has at least so many bytes.
-const SHORTEST_BLOCK: usize = 5;
-/// The bytes of an index for each block.
-pub const RECORD: usize = 12;
 
 /// What messages call the file.
 pub fn name(path: &OsStr) -> String {
@@ -37,7 +32,7 @@ pub fn read(save: &OsStr) -> Result<Vec<u8>, Failure> {
 pub fn read_index(path: &OsStr, save: &[u8]) -> Result<Index, Failure> {
     Ok(Index {
         name: name(path),
-        bytes: at_most(path, save.len() / SHORTEST_BLOCK * RECORD + 1)?,
+        bytes: at_most(path, longest_index(save.len()) + 1)?,
     })
 }
 

@@ -125,13 +125,21 @@ fn same_file(a: &Metadata, b: &Metadata) -> bool {
 
 /// Fails if the path leads to the save, which would be lost.
 pub fn not_the_save(path: &Path, save: &OsStr) -> Result<(), Failure> {
-    match (fs::metadata(path), fs::metadata(save)) {
+    let read = match save == "-" {
+        true => input_metadata(),
+        false => fs::metadata(save),
+    };
+    match (fs::metadata(path), read) {
         (Ok(there), Ok(read)) if same_file(&there, &read) => {
             let error = io::Error::other("it is the save itself, and stays as it is");
             Err(Failure::Io(show::path(path.as_os_str()), error))
         }
         _ => Ok(()),
     }
+}
+
+fn input_metadata() -> io::Result<Metadata> {
+    File::from(io::stdin().as_fd().try_clone_to_owned()?).metadata()
 }
 
 fn folder_of(path: &Path) -> &Path {

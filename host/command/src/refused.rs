@@ -1,10 +1,10 @@
 //! The message of a refusal.
 
 use crate::arguments::Question;
-use crate::input::{Index, RECORD};
+use crate::input::Index;
 use crate::show::{self, Quoted};
 use crate::walk::{self, Block, Place};
-use sii_decode::{BsiiFile, Refusal, LENGTH_LIMIT};
+use sii_decode::{BsiiFile, Refusal, LENGTH_LIMIT, RECORD};
 
 /// Whether the offset says something about the save's bytes there: that of 14 counts in the index.
 fn has_bytes(number: u32) -> bool {

@@ -1,6 +1,6 @@
 //! A save and the questions about it.
 
-use crate::index::{Record, RECORD};
+use crate::index::{longest_index, Record, RECORD};
 use crate::library::{self, Reading};
 use crate::{DataField, Definitions, Id, Prototypes, Refusal, LENGTH_LIMIT};
 use std::borrow::Cow;
@@ -9,8 +9,6 @@ use std::fmt;
 
 /// A prototype has at least so many bytes.
 const SHORTEST_PROTOTYPE: usize = 17;
-/// A block has at least so many bytes.
-const SHORTEST_BLOCK: usize = 5;
 /// The table's words for each prototype.
 const WORDS: usize = 3;
 /// The prototypes of a first table. Saves have a few hundred.
@@ -151,7 +149,7 @@ fn indexed(content: &[u8], table: &mut [u32]) -> Result<(u64, Option<Vec<u8>>), 
     let mut index = Vec::new();
     if content.len() <= LENGTH_LIMIT {
         // What fails here leaves no room, and the answer is the length that is needed.
-        let _ = index.try_reserve_exact(content.len() / SHORTEST_BLOCK * RECORD);
+        let _ = index.try_reserve_exact(longest_index(content.len()));
     }
     let mut answer = library::write_index_within(content, table, &mut index);
     if answer.number == 11 {

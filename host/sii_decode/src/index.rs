@@ -6,14 +6,21 @@
 use crate::Prototype;
 use std::fmt;
 
-/// The bytes of a record.
-pub(crate) const RECORD: usize = calls::RECORD;
+/// The bytes of an index for each block.
+pub const RECORD: usize = calls::RECORD;
+/// A block has at least so many bytes.
+const SHORTEST_BLOCK: usize = 5;
 /// Behind the header.
 const FIRST_RECORD: usize = 8;
 /// A prototype's number 0 and its mark.
 const HEAD: usize = 5;
 /// A prototype's number 0, its mark and its id, which stand in front of its name's length.
 const BEFORE_NAME: usize = HEAD + 4;
+
+/// The most bytes that the index of a save of so many bytes can have.
+pub fn longest_index(save: usize) -> usize {
+    save / SHORTEST_BLOCK * RECORD
+}
 
 /// Where a block stands, and the definition of its prototype in force there.
 #[derive(Clone, Copy, Debug, PartialEq, Eq)]

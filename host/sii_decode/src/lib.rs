@@ -52,7 +52,7 @@ mod value;
 
 pub use file::{to_siin, Blocks, BlocksByPrototypeName, BsiiFile, DataBlock, Prototype};
 pub use id::Id;
-pub use index::{Definition, Definitions, Prototypes};
+pub use index::{longest_index, Definition, Definitions, Prototypes, RECORD};
 pub use plain::OtherKind;
 pub use refusal::Refusal;
 pub use value::{DataField, DataValue, Elements, Placement};

@@ -1,11 +1,8 @@
 //! Why a call has no answer.
 
-use crate::index;
+use crate::RECORD;
 use std::error::Error;
 use std::fmt;
-
-/// The bytes of an index that one block has.
-const RECORD: u64 = index::RECORD as u64;
 
 /// A refusal of the library: its number, and the offset that it is about, counted from the first
 /// byte of the input.
@@ -33,7 +30,11 @@ impl Refusal {
             (3, 1) => "the input ends 1 byte early".into(),
             (3, lacking) => format!("the input ends {lacking} bytes early"),
             (11, _) => format!("{}, which has {} bytes", words(11), self.needed),
-            (14, _) => format!("{}, from its record {} on", words(14), self.offset / RECORD),
+            (14, _) => format!(
+                "{}, from its record {} on",
+                words(14),
+                self.offset / RECORD as u64
+            ),
             (number, _) => words(number).into(),
         }
     }

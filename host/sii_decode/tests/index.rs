@@ -4,7 +4,7 @@
 use generate::widening::widening;
 use generate::{worked_bytes, Random};
 use sii_decode::library;
-use sii_decode::{BsiiFile, DataField, Refusal};
+use sii_decode::{longest_index, BsiiFile, DataField, Refusal, RECORD};
 use std::collections::HashMap;
 
 const ABSENT: Refusal = Refusal {
@@ -350,6 +350,7 @@ fn definitions_of_the_sample() {
 /// An index that is owned, and one that is borrowed.
 #[test]
 fn lent_and_given() {
+    assert_eq!((RECORD, longest_index(62)), (12, 144));
     let bytes = worked_bytes();
     let index = BsiiFile::parse(&bytes).unwrap().index().unwrap().to_vec();
     let borrowed = BsiiFile::with_index(&bytes, &index).unwrap();
