@@ -13,6 +13,8 @@ const CHECKED: usize = 4;
 const HOSTILE: usize = 6;
 /// Look-ups by each of these.
 const LOOKED_UP: usize = 2;
+/// Names that are looked up by any bytes as an index.
+const NAMES: usize = 4;
 
 impl Pair<'_, '_> {
     pub fn index(&mut self, plan: &Plan, random: &mut Random) -> Check {
@@ -54,6 +56,17 @@ impl Pair<'_, '_> {
             };
             let name = &plan.names[random.below(plan.names.len())];
             self.look_up(index, block, name)?;
+        }
+        Ok(())
+    }
+
+    /// All blocks of the index, and one more, with the first names of the file.
+    pub fn by_index(&mut self, index: &[u8], plan: &Plan) -> Check {
+        let records = index.len() / calls::RECORD;
+        for block in 0..=records as u64 {
+            for name in plan.index.names.iter().take(NAMES) {
+                self.look_up(index, block, name)?;
+            }
         }
         Ok(())
     }

@@ -885,6 +885,30 @@ fn each_impostor_of_an_index_is_found() {
     }
 }
 
+/// The look-ups of a fuzzer, whose inputs bring their index.
+#[test]
+fn any_bytes_as_an_index() {
+    let file = one_value(0x27, &[7, 0, 0, 0]);
+    let index = Model::default().parsed(&file, 1).unwrap().index();
+    let of_no_length = [&index[..3], &[0; 3], &index[6..]].concat();
+    for (fault, index, is_found) in [
+        (Fault::LookUpTrustsTheLength, &index[..], false),
+        (Fault::LookUpTrustsTheLength, &of_no_length, true),
+        (Fault::LookUpStopsAtTheValue, &of_no_length, false),
+        (Fault::LookUpOfACutRecord, &index, false),
+        (Fault::LookUpOfACutRecord, &index[..11], true),
+        (Fault::LookUpOfACutRecord, b"", false),
+    ] {
+        let model = Model::default();
+        let mut comparison = Comparison::default();
+        comparison.library = Some(Box::new(Impostor { model, fault }));
+        let check = comparison.by_index(&file, index, &mut Tally::default());
+        let label = check.err().map(|difference| difference.label);
+        let expected = is_found.then_some("library and model: field_by_index");
+        assert_eq!(label.as_deref(), expected, "{fault:?}, {index:?}");
+    }
+}
+
 #[test]
 fn the_model_passes_as_a_library() {
     assert_eq!(differences(None, 5000).next(), None);
