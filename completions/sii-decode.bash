@@ -17,7 +17,7 @@ _sii_decode() {
             ;;
         -o) i=$((i + 1)) ;;
         # bash makes three words of --output=FILE
-        --output | --into)
+        --output | --index | --into)
             [[ $word != --into ]] || into=yes
             [[ ${COMP_WORDS[i + 1]} == '=' ]] && i=$((i + 2)) || i=$((i + 1))
             ;;
@@ -36,12 +36,12 @@ _sii_decode() {
         mapfile -t COMPREPLY < <(compgen -d -- "$current")
         return
     fi
-    if [[ ! $behind && ($previous == -o || $previous == --output) ]]; then
+    if [[ ! $behind && ($previous == -o || $previous == --output || $previous == --index) ]]; then
         mapfile -t COMPREPLY < <(compgen -f -- "$current")
         return
     fi
     if [[ ! $behind && $current == -?* ]]; then
-        mapfile -t COMPREPLY < <(compgen -W '-o --output --into -h --help -V --version --' -- "$current")
+        mapfile -t COMPREPLY < <(compgen -W '-o --output --index --into -h --help -V --version --' -- "$current")
         return
     fi
     # behind --into every word is a save
@@ -51,19 +51,20 @@ _sii_decode() {
     fi
     if [[ $questions ]] && ((${#plain[@]} == 0)); then
         mapfile -t COMPREPLY < <(
-            compgen -W 'info prototype block blocks field' -- "$current"
+            compgen -W 'info prototypes prototype blocks block fields field index check' -- "$current"
             compgen -f -- "$current"
         )
         return
     fi
-    # where the save stands
-    local save=0
+    # where the save stands, and of a question that has one more word or not, or an index, the file in front of it
+    local save=0 first=0
     [[ ! $questions ]] || case ${plain[0]} in
-    info) save=1 ;;
-    prototype | block | blocks) save=2 ;;
+    info | prototypes | index) save=1 ;;
+    prototype | block | fields) save=2 ;;
+    blocks | check) save=2 first=1 ;;
     field) save=3 ;;
     esac
-    if ((${#plain[@]} == save)); then
+    if ((${#plain[@]} == save || (first && ${#plain[@]} == first))); then
         mapfile -t COMPREPLY < <(compgen -f -- "$current")
     fi
 }

@@ -4,17 +4,18 @@
  * and the calls.
  *
  * Answers. Each call returns a struct. Its `number` is 0 if the call has an answer; then `offset` and `lacking` are 0. Otherwise it is one of the
- * refusals below, `offset` is the byte of the file (of the part, for sii_element_of) that the refusal is about, and every other member is 0, with
- * two exceptions: the `lacking` of SII_MALFORMED and the `length` of SII_OUTPUT_SHORT. Compare structs member by member: the padding between
- * members holds anything.
+ * refusals below, `offset` is the byte of the file (of the part, for sii_element_of; of the index, for SII_MISFIT) that the refusal is about, and
+ * every other member is 0, with two exceptions: the `lacking` of SII_MALFORMED and the `length` of SII_OUTPUT_SHORT. Compare structs member by
+ * member: the padding between members holds anything.
  *
- * What is asked of the caller. At least as many bytes (or words, for the table) as its length says can be read at a pointer, and for table and
- * output written. With length 0 nothing is read or written there, so any pointer is allowed, NULL too. The table is aligned for uint32_t. Table
- * and output overlap neither each other nor the file or the name. The floating-point environment is the one that a program starts with: sums of
- * floats round to nearest, and neither flush-to-zero nor denormals-are-zero is set (fesetround, or MXCSR, of the calling thread). With another
- * one the two sums of a placement (types 0x19 and 0x1a, in a file of another version than 1) are other numbers in the text of sii_to_siin, and no
- * refusal says so; no other call makes sums. Nothing else is asked: any bytes, any length and any number are allowed, and each call ends. The
- * library allocates nothing, keeps nothing between calls and keeps no pointer, so calls with different tables and outputs may run at the same time.
+ * What is asked of the caller. At least as many bytes (or words, for the table) as its length says can be read at a pointer, and for table, output
+ * and the space of a written index written. With length 0 nothing is read or written there, so any pointer is allowed, NULL too. The table is
+ * aligned for uint32_t. What is written overlaps nothing else that is lent to the call. The floating-point environment is the one that a program
+ * starts with: sums of floats round to nearest, and neither flush-to-zero nor denormals-are-zero is set (fesetround, or MXCSR, of the calling
+ * thread). With another one the two sums of a placement (types 0x19 and 0x1a, in a file of another version than 1) are other numbers in the text of
+ * sii_to_siin, and no refusal says so; no other call makes sums. Nothing else is asked: any bytes, any length and any number are allowed, and each
+ * call ends. The library allocates nothing, keeps nothing between calls and keeps no pointer, so calls with different tables, outputs and spaces may
+ * run at the same time.
  *
  * What the library needs. x86-64 and the System V calling convention. Of libc memcpy and memset, and nothing else. 4096 bytes of stack for
  * each call: tests/c/stack.c runs each call on a stack filled with a pattern and measures at most 3496, those two functions included; a dynamic
@@ -26,6 +27,12 @@
  * The table is scratch of `words` words. It may hold anything before a call; after every call, refused or not, all its words are 0. Three
  * words for each distinct prototype id of the file are enough. A prototype has at least 17 bytes, so three words for each whole 17 bytes of
  * the file, file_len / 17 * 3, always are.
+ *
+ * An index is kept beside a file, so that a field can be found without reading all of it. It has no header and one record of 12 bytes for each
+ * block, in the order of the blocks: four numbers of three bytes, least byte first. They are the offset of the block, which is that of its prototype
+ * id; its length from there to the end of its last value; the offset of the record that defines its prototype, by the definition in force when the
+ * block was read; and the number of that definition's fields. sii_write_index writes it, sii_check_index compares it with the file,
+ * sii_field_by_index looks a field up by it.
  */
 #ifndef SII_DECODE_H
 #define SII_DECODE_H
@@ -42,7 +49,7 @@ extern "C" {
  * layouts included, for calls are still to be added; a new patch version changes nothing of it. From 1.0 on that takes a new major version.
  */
 #define SII_VERSION_MAJOR 0
-#define SII_VERSION_MINOR 3
+#define SII_VERSION_MINOR 4
 #define SII_VERSION_PATCH 0
 
 /* The most bytes that a file may have, those behind its end record included. */
@@ -50,8 +57,9 @@ extern "C" {
 
 /*
  * The refusals. Of several, SII_INPUT_LONG comes first, then the first fault of the file from front to back (1, 3 to 7, 10 and 15), whatever was
- * asked for, then SII_ABSENT; for sii_to_siin 8 and 9 in the order of the text, then SII_OUTPUT_SHORT. 2 is retired: no call gives it, and it is
- * used for nothing else. No refusal has the number 0 or 14.
+ * asked for, then SII_ABSENT; for sii_to_siin 8 and 9 in the order of the text, then SII_OUTPUT_SHORT; for sii_write_index SII_OUTPUT_SHORT, for
+ * sii_check_index SII_MISFIT. sii_field_by_index does not read the file from its front, and has an order of its own. 2 is retired: no call gives
+ * it, and it is used for nothing else. No refusal has the number 0.
  */
 enum {
     /* The first 4 bytes are missing or are not "BSII". Offset 0. */
@@ -67,7 +75,10 @@ enum {
     SII_NOT_UTF8 = 4,
     /* An encoded word has a digit 0. Offset: the word. */
     SII_ZERO_DIGIT = 5,
-    /* No prototype of a block's prototype id stands in front of it. Offset: the block. */
+    /*
+     * No prototype of a block's prototype id stands in front of it; for sii_field_by_index, no prototype stands at the record's offset, or it is
+     * not that of the block. Offset: the block.
+     */
     SII_UNDEFINED_PROTOTYPE = 6,
     /* A block carries a value of a type that the format does not list, so that its length is not known. Offset: where the value would start. */
     SII_UNLISTED_TYPE = 7,
@@ -77,12 +88,17 @@ enum {
     SII_ENUM_VALUE = 9,
     /* The table has no three words left for a prototype under a new id. Offset: the prototype. */
     SII_TABLE_FULL = 10,
-    /* The text is longer than the output; the answer has the needed length. Offset 0. */
+    /* The text is longer than the output, or the index than its space; the answer has the needed length. Offset 0. */
     SII_OUTPUT_SHORT = 11,
     /* The file has more than SII_LENGTH_LIMIT bytes. Offset 0. */
     SII_INPUT_LONG = 12,
-    /* The prototype, block, name or element that was asked for is not there. Offset 0. */
+    /* The prototype, block, name or element that was asked for is not there, or not the index's record of the block. Offset 0. */
     SII_ABSENT = 13,
+    /*
+     * The index is not that of the file. Offset, in the index: of the first record that differs, is cut, is missing or stands past the last block;
+     * a multiple of 12.
+     */
+    SII_MISFIT = 14,
     /* The mark of a record, which is the byte behind a record number 0, is there and is neither 0 nor 1. Offset: the mark. */
     SII_BAD_MARK = 15
 };
@@ -177,6 +193,19 @@ typedef struct SiiText {
     uint64_t length; /* the text's; with SII_OUTPUT_SHORT the needed length, with every other refusal 0 */
 } SiiText;
 
+typedef struct SiiLength {
+    uint32_t number;
+    uint64_t offset;
+    uint64_t lacking;
+    uint64_t length; /* the index's, in bytes; with SII_OUTPUT_SHORT the needed length, with every other refusal 0 */
+} SiiLength;
+
+typedef struct SiiChecked {
+    uint32_t number;
+    uint64_t offset;
+    uint64_t lacking;
+} SiiChecked;
+
 typedef struct SiiElement {
     uint32_t number;
     uint64_t offset;
@@ -248,6 +277,46 @@ SiiElement sii_element_of(uint32_t version, uint32_t type_id, const uint8_t *par
  * for the length: every text is longer than that, so it is refused with SII_OUTPUT_SHORT if nothing else is wrong.
  */
 SiiText sii_to_siin(const uint8_t *file, size_t file_len, uint32_t *table, size_t words, uint8_t *output, size_t output_len);
+
+/*
+ * Writes the file's index into the space at `index`. Answers the index's length, 12 times the number of blocks; without blocks that is 0, and any
+ * space is enough. A file whose text is refused with 8 or 9 has an index too. Refusals, in this order: SII_INPUT_LONG; 1, 3 to 7, 10 and 15, the
+ * first in the file; SII_OUTPUT_SHORT, with `length` the length that the space must have. Afterwards the space starts with the index, and its bytes
+ * beyond the index keep their values; after a refusal all of them do. The table is all 0.
+ */
+SiiLength sii_write_index(const uint8_t *file, size_t file_len, uint32_t *table, size_t words, uint8_t *index, size_t index_len);
+
+/*
+ * Compares an index with the file. The answer, number 0, says that it is, byte for byte, the one that sii_write_index writes; it carries nothing
+ * more. The index may have any length. Refusals, in this order: SII_INPUT_LONG; 1, 3 to 7, 10 and 15, the first in the file, also behind a block
+ * whose record differs; SII_MISFIT. Afterwards the table is all 0; nothing else is written.
+ */
+SiiChecked sii_check_index(const uint8_t *file, size_t file_len, uint32_t *table, size_t words, const uint8_t *index, size_t index_len);
+
+/*
+ * The value of a block, by an index, the block's number from 0 and the field's name. Of the file it reads the version, and the prototype and the
+ * block at the two offsets of the index's record, and nothing else; there is no table. With an index that sii_check_index has accepted for this
+ * file, and a file that defines no prototype id twice (sii_defines_once), the answer or refusal is that of sii_field_of with a table that has room.
+ *
+ * A stale index can find a wrong value, silently: no call by it notices that the file has changed since. So check the index with sii_check_index
+ * after every opening of the save, and write it again if it does not fit.
+ *
+ * Any bytes may be given for the index; it is used as follows. The record's length and number of fields are not looked at. The name is looked for
+ * in the prototype at the record's offset: the first definition of that name. Answers the type and the part, as sii_field_of does. Refusals, in
+ * this order: SII_INPUT_LONG; SII_ABSENT if the index has no such record with all its bytes; SII_MALFORMED at 4 if the version runs out. Of the
+ * prototype: SII_MALFORMED, SII_UNDEFINED_PROTOTYPE at the block's offset if there is another number than 0 or another mark than 1, and then
+ * SII_MALFORMED and SII_NOT_UTF8 up to the end of its definitions. Of the block: SII_MALFORMED, SII_UNDEFINED_PROTOTYPE if its prototype id is 0
+ * or not that prototype's, and then 3, 4, 5 and 7 of its id and of all its values, also those behind the asked one. Last SII_ABSENT if there is no
+ * such name. Of SII_MALFORMED and SII_UNDEFINED_PROTOTYPE the offset may be behind the end of the file. Nothing is written.
+ */
+SiiField sii_field_by_index(const uint8_t *file, size_t file_len, const uint8_t *index, size_t index_len, uint64_t block,
+                            const uint8_t *name, size_t name_len);
+
+/*
+ * Whether every prototype id of the file is defined only once. Answers in `value` 1 if no id is defined twice, else 0. Refusals: SII_INPUT_LONG;
+ * 1, 3 to 7, 10 and 15, the first in the file. Afterwards the table is all 0.
+ */
+SiiNumber sii_defines_once(const uint8_t *file, size_t file_len, uint32_t *table, size_t words);
 
 #ifdef __cplusplus
 }

@@ -16,6 +16,8 @@ static_assert(plain<SiiNumber, 32>(), "SiiNumber");
 static_assert(plain<SiiField, 48>(), "SiiField");
 static_assert(plain<SiiText, 32>(), "SiiText");
 static_assert(plain<SiiElement, 88>(), "SiiElement");
+static_assert(plain<SiiLength, 32>(), "SiiLength");
+static_assert(plain<SiiChecked, 24>(), "SiiChecked");
 
 // one prototype 1, `p`, with a u32 `f`, and a block of it with the value 9
 static const uint8_t file[] = {
@@ -52,5 +54,15 @@ int main()
     expect("sii_element_of", element.number == 0 && element.kind == SII_KIND_U32 && element.value == 9);
     const SiiText text = sii_to_siin(file, sizeof file, table, 3, output, sizeof output);
     expect("sii_to_siin", text.number == 0 && text.length == 33);
+    uint8_t index[12];
+    const SiiLength length = sii_write_index(file, sizeof file, table, 3, index, sizeof index);
+    expect("sii_write_index", length.number == 0 && length.length == 12 && index[0] == 35 && index[3] == 9 && index[6] == 8 && index[9] == 1);
+    const SiiChecked checked = sii_check_index(file, sizeof file, table, 3, index, sizeof index);
+    expect("sii_check_index", checked.number == 0);
+    expect("sii_check_index", sii_check_index(file, sizeof file, table, 3, index, 11).number == SII_MISFIT);
+    const SiiField by_index = sii_field_by_index(file, sizeof file, index, sizeof index, 0, f, sizeof f);
+    expect("sii_field_by_index", by_index.number == 0 && by_index.type_id == 0x27 && by_index.part_offset == 40 && by_index.part_len == 4);
+    const SiiNumber once = sii_defines_once(file, sizeof file, table, 3);
+    expect("sii_defines_once", once.number == 0 && once.value == 1);
     return failed;
 }

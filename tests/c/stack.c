@@ -15,7 +15,8 @@
 
 enum { STACK = 65536, PATTERN = 0xa5, MOST = 1000000 };
 
-static uint8_t file[MOST], output[MOST], stack[STACK];
+static uint8_t file[MOST], output[MOST], index_space[MOST], stack[STACK];
+static size_t index_len;
 static uint32_t table[3000];
 static size_t file_len;
 static ucontext_t here, there;
@@ -42,6 +43,17 @@ static void a_block(void) { expect_block(sii_block_at(FILE_AND_TABLE, 2).number)
 static void a_named_block(void) { expect_block(sii_blocks_by_prototype_name(FILE_AND_TABLE, (const uint8_t *)"truck", 5, 1).number); }
 static void a_field(void) { expect_block(sii_field_of(FILE_AND_TABLE, 0, (const uint8_t *)"parent", 6).number); }
 static void a_text(void) { expect(sii_to_siin(FILE_AND_TABLE, output, sizeof output).number); }
+
+static void a_written_index(void)
+{
+    SiiLength written = sii_write_index(FILE_AND_TABLE, index_space, sizeof index_space);
+    expect(written.number);
+    index_len = written.length;
+}
+
+static void a_checked_index(void) { expect(sii_check_index(FILE_AND_TABLE, index_space, index_len).number); }
+static void a_look_up(void) { expect_block(sii_field_by_index(file, file_len, index_space, index_len, 0, (const uint8_t *)"parent", 6).number); }
+static void defined_once(void) { expect(sii_defines_once(FILE_AND_TABLE).number); }
 
 /* every element of the first block's fields that have these names */
 static void elements(void)
@@ -94,7 +106,8 @@ static size_t greater(size_t a, size_t b)
 
 int main(int count, char **words)
 {
-    static void (*const calls[])(void) = {a_reading, a_prototype, a_block, a_named_block, a_field, a_text};
+    static void (*const calls[])(void) = {a_reading, a_prototype,     a_block,         a_named_block, a_field,
+                                          a_text,    a_written_index, a_checked_index, a_look_up,     defined_once};
     static const uint8_t deep[] = "BSII\2\0\0\0"
                                   "\0\0\0\0\1\0\0\0\0\0\0\0\0\0\0\0\0"
                                   "\0\0\0\0\1\1\0\0\0\0\0\0\0\0\0\0\0"

@@ -268,6 +268,92 @@ static void text(const uint8_t *bytes, size_t len, size_t words, size_t output_l
     end(loan, "");
 }
 
+/* The space must start with the bytes of the expected length if the call answers; else it must be as it was. */
+static void write_index(const uint8_t *bytes, size_t len, size_t words, size_t space_len, SiiLength expected, const void *index)
+{
+    Loan loan = begin(bytes, len, words, "");
+    Lent space = lend(space_len, GUARD);
+    size_t at, changed = 0, written = expected.number == 0 ? (size_t)expected.length : 0;
+    SiiLength got;
+    for (at = 0; at < space_len; at++)
+        space.start[at] = output_byte(at);
+    got = sii_write_index(FILE_AND_TABLE(loan), space.start, space.size);
+    equal("sii_write_index, number", expected.number, got.number);
+    equal("sii_write_index, offset", expected.offset, got.offset);
+    equal("sii_write_index, lacking", expected.lacking, got.lacking);
+    equal("sii_write_index, length", expected.length, got.length);
+    same_bytes("index", index, space.start, written);
+    for (at = written; at < space_len; at++)
+        changed += space.start[at] != output_byte(at);
+    equal("bytes of the space beyond the index that changed", 0, changed);
+    give_back("around the space", space);
+    end(loan, "");
+}
+
+static void check_index(const uint8_t *bytes, size_t len, size_t words, const void *index, size_t index_len, SiiChecked expected)
+{
+    Loan loan = begin(bytes, len, words, "");
+    Lent lent = lend_copy(index, index_len);
+    SiiChecked got = sii_check_index(FILE_AND_TABLE(loan), lent.start, lent.size);
+    equal("sii_check_index, number", expected.number, got.number);
+    equal("sii_check_index, offset", expected.offset, got.offset);
+    equal("sii_check_index, lacking", expected.lacking, got.lacking);
+    same_bytes("index", index, lent.start, lent.size);
+    give_back("around the index", lent);
+    end(loan, "");
+}
+
+static void by_index(const uint8_t *bytes, size_t len, const void *index, size_t index_len, uint64_t n, const char *name, SiiField expected)
+{
+    Loan loan = begin(bytes, len, 0, name);
+    Lent lent = lend_copy(index, index_len);
+    SiiField got = sii_field_by_index(loan.file.start, loan.file.size, lent.start, lent.size, n, NAME(loan));
+    equal("sii_field_by_index, number", expected.number, got.number);
+    equal("sii_field_by_index, offset", expected.offset, got.offset);
+    equal("sii_field_by_index, lacking", expected.lacking, got.lacking);
+    equal("sii_field_by_index, type_id", expected.type_id, got.type_id);
+    equal("sii_field_by_index, part_offset", expected.part_offset, got.part_offset);
+    equal("sii_field_by_index, part_len", expected.part_len, got.part_len);
+    same_bytes("index", index, lent.start, lent.size);
+    give_back("around the index", lent);
+    end(loan, name);
+}
+
+static void defines_once(const uint8_t *bytes, size_t len, size_t words, SiiNumber expected)
+{
+    Loan loan = begin(bytes, len, words, "");
+    SiiNumber got = sii_defines_once(FILE_AND_TABLE(loan));
+    equal("sii_defines_once, number", expected.number, got.number);
+    equal("sii_defines_once, offset", expected.offset, got.offset);
+    equal("sii_defines_once, lacking", expected.lacking, got.lacking);
+    equal("sii_defines_once, value", expected.value, got.value);
+    end(loan, "");
+}
+
+/* The index is written as a text is, and accepted; and by each of its bytes it is another. */
+static void has_index(const uint8_t *bytes, size_t len, size_t words, const void *index, size_t length)
+{
+    uint8_t other[64];
+    size_t at;
+    write_index(bytes, len, words, length, (SiiLength){0, 0, 0, length}, index);
+    write_index(bytes, len, words, length + 50, (SiiLength){0, 0, 0, length}, index);
+    check_index(bytes, len, words, index, length, (SiiChecked){0, 0, 0});
+    if (length == 0)
+        return;
+    write_index(bytes, len, words, length - 1, (SiiLength){SII_OUTPUT_SHORT, 0, 0, length}, "");
+    write_index(bytes, len, words, 0, (SiiLength){SII_OUTPUT_SHORT, 0, 0, length}, "");
+    memcpy(other, index, length);
+    memset(other + length, 0, 13);
+    for (at = 0; at < length; at++) {
+        check_index(bytes, len, words, index, at, (SiiChecked){SII_MISFIT, at / 12 * 12, 0});
+        other[at] ^= 0x10;
+        check_index(bytes, len, words, other, length, (SiiChecked){SII_MISFIT, at / 12 * 12, 0});
+        other[at] ^= 0x10;
+    }
+    for (at = 1; at <= 13; at++)
+        check_index(bytes, len, words, other, length + at, (SiiChecked){SII_MISFIT, length, 0});
+}
+
 /* The text whole, into an output of just its length and into a longer one, and refused for an output that is a byte short and for none. */
 static void converts(const uint8_t *bytes, size_t len, size_t words, const char *expected)
 {
@@ -313,6 +399,11 @@ static void fault(const char *name, const uint8_t *bytes, size_t len, size_t wor
     field(bytes, len, words, 0, "", (SiiField){number, offset, lacking, 0, 0, 0});
     text(bytes, len, words, 100, (SiiText){number, offset, lacking, 0}, "");
     text(bytes, len, words, 0, (SiiText){number, offset, lacking, 0}, "");
+    write_index(bytes, len, words, 100, (SiiLength){number, offset, lacking, 0}, "");
+    write_index(bytes, len, words, 0, (SiiLength){number, offset, lacking, 0}, "");
+    check_index(bytes, len, words, "another", 7, (SiiChecked){number, offset, lacking});
+    check_index(bytes, len, words, "", 0, (SiiChecked){number, offset, lacking});
+    defines_once(bytes, len, words, (SiiNumber){number, offset, lacking, 0});
 }
 
 /* any but 3: nothing is lacking */
@@ -396,6 +487,8 @@ static void the_worked_file(void)
         field(worked, WORKED, words, 0, "km", (SiiField){0, 0, 0, 0x27, 61, 4});
         field(worked, WORKED, words, 0, "w", (SiiField){0, 0, 0, 0x06, 65, 12});
         converts(worked, WORKED, words, worked_text);
+        has_index(worked, WORKED, words, "\x30\0\0\x1d\0\0\x8\0\0\2\0\0", 12);
+        defines_once(worked, WORKED, words, (SiiNumber){0, 0, 0, 1});
     }
     element(0x27, worked + 61, 4, 0, value(SII_KIND_U32, 300));
     element(0x06, worked + 65, 12, 0, (SiiElement){.kind = SII_KIND_F32, .a = 0x3fc00000});
@@ -460,15 +553,18 @@ static void cuts(void)
 /* bytes without a terminator, and how many */
 #define BYTES(literal) (literal), sizeof(literal) - 1
 
+/* a u16 in two blocks, at 35 and 42; the literal's own zero is the end record's mark */
+static const char save[] = "BSII\2\0\0\0"
+                           "\0\0\0\0\1\3\0\0\0\1\0\0\0t\x2b\0\0\0\1\0\0\0n\0\0\0\0"
+                           "\3\0\0\0\0\5\0"
+                           "\3\0\0\0\1\x22\0\0\0\0\0\0\0\7\0"
+                           "\0\0\0\0";
+static const uint8_t *const save_bytes = (const uint8_t *)save;
+
 /* cuts, by their offsets and lacking bytes: a name, and a save with a u16 in two blocks */
 static void worked_cuts(void)
 {
-    static const char save[] = "BSII\2\0\0\0"
-                               "\0\0\0\0\1\3\0\0\0\1\0\0\0t\x2b\0\0\0\1\0\0\0n\0\0\0\0"
-                               "\3\0\0\0\0\5\0"
-                               "\3\0\0\0\1\x22\0\0\0\0\0\0\0\7\0"
-                               "\0\0\0\0";
-    const uint8_t *bytes = (const uint8_t *)save;
+    const uint8_t *bytes = save_bytes;
     cut("version", bytes, 5, 4, 3);
     cut("record number", bytes, 10, 8, 2);
     start();
@@ -477,7 +573,6 @@ static void worked_cuts(void)
     fault("name", (const uint8_t *)BYTES("BSII\2\0\0\0\0\0\0\0\1\3\0\0\0\5\0\0\0ab"), 3, SII_MALFORMED, 21, 3);
     cut("u16", bytes, 41, 40, 1);
     label = "save with a u16 in two blocks";
-    /* the literals' own zeros are the end records' marks */
     reading(bytes, sizeof save, 3, (SiiReading){0, 0, 0, 1, 2, 62});
 }
 
@@ -528,6 +623,8 @@ static void damage(void)
     prototype(made, made_len, 3, 7, (SiiPrototype){0, 0, 0, 90, 1, 1});
     field(made, made_len, 3, 0, "x", (SiiField){0, 0, 0, 0x27, 61, 4});
     field(made, made_len, 3, 0, "km", (SiiField){SII_ABSENT, 0, 0, 0, 0, 0});
+    has_index(made, made_len, 3, "\x30\0\0\x1d\0\0\x8\0\0\2\0\0", 12);
+    defines_once(made, made_len, 3, (SiiNumber){0, 0, 0, 0});
     text(made, made_len, 3, 100, (SiiText){SII_FIELD_COUNT, 48, 0, 0}, "");
     text(made, made_len, 3, 0, (SiiText){SII_FIELD_COUNT, 48, 0, 0}, "");
 
@@ -538,6 +635,7 @@ static void damage(void)
     reading(made, made_len, 3, (SiiReading){0, 0, 0, 1, 1, made_len});
     field(made, made_len, 3, 0, "km", (SiiField){0, 0, 0, 0x37, 77, 4});
     element(0x37, made + 77, 4, 0, value(SII_KIND_ENUM, 300));
+    has_index(made, made_len, 3, "\x40\0\0\x1d\0\0\x8\0\0\2\0\0", 12);
     text(made, made_len, 3, 100, (SiiText){SII_ENUM_VALUE, 77, 0, 0}, "");
     text(made, made_len, 3, 0, (SiiText){SII_ENUM_VALUE, 77, 0, 0}, "");
 }
@@ -584,6 +682,8 @@ static void the_widened_file(void)
     field(made, made_len, 6, 1, "b", (SiiField){0, 0, 0, 0x35, 138, 1});
     field(made, made_len, 6, 1, "km", (SiiField){SII_ABSENT, 0, 0, 0, 0, 0});
     converts(made, made_len, 6, expected);
+    has_index(made, made_len, 6, "\x64\0\0\x21\0\0\x23\0\0\3\0\0\x85\0\0\6\0\0\x8\0\0\1\0\0", 24);
+    defines_once(made, made_len, 6, (SiiNumber){0, 0, 0, 1});
 }
 
 /* a prototype id defined again behind its block: FORMAT.md, "A prototype id defined again" */
@@ -605,6 +705,140 @@ static void the_redefined_file(void)
     field(file, sizeof file, 3, 0, "g", (SiiField){0, 0, 0, 0x27, 40, 4});
     field(file, sizeof file, 3, 0, "f", (SiiField){SII_ABSENT, 0, 0, 0, 0, 0});
     converts(file, sizeof file, 3, "SiiNunit\n{\nq : null {\n  g: 9\n}\n}\n");
+    /* by the definition in force */
+    has_index(file, sizeof file, 3, "\x23\0\0\x9\0\0\x8\0\0\1\0\0", 12);
+    by_index(file, sizeof file, BYTES("\x23\0\0\x9\0\0\x8\0\0\1\0\0"), 0, "f", (SiiField){0, 0, 0, 0x27, 40, 4});
+    by_index(file, sizeof file, BYTES("\x23\0\0\x9\0\0\x8\0\0\1\0\0"), 0, "g", (SiiField){SII_ABSENT, 0, 0, 0, 0, 0});
+    defines_once(file, sizeof file, 3, (SiiNumber){0, 0, 0, 0});
+}
+
+static SiiField no_field(uint32_t number, uint64_t offset)
+{
+    return (SiiField){.number = number, .offset = offset};
+}
+
+static SiiField cut_field(uint64_t offset, uint64_t lacking)
+{
+    return (SiiField){.number = SII_MALFORMED, .offset = offset, .lacking = lacking};
+}
+
+/* A record with these two offsets: its length and its number of fields are nonsense, which no call by it looks at. */
+static const uint8_t *pointing(uint32_t to_block, uint32_t to_prototype)
+{
+    static uint8_t record[12];
+    int i;
+    memset(record, 0xff, sizeof record);
+    for (i = 0; i < 3; i++) {
+        record[i] = (uint8_t)(to_block >> 8 * i);
+        record[6 + i] = (uint8_t)(to_prototype >> 8 * i);
+    }
+    return record;
+}
+
+/* The save with one byte changed, looked up by its index: block 0, `n`. */
+static void changed(size_t at, uint8_t byte, SiiField expected)
+{
+    uint8_t other[sizeof save];
+    memcpy(other, save, sizeof save);
+    other[at] = byte;
+    by_index(other, sizeof other, pointing(35, 8), 12, 0, "n", expected);
+}
+
+/* the look-ups by an index: the worked ones, and indexes of any kind */
+static void look_ups(void)
+{
+    /* the literal's own zero is the last byte */
+    static const char index[] = "\x23\0\0\7\0\0\x8\0\0\1\0\0\x2a\0\0\xf\0\0\x8\0\0\1\0";
+    static const uint8_t inserted[] = {3, 0, 0, 0, 0, 9, 0};
+    static const uint8_t empty[] = {'B', 'S', 'I', 'I', 2, 0, 0, 0, 0, 0, 0, 0, 0};
+    const SiiField second = {0, 0, 0, 0x2b, 55, 2};
+    /* where the items of the prototype start */
+    static const size_t items[] = {8, 12, 13, 17, 21, 22, 26, 30, 31, 35};
+    uint8_t wider[sizeof save + sizeof inserted];
+    size_t len, item;
+    unsigned mark;
+
+    label = "index";
+    has_index(save_bytes, sizeof save, 3, index, 24);
+    has_index(empty, sizeof empty, 0, "", 0);
+    check_index(empty, sizeof empty, 0, "\0", 1, (SiiChecked){SII_MISFIT, 0, 0});
+    check_index(save_bytes, sizeof save, 3, BYTES("\x2a\0\0\xf\0\0\x8\0\0\1\0\0\x23\0\0\7\0\0\x8\0\0\1\0\0"), (SiiChecked){SII_MISFIT, 0, 0});
+    defines_once(save_bytes, sizeof save, 3, (SiiNumber){0, 0, 0, 1});
+    label = "look-up";
+    by_index(save_bytes, sizeof save, index, 24, 0, "n", (SiiField){0, 0, 0, 0x2b, 40, 2});
+    by_index(save_bytes, sizeof save, index, 24, 1, "n", second);
+    by_index(save_bytes, sizeof save, pointing(42, 8), 12, 0, "n", second);
+    by_index(save_bytes, sizeof save, index, 24, 1, "zz", no_field(SII_ABSENT, 0));
+    by_index(save_bytes, sizeof save, index, 24, 1, "", no_field(SII_ABSENT, 0));
+    label = "look-up, no record";
+    by_index(save_bytes, sizeof save, index, 24, 2, "n", no_field(SII_ABSENT, 0));
+    by_index(save_bytes, sizeof save, index, 23, 1, "n", no_field(SII_ABSENT, 0));
+    by_index(save_bytes, sizeof save, index, 24, ABOVE_32_BITS, "n", no_field(SII_ABSENT, 0));
+    by_index(save_bytes, sizeof save, index, 24, UINT64_MAX / 12 + 1, "n", no_field(SII_ABSENT, 0));
+    by_index(save_bytes, sizeof save, index, 24, UINT64_MAX, "n", no_field(SII_ABSENT, 0));
+    by_index(save_bytes, sizeof save, "", 0, 0, "n", no_field(SII_ABSENT, 0));
+    label = "look-up, other offsets";
+    by_index(save_bytes, sizeof save, BYTES("\x2a\0\0\0\0\0\x2a\0\0\0\0\0"), 0, "n", no_field(SII_UNDEFINED_PROTOTYPE, 42));
+    by_index(save_bytes, sizeof save, BYTES("\x3c\0\0\0\0\0\x8\0\0\0\0\0"), 0, "zz", cut_field(60, 2));
+    by_index(save_bytes, sizeof save, pointing(8, 35), 12, 0, "n", no_field(SII_UNDEFINED_PROTOTYPE, 8));
+    by_index(save_bytes, sizeof save, pointing(8, 8), 12, 0, "n", no_field(SII_UNDEFINED_PROTOTYPE, 8));
+    by_index(save_bytes, sizeof save, pointing(35, 57), 12, 0, "n", no_field(SII_UNDEFINED_PROTOTYPE, 35));
+    by_index(save_bytes, sizeof save, pointing(35, 62), 12, 0, "n", cut_field(62, 4));
+    by_index(save_bytes, sizeof save, pointing(99, 61), 12, 0, "n", cut_field(61, 3));
+    by_index(save_bytes, sizeof save, pointing(0xffffff, 8), 12, 0, "n", cut_field(0xffffff, 4));
+    by_index(save_bytes, sizeof save, pointing(0xffffff, 0xfffffe), 12, 0, "n", cut_field(0xfffffe, 4));
+    by_index(save_bytes, sizeof save, pointing(0xffffff, 35), 12, 0, "n", no_field(SII_UNDEFINED_PROTOTYPE, 0xffffff));
+    label = "look-up, cut save";
+    for (len = 0; len < 8; len++) {
+        by_index(save_bytes, len, index, 24, 0, "n", cut_field(4, len < 4 ? 4 : 8 - len));
+        by_index(save_bytes, len, index, 24, 2, "n", no_field(SII_ABSENT, 0));
+    }
+    for (item = 0; items[item] < 35; item++)
+        for (len = items[item]; len < items[item + 1]; len++) {
+            by_index(save_bytes, len, index, 24, 0, "n", cut_field(items[item], items[item + 1] - len));
+            by_index(save_bytes, len, pointing(99, 8), 12, 0, "n", cut_field(items[item], items[item + 1] - len));
+        }
+    by_index(save_bytes, 41, index, 24, 0, "zz", cut_field(40, 1));
+    by_index(save_bytes, 50, index, 24, 1, "n", cut_field(47, 5));
+    /* nothing behind the block is read, and nothing of the header but the version */
+    by_index(save_bytes, 57, index, 24, 1, "n", second);
+    label = "look-up, changed save";
+    changed(0, 'b', (SiiField){0, 0, 0, 0x2b, 40, 2});
+    changed(11, 1, no_field(SII_UNDEFINED_PROTOTYPE, 35));
+    for (mark = 0; mark < 256; mark++)
+        if (mark != 1)
+            changed(12, (uint8_t)mark, no_field(SII_UNDEFINED_PROTOTYPE, 35));
+    changed(13, 4, no_field(SII_UNDEFINED_PROTOTYPE, 35));
+    changed(21, 0xff, no_field(SII_NOT_UTF8, 21));
+    changed(22, 8, no_field(SII_UNLISTED_TYPE, 40));
+    changed(30, 0xff, no_field(SII_NOT_UTF8, 30));
+    changed(35, 0, no_field(SII_UNDEFINED_PROTOTYPE, 35));
+
+    label = "stale index";
+    memcpy(wider, save, 35);
+    memcpy(wider + 35, inserted, sizeof inserted);
+    memcpy(wider + 35 + sizeof inserted, save + 35, sizeof save - 35);
+    check_index(wider, sizeof wider, 3, index, 24, (SiiChecked){SII_MISFIT, 12, 0});
+    by_index(wider, sizeof wider, index, 24, 0, "n", (SiiField){0, 0, 0, 0x2b, 40, 2});
+    equal("the value that a stale index finds", 9, wider[40]);
+}
+
+/* Every value of a block is read, also behind the one that is asked for. */
+static void values_behind_the_asked_one(void)
+{
+    /* the literal's own zero is the last byte */
+    static const char index[] = "\x30\0\0\x1d\0\0\x8\0\0\2\0";
+    label = "values behind the asked one";
+    by_index(worked, WORKED, index, 12, 0, "km", (SiiField){0, 0, 0, 0x27, 61, 4});
+    by_index(worked, WORKED, index, 12, 0, "w", (SiiField){0, 0, 0, 0x06, 65, 12});
+    by_index(worked, 76, index, 12, 0, "km", cut_field(73, 1));
+    by_index(worked, 76, index, 12, 0, "zz", cut_field(73, 1));
+    start();
+    made[35] = 8;
+    by_index(made, made_len, index, 12, 0, "km", no_field(SII_UNLISTED_TYPE, 65));
+    start();
+    made[53] = 38;
+    by_index(made, made_len, index, 12, 0, "zz", no_field(SII_ZERO_DIGIT, 53));
 }
 
 /* one block with an array of three f32 and a single four f32; each of its cuts from the array on; other types in their place */
@@ -697,6 +931,8 @@ static void the_file_of_version_1(void)
     reading(file, sizeof file, 3, (SiiReading){0, 0, 0, 1, 1, 73});
     field(file, sizeof file, 3, 0, "w", (SiiField){0, 0, 0, 0x19, 40, 28});
     converts(file, sizeof file, 3, "SiiNunit\n{\nj : null {\n  w: (1, -0, -0) (&7f800002; 0, &3fc00000, -2)\n}\n}\n");
+    has_index(file, sizeof file, 3, "\x23\0\0\x21\0\0\x8\0\0\1\0\0", 12);
+    by_index(file, sizeof file, pointing(35, 8), 12, 0, "w", (SiiField){0, 0, 0, 0x19, 40, 28});
     element_in(1, 0x19, file + 40, 28, 0, seven);
     element_in(1, 0x19, file + 40, 33, 0, seven);
     element_in(1, 0x19, file + 40, 28, 1, no_element(SII_ABSENT, 0));
@@ -710,6 +946,8 @@ static void the_file_of_version_1(void)
         memcpy(other, file, sizeof file);
         set_version(other, versions[at]);
         cut("placement of seven floats in another version", other, sizeof other, 72, 3);
+        by_index(other, sizeof other, pointing(35, 8), 12, 0, "w", (SiiField){0, 0, 0, 0x19, 40, 32});
+        by_index(other, 68, pointing(35, 8), 12, 0, "w", cut_field(68, 4));
     }
 }
 
@@ -795,7 +1033,12 @@ static void the_length_limit(void)
     label = "16,777,216 bytes";
     reading(file, 16777216, 3, (SiiReading){0, 0, 0, 1, 1, 82});
     text(file, 16777216, 3, 73, (SiiText){0, 0, 0, 73}, worked_text);
+    write_index(file, 16777216, 3, 12, (SiiLength){0, 0, 0, 12}, "\x30\0\0\x1d\0\0\x8\0\0\2\0\0");
+    by_index(file, 16777216, pointing(48, 8), 12, 0, "km", (SiiField){0, 0, 0, 0x27, 61, 4});
+    by_index(file, 16777216, pointing(0xffffff, 8), 12, 0, "km", cut_field(0xffffff, 3));
     refused("16,777,217 bytes", file, 16777217, 3, SII_INPUT_LONG, 0);
+    by_index(file, 16777217, pointing(48, 8), 12, 0, "km", no_field(SII_INPUT_LONG, 0));
+    by_index(file, 16777217, "", 0, 0, "km", no_field(SII_INPUT_LONG, 0));
     file[0] = 0;
     label = "16,777,217 bytes, and not BSII";
     reading(file, 16777217, 4, (SiiReading){SII_INPUT_LONG, 0, 0, 0, 0, 0});
@@ -939,6 +1182,12 @@ static void nothing_at_all(void)
     element(0x08, NULL, 0, 0, no_element(SII_UNLISTED_TYPE, 0));
     label = "NULL for the output";
     text(worked, WORKED, 3, 0, (SiiText){SII_OUTPUT_SHORT, 0, 0, 73}, "");
+    label = "NULL for the index or its space";
+    write_index(worked, WORKED, 3, 0, (SiiLength){SII_OUTPUT_SHORT, 0, 0, 12}, "");
+    check_index(worked, WORKED, 3, "", 0, (SiiChecked){SII_MISFIT, 0, 0});
+    by_index(worked, WORKED, "", 0, 0, "", no_field(SII_ABSENT, 0));
+    by_index(NULL, 0, pointing(0, 0), 12, 0, "", cut_field(4, 4));
+    by_index(worked, WORKED, pointing(48, 8), 12, 0, "", no_field(SII_ABSENT, 0));
     equal("areas that were NULL, 40 at least", 1, nulls >= 40);
 }
 
@@ -987,6 +1236,15 @@ static void layout(void)
     AT(SiiText, offset, 8, 8);
     AT(SiiText, lacking, 16, 8);
     AT(SiiText, length, 24, 8);
+    SIZE(SiiLength, 32);
+    AT(SiiLength, number, 0, 4);
+    AT(SiiLength, offset, 8, 8);
+    AT(SiiLength, lacking, 16, 8);
+    AT(SiiLength, length, 24, 8);
+    SIZE(SiiChecked, 24);
+    AT(SiiChecked, number, 0, 4);
+    AT(SiiChecked, offset, 8, 8);
+    AT(SiiChecked, lacking, 16, 8);
     SIZE(SiiElement, 88);
     AT(SiiElement, number, 0, 4);
     AT(SiiElement, offset, 8, 8);
@@ -1010,7 +1268,7 @@ static void constants(void)
 {
     static const int refusals[] = {
         SII_INVALID_HEADER, 2 /* retired */, SII_MALFORMED, SII_NOT_UTF8, SII_ZERO_DIGIT, SII_UNDEFINED_PROTOTYPE, SII_UNLISTED_TYPE,
-        SII_FIELD_COUNT, SII_ENUM_VALUE, SII_TABLE_FULL, SII_OUTPUT_SHORT, SII_INPUT_LONG, SII_ABSENT,
+        SII_FIELD_COUNT, SII_ENUM_VALUE, SII_TABLE_FULL, SII_OUTPUT_SHORT, SII_INPUT_LONG, SII_ABSENT, SII_MISFIT, SII_BAD_MARK,
     };
     static const int kinds[] = {
         SII_KIND_STRING, SII_KIND_WORD, SII_KIND_F32, SII_KIND_TWO_F32, SII_KIND_THREE_F32, SII_KIND_THREE_I32, SII_KIND_FOUR_F32, SII_KIND_PLACEMENT,
@@ -1021,11 +1279,10 @@ static void constants(void)
     label = "constants";
     for (at = 0; at < sizeof refusals / sizeof refusals[0]; at++)
         equal("refusal", at + 1, (uint64_t)refusals[at]);
-    equal("SII_BAD_MARK", 15, SII_BAD_MARK);
     for (at = 0; at < sizeof kinds / sizeof kinds[0]; at++)
         equal("kind", at + 1, (uint64_t)kinds[at]);
     equal("length limit", 16777216, SII_LENGTH_LIMIT);
-    equal("version", 300, SII_VERSION_MAJOR * 10000 + SII_VERSION_MINOR * 100 + SII_VERSION_PATCH);
+    equal("version", 400, SII_VERSION_MAJOR * 10000 + SII_VERSION_MINOR * 100 + SII_VERSION_PATCH);
 }
 
 int main(void)
@@ -1044,6 +1301,8 @@ int main(void)
         damage();
         the_widened_file();
         the_redefined_file();
+        look_ups();
+        values_behind_the_asked_one();
         the_file_with_vectors();
         every_version();
         the_file_of_version_1();

@@ -13,6 +13,10 @@ SiiNumber __real_sii_blocks_by_prototype_name(const uint8_t *, size_t, uint32_t 
 SiiField __real_sii_field_of(const uint8_t *, size_t, uint32_t *, size_t, uint64_t, const uint8_t *, size_t);
 SiiElement __real_sii_element_of(uint32_t, uint32_t, const uint8_t *, size_t, uint64_t);
 SiiText __real_sii_to_siin(const uint8_t *, size_t, uint32_t *, size_t, uint8_t *, size_t);
+SiiLength __real_sii_write_index(const uint8_t *, size_t, uint32_t *, size_t, uint8_t *, size_t);
+SiiChecked __real_sii_check_index(const uint8_t *, size_t, uint32_t *, size_t, const uint8_t *, size_t);
+SiiField __real_sii_field_by_index(const uint8_t *, size_t, const uint8_t *, size_t, uint64_t, const uint8_t *, size_t);
+SiiNumber __real_sii_defines_once(const uint8_t *, size_t, uint32_t *, size_t);
 
 SiiReading __wrap_sii_read(const uint8_t *file, size_t file_len, uint32_t *table, size_t words)
 {
@@ -156,6 +160,89 @@ SiiText __wrap_sii_to_siin(const uint8_t *file, size_t file_len, uint32_t *table
 #elif WRONG == 26 /* no semicolon in a text */
     for (size_t at = 0; r.number == 0 && at < r.length; at++)
         output[at] = output[at] == ';' ? ',' : output[at];
+#endif
+    return r;
+}
+
+SiiLength __wrap_sii_write_index(const uint8_t *file, size_t file_len, uint32_t *table, size_t words, uint8_t *index, size_t index_len)
+{
+    SiiLength r = __real_sii_write_index(file, file_len, table, words, index, index_len);
+#if WRONG == 33 /* the space is touched by a refusal */
+    if (r.number == SII_OUTPUT_SHORT && index_len > 0)
+        index[index_len - 1] = 0;
+#elif WRONG == 34 /* a byte behind the index */
+    if (r.number == 0 && r.length < index_len)
+        index[r.length] = 0;
+#elif WRONG == 35 /* the needed length is left out */
+    if (r.number == SII_OUTPUT_SHORT)
+        r.length = 0;
+#elif WRONG == 36 /* the length in records */
+    r.length /= 12;
+#elif WRONG == 37 /* the prototype's offset is that of its mark */
+    if (r.number == 0 && r.length > 0)
+        index[6] += 4;
+#endif
+    return r;
+}
+
+SiiChecked __wrap_sii_check_index(const uint8_t *file, size_t file_len, uint32_t *table, size_t words, const uint8_t *index, size_t index_len)
+{
+    SiiChecked r = __real_sii_check_index(file, file_len, table, words, index, index_len);
+#if WRONG == 38 /* what stands past the last block is not looked at */
+    if (r.number == SII_MISFIT && r.offset + 12 > index_len && r.offset > 0)
+        r = __real_sii_check_index(file, file_len, table, words, index, r.offset);
+#elif WRONG == 39 /* a misfit in front of the file's faults */
+    if (r.number == SII_MALFORMED && index_len == 7)
+        return (SiiChecked){.number = SII_MISFIT};
+#elif WRONG == 40 /* the offset of a cut record is the index's length */
+    if (r.number == SII_MISFIT && r.offset + 12 > index_len)
+        r.offset = index_len;
+#elif WRONG == 41 /* the lengths alone are compared */
+    if (r.number == SII_MISFIT && index_len == 24)
+        return (SiiChecked){.number = 0};
+#endif
+    return r;
+}
+
+SiiField __wrap_sii_field_by_index(const uint8_t *file, size_t file_len, const uint8_t *index, size_t index_len, uint64_t block,
+                                   const uint8_t *name, size_t name_len)
+{
+#if WRONG == 42 /* the record's offset is counted in 64 bits, and wraps */
+    if (block > index_len && block * 12 < index_len)
+        block = (uint64_t)(block * 12) / 12;
+#elif WRONG == 43 /* a byte behind the index is read */
+    if (index_len > 0 && index_len % 12 != 0 && index[index_len] == 0xc5)
+        index_len += 12 - index_len % 12;
+#endif
+    SiiField r = __real_sii_field_by_index(file, file_len, index, index_len, block, name, name_len);
+#if WRONG == 44 /* a bad mark */
+    if (r.number == SII_UNDEFINED_PROTOTYPE && file_len > 12 && file[12] > 1)
+        return (SiiField){.number = SII_BAD_MARK, .offset = 12};
+#elif WRONG == 45 /* what is lacking behind the end counts from the end */
+    if (r.number == SII_MALFORMED && r.offset > file_len)
+        r.lacking += r.offset - file_len;
+#elif WRONG == 46 /* the record's number of fields is trusted */
+    if (r.number == 0 && index[12 * block + 9] == 0xff)
+        return (SiiField){.number = SII_UNDEFINED_PROTOTYPE};
+#elif WRONG == 47 /* a name that is not there comes in front of the block's faults */
+    if (r.number == SII_ZERO_DIGIT)
+        return (SiiField){.number = SII_ABSENT};
+#elif WRONG == 48 /* the header is read */
+    if (file_len > 0 && file[0] != 'B')
+        return (SiiField){.number = SII_INVALID_HEADER};
+#endif
+    return r;
+}
+
+SiiNumber __wrap_sii_defines_once(const uint8_t *file, size_t file_len, uint32_t *table, size_t words)
+{
+    SiiNumber r = __real_sii_defines_once(file, file_len, table, words);
+#if WRONG == 49 /* every id only once */
+    if (r.number == 0)
+        r.value = 1;
+#elif WRONG == 50 /* a word of the table is left */
+    if (words > 0)
+        table[words - 1] = 1;
 #endif
     return r;
 }

@@ -12,11 +12,12 @@ Usage: benchmark [--rounds N] [--only INPUT]... [--markdown] [--plot FILE]
 
 Times the library and the unchanged Rust on the same inputs, in one process and
 in turns: reading with the Rust's parse, the text call with the Rust's parse and
-to_siin. Then each side converts each input in a process of its own, for the
-peak of its memory, but where the table is larger. On the saves, whole processes
-are timed too: the command, which has to stand beside this program (cargo build
--p command), a program over the crate, and one over the Rust. The report goes to
-standard output.
+to_siin. Then, but where the table is larger: the calls about an index beside
+the reading and a look-up by one beside the field call; and each side converts
+each input in a process of its own, for the peak of its memory. On the saves,
+whole processes are timed too: the command, which has to stand beside this
+program (cargo build -p command), a program over the crate, and one over the
+Rust. The report goes to standard output.
 
   --rounds N           so many rounds, from 1 up; without it 9
   --only INPUT         only this input; may be given again

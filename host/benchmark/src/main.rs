@@ -4,7 +4,9 @@
 
 mod arguments;
 mod hostile;
+mod index;
 mod inputs;
+mod loops;
 mod machine;
 mod memory;
 mod orders;
@@ -77,13 +79,16 @@ fn timed(input: &Input, rounds: usize) -> Result<(Vec<u8>, Timed), String> {
 
 fn row(input: Input, rounds: usize) -> Result<Row, String> {
     let (file, timed) = timed(&input, rounds)?;
-    let peaks = if inputs::is_larger(&input.name) {
-        None
+    let (peaks, index) = if inputs::is_larger(&input.name) {
+        (None, None)
     } else {
-        Some(Peaks {
+        let peaks = Peaks {
             ours: memory::of_child(Side::Ours, &file)?,
             rust: memory::of_child(Side::Rust, &file)?,
-        })
+        };
+        let index = index::time(&file, rounds);
+        let index = index.map_err(|what| format!("{}: {what}", input.name))?;
+        (Some(peaks), Some(index))
     };
     let processes = if inputs::is_save(&input.name) {
         processes::time(&file, rounds)?
@@ -92,6 +97,7 @@ fn row(input: Input, rounds: usize) -> Result<Row, String> {
     };
     Ok(Row {
         timed,
+        index,
         peaks,
         processes,
         name: input.name,
@@ -121,6 +127,9 @@ fn measure(run: &Run) -> Result<(), String> {
         report::plain(&rows, run.rounds)
     };
     show(text.as_bytes())?;
+    if rows.iter().any(|row| row.name == inputs::NORMAL) {
+        show(loops::report(run.rounds)?.as_bytes())?;
+    }
     if let Some(path) = &run.plot {
         let mut all = Vec::new();
         for input in inputs::saves_for_plot() {

@@ -1,5 +1,6 @@
 //! The tables, as plain text and as Markdown, and what they say about the bar.
 
+use crate::index::{Beside, IndexTimes};
 use crate::inputs::{is_hostile, is_larger, NORMAL};
 use crate::machine;
 use crate::processes::Processes;
@@ -11,6 +12,8 @@ pub struct Row {
     pub name: String,
     pub about: String,
     pub timed: Timed,
+    /// None where the table is larger.
+    pub index: Option<IndexTimes>,
     /// None where the table is larger.
     pub peaks: Option<Peaks>,
     /// Of saves.
@@ -174,6 +177,68 @@ fn processes(rows: &[Row]) -> Table {
     }
 }
 
+/// The calls that read the whole file.
+fn index(rows: &[Row]) -> Table {
+    let mut lines = Vec::new();
+    for row in rows {
+        let Some(index) = &row.index else {
+            continue;
+        };
+        let IndexTimes {
+            write, check, once, ..
+        } = index;
+        let calls: [(&str, &Beside); 3] = [("write", write), ("check", check), ("once", once)];
+        for (call, beside) in calls {
+            lines.push(vec![
+                row.name.clone(),
+                call.into(),
+                grouped(row.timed.bytes as u64),
+                grouped(index.bytes as u64),
+                spread(beside.time.times(1e3)),
+                rounded(per_byte(beside.time, row.timed.bytes)),
+                spread(beside.ratio),
+            ]);
+        }
+    }
+    Table {
+        heads: vec![
+            "input",
+            "call",
+            "bytes",
+            "index bytes",
+            "ms",
+            "ns/byte",
+            "call / reading",
+        ],
+        words: 2,
+        lines,
+    }
+}
+
+fn look_ups(rows: &[Row]) -> Table {
+    let line = |row: &Row| {
+        let index = row.index.as_ref()?;
+        Some(vec![
+            row.name.clone(),
+            grouped(row.timed.bytes as u64),
+            spread(index.field.times(1e3)),
+            spread(index.look_up.times(1e6)),
+            spread(index.ratio),
+        ])
+    };
+    Table {
+        heads: vec![
+            "input",
+            "bytes",
+            "field call, ms",
+            "look-up, µs",
+            "field call / look-up",
+        ],
+        words: 1,
+        lines: rows.iter().filter_map(line).collect(),
+    }
+}
+
 fn memory(rows: &[Row]) -> Table {
     let mega = |bytes: u64| rounded(bytes as f64 / 1e6);
     let lines = rows
@@ -298,6 +363,8 @@ fn sections(rows: &[Row]) -> Vec<(&'static str, Table)> {
             "Times",
             times(&others, "text bytes", |timed| timed.text_bytes),
         ),
+        ("Index", index(rows)),
+        ("Look-ups by index", look_ups(rows)),
         ("Whole processes", processes(rows)),
         ("Peak memory", memory(rows)),
         ("The bar", bar(rows)),
@@ -349,6 +416,10 @@ mod tests {
             rust: flat(seconds * ratio),
             ratio: flat(ratio),
         };
+        let beside = || Beside {
+            time: flat(seconds),
+            ratio: flat(1.5),
+        };
         Row {
             name: name.into(),
             about: "made up".into(),
@@ -359,6 +430,15 @@ mod tests {
                 reading: compared(),
                 text: compared(),
             },
+            index: (!is_larger(name)).then(|| IndexTimes {
+                bytes: 12_000,
+                write: beside(),
+                check: beside(),
+                once: beside(),
+                field: flat(seconds),
+                look_up: flat(seconds / 4.0),
+                ratio: flat(4.0),
+            }),
             peaks: (!is_larger(name)).then_some(Peaks {
                 ours: 4_000_000,
                 rust: 8_000_000,
@@ -411,7 +491,7 @@ mod tests {
             row("rows-random", 0.3, 1.0),
         ];
         let sections = sections(&rows);
-        assert_eq!(sections.len(), 6);
+        assert_eq!(sections.len(), 8);
         for (_, table) in sections {
             assert!(table
                 .lines
@@ -430,22 +510,37 @@ mod tests {
             sections.into_iter().map(|(title, _)| title).collect()
         };
         let larger = || row("rows-random", 0.3, 1.0);
-        assert_eq!(titles(&[larger()]), ["Inputs", "The bar", "Larger tables"]);
+        let of_larger = ["Inputs", "The bar", "Larger tables"];
+        assert_eq!(titles(&[larger()]), of_larger);
         assert_eq!(
             titles(&[row("names", 0.2, 1.0)]),
-            ["Inputs", "Times", "Peak memory"]
+            [
+                "Inputs",
+                "Times",
+                "Index",
+                "Look-ups by index",
+                "Peak memory"
+            ]
         );
         for (title, table) in sections(&[row("save-7", 0.01, 2.0), larger()]) {
             let found = table
                 .lines
                 .iter()
                 .any(|line| line[0].contains("rows-random"));
-            let wanted = ["Inputs", "The bar", "Larger tables"];
-            assert_eq!(found, wanted.contains(&title));
+            assert_eq!(found, of_larger.contains(&title));
         }
         let shown = markdown(&[larger()], 1);
         assert!(shown.contains("\n### Larger tables\n\n| input | call | bytes | table, rows |"));
         assert!(shown.contains("\n| rows-random | text | 1,000,000 | 58,823 |"));
+    }
+
+    #[test]
+    fn calls_about_an_index() {
+        let shown = markdown(&[row("save-7", 0.01, 2.0)], 1);
+        let write = "\n| save-7 | write | 1,000,000 | 12,000 | 10.0 (10.0 to 10.0) | 10.0 | 1.50 (1.50 to 1.50) |\n";
+        assert!(shown.contains(write), "{shown}");
+        let look_up = "\n| save-7 | 1,000,000 | 10.0 (10.0 to 10.0) | 2500 (2500 to 2500) | 4.00 (4.00 to 4.00) |\n";
+        assert!(shown.contains(look_up), "{shown}");
     }
 
     #[test]

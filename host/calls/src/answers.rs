@@ -104,6 +104,26 @@ pub struct Text {
     pub length: u64,
 }
 
+/// An index is written.
+#[repr(C)]
+#[derive(Clone, Copy, Debug, Default, PartialEq, Eq)]
+pub struct Length {
+    pub number: u32,
+    pub offset: u64,
+    pub lacking: u64,
+    /// The index's length in bytes; for reply 11 the length that is needed.
+    pub length: u64,
+}
+
+/// An index fits its file.
+#[repr(C)]
+#[derive(Clone, Copy, Debug, Default, PartialEq, Eq)]
+pub struct Checked {
+    pub number: u32,
+    pub offset: u64,
+    pub lacking: u64,
+}
+
 macro_rules! plain_answers {
     ($($answer:ident),*) => {$(
         impl $answer {
@@ -127,24 +147,47 @@ macro_rules! plain_answers {
 
 plain_answers!(Reading, Prototype, Block, Number, Field);
 
-impl Text {
+impl Checked {
+    /// With nothing lacking.
     pub fn refused(number: u32, offset: u64) -> Self {
-        Text {
+        Checked {
             number,
             offset,
-            ..Default::default()
+            lacking: 0,
         }
     }
 
     /// The answer with the fields that mean nothing set to zero.
     pub fn known(self) -> Self {
         match self.number {
-            0 => Text { offset: 0, ..self },
-            11 => self,
-            _ => Text { length: 0, ..self },
+            0 => Checked { offset: 0, ..self },
+            _ => self,
         }
     }
 }
+
+/// Answers with a length, which reply 11 has too.
+macro_rules! lengths {
+    ($($answer:ident),*) => {$(
+        impl $answer {
+            /// With nothing lacking.
+            pub fn refused(number: u32, offset: u64) -> Self {
+                $answer { number, offset, ..Default::default() }
+            }
+
+            /// The answer with the fields that mean nothing set to zero.
+            pub fn known(self) -> Self {
+                match self.number {
+                    0 => $answer { offset: 0, ..self },
+                    11 => self,
+                    _ => $answer { length: 0, ..self },
+                }
+            }
+        }
+    )*};
+}
+
+lengths!(Text, Length);
 
 /// How many of an element's `parts` its kind uses.
 pub fn parts_of(kind: u32) -> usize {
@@ -277,5 +320,7 @@ answers!(
     Number named,
     Field field,
     Element element,
-    Text text
+    Text text,
+    Length length,
+    Checked checked
 );

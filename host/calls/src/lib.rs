@@ -1,4 +1,4 @@
-//! The calls of document 01 and their answers, as the library's C interface has them.
+//! The calls of documents 01 and 02 and their answers, as the library's C interface has them.
 //!
 //! A call is a value, and a side of the comparison answers it in one method. What only hands calls
 //! on is not touched by a new one.
@@ -6,9 +6,12 @@
 mod answers;
 
 pub use answers::{
-    kind, one_nan, parts_of, Answer, Block, Element, Field, Number, Prototype, Reading, Text,
-    ONE_NAN,
+    kind, one_nan, parts_of, Answer, Block, Checked, Element, Field, Length, Number, Prototype,
+    Reading, Text, ONE_NAN,
 };
+
+/// The bytes of an index that one block has.
+pub const RECORD: usize = 12;
 
 /// The length that every call with a file refuses above (reply 12).
 pub const LENGTH_LIMIT: usize = 16_777_216;
@@ -38,8 +41,20 @@ pub enum Call<'a> {
         part: &'a [u8],
         index: u64,
     },
-    /// The only one that takes an output.
+    /// Takes an output.
     ToSiin,
+    /// Takes an output: the index's space.
+    WriteIndex,
+    CheckIndex {
+        index: &'a [u8],
+    },
+    /// Takes no table.
+    FieldByIndex {
+        index: &'a [u8],
+        block: u64,
+        name: &'a [u8],
+    },
+    DefinesOnce,
 }
 
 impl Call<'_> {
@@ -53,6 +68,10 @@ impl Call<'_> {
             Call::FieldOf { .. } => "field",
             Call::ElementOf { .. } => "element",
             Call::ToSiin => "text",
+            Call::WriteIndex => "write_index",
+            Call::CheckIndex { .. } => "check_index",
+            Call::FieldByIndex { .. } => "field_by_index",
+            Call::DefinesOnce => "defines_once",
         }
     }
 }

@@ -10,44 +10,71 @@ pub const VERSION: &str = concat!("sii-decode ", env!("CARGO_PKG_VERSION"), "\n"
 pub const HELP: &str = "\
 Usage: sii-decode [-o FILE] SAVE
        sii-decode [-o FILE] info SAVE
+       sii-decode [-o FILE] prototypes SAVE
        sii-decode [-o FILE] prototype ID SAVE
+       sii-decode [-o FILE] blocks [NAME] SAVE
        sii-decode [-o FILE] block N SAVE
-       sii-decode [-o FILE] blocks NAME SAVE
-       sii-decode [-o FILE] field N NAME SAVE
+       sii-decode [-o FILE] fields N SAVE
+       sii-decode [-o FILE] field N NAME SAVE [--index INDEX]
+       sii-decode [-o FILE] index SAVE
+       sii-decode check INDEX SAVE
        sii-decode --into DIR SAVE...
 
 Writes a BSII save as SiiNunit text, or answers a question about it.
 SAVE is a file of at most 16777216 bytes; - is standard input.
 
   info             how many prototypes, blocks and bytes the save has
+  prototypes       each prototype of a block: id, name and number of fields
   prototype ID     the prototype with this id: its name and number of fields
-  block N          block N, from 0: its prototype and its id
+  blocks           each block: its number, its prototype's name and its id
   blocks NAME      the numbers of all blocks whose prototype has this name
+  block N          block N, from 0: its prototype and its id
+  fields N         each field of block N: its name and its type
   field N NAME     the field NAME of block N: its type, and each element
+  index            the save's index, of 12 bytes for each block, for --index
+  check INDEX      whether this is the save's index
 
   -o, --output FILE   write to FILE, whole or not at all
+  --index INDEX       find the field by this index, which is checked first
   --into DIR          write the text of each SAVE, as NAME.bsii, to DIR/NAME.sii
   -h, --help          print this and exit
   -V, --version       print the version and exit
   --                  behind it nothing is an option or a command
 
-Exit status: 0 if all went well, 1 if a save or the question was refused,
-2 for wrong usage and for failed reading or writing.
+Exit status: 0 if all went well, 1 if a save, an index or the question was
+refused, 2 for wrong usage and for failed reading or writing.
 ";
 
-const QUESTIONS: [&str; 5] = ["info", "prototype", "block", "blocks", "field"];
+const QUESTIONS: [&str; 9] = [
+    "info",
+    "prototypes",
+    "prototype",
+    "blocks",
+    "block",
+    "fields",
+    "field",
+    "index",
+    "check",
+];
 
 pub enum Question {
     Info,
+    Prototypes,
     Prototype(u32),
+    Blocks,
+    BlocksNamed(Vec<u8>),
     Block(u64),
-    Blocks(Vec<u8>),
+    Fields(u64),
     Field(u64, Vec<u8>),
+    Index,
+    Check,
 }
 
 pub struct Asked {
     /// None for the text.
     pub question: Option<Question>,
+    /// Of the save, for `check` and `field`.
+    pub index: Option<OsString>,
     pub save: OsString,
     /// None for standard output.
     pub output: Option<PathBuf>,
@@ -69,6 +96,7 @@ pub fn usage<T>(message: String) -> Result<T, Failure> {
 #[derive(Clone, Copy, PartialEq, Eq)]
 enum Wants {
     Output,
+    Index,
     Into,
 }
 
@@ -76,6 +104,7 @@ impl Wants {
     fn name(self) -> &'static str {
         match self {
             Wants::Output => "-o",
+            Wants::Index => "--index",
             Wants::Into => "--into",
         }
     }
@@ -83,6 +112,7 @@ impl Wants {
     fn value(self) -> &'static str {
         match self {
             Wants::Output => "FILE",
+            Wants::Index => "FILE",
             Wants::Into => "DIR",
         }
     }
@@ -90,7 +120,11 @@ impl Wants {
 
 /// The option, and its value if that is in the same word.
 fn option_of(word: &[u8]) -> Option<(Wants, Option<&[u8]>)> {
-    let long = [(Wants::Output, &b"--output"[..]), (Wants::Into, b"--into")];
+    let long = [
+        (Wants::Output, &b"--output"[..]),
+        (Wants::Index, b"--index"),
+        (Wants::Into, b"--into"),
+    ];
     for (option, name) in long {
         match word.strip_prefix(name) {
             Some([]) => return Some((option, None)),
@@ -108,6 +142,7 @@ fn option_of(word: &[u8]) -> Option<(Wants, Option<&[u8]>)> {
 #[derive(Default)]
 struct Words {
     output: Option<OsString>,
+    index: Option<OsString>,
     into: Option<OsString>,
     plain: Vec<OsString>,
     /// How many plain words stood in front of `--`, if there is one.
@@ -130,6 +165,7 @@ impl Words {
         };
         let place = match option {
             Wants::Output => &mut self.output,
+            Wants::Index => &mut self.index,
             Wants::Into => &mut self.into,
         };
         let (name, wanted) = (option.name(), option.value());
@@ -164,17 +200,30 @@ pub fn parse(words: Vec<OsString>) -> Result<Arguments, Failure> {
     }
     match (words.into, words.output) {
         (Some(_), Some(_)) => usage("-o and --into exclude each other".into()),
+        (Some(_), None) if words.index.is_some() => index_alone(),
         (Some(folder), None) => saves(folder.into(), words.plain),
         (None, output) => {
             let commands = words.before.is_none_or(|before| before > 0);
-            let (question, save) = question(words.plain, commands)?;
-            Ok(Arguments::Ask(Asked {
-                question,
-                save,
-                output: output.filter(|file| file != "-").map(PathBuf::from),
-            }))
+            let mut asked = question(words.plain, commands)?;
+            match asked.question {
+                Some(Question::Check) if output.is_some() => {
+                    return usage("check writes nothing, so there is no use for -o".into());
+                }
+                Some(Question::Field(..)) => asked.index = words.index,
+                _ if words.index.is_some() => return index_alone(),
+                _ => {}
+            }
+            if asked.save == "-" && asked.index.as_deref() == Some(OsStr::new("-")) {
+                return usage("standard input cannot be both the save and its index".into());
+            }
+            asked.output = output.filter(|file| file != "-").map(PathBuf::from);
+            Ok(Arguments::Ask(asked))
         }
     }
+}
+
+fn index_alone<T>() -> Result<T, Failure> {
+    usage("--index goes with the question field".into())
 }
 
 /// Every plain word is a save.
@@ -192,18 +241,20 @@ fn saves(folder: PathBuf, saves: Vec<OsString>) -> Result<Arguments, Failure> {
 }
 
 /// What is asked, and the save, which is the last word.
-fn question(
-    mut plain: Vec<OsString>,
-    commands: bool,
-) -> Result<(Option<Question>, OsString), Failure> {
+fn question(mut plain: Vec<OsString>, commands: bool) -> Result<Asked, Failure> {
     let first = plain.first().map_or(&b""[..], |word| word.as_bytes());
     let wanted: &[&str] = match first {
         _ if !commands => &["SAVE"],
         b"info" => &["info", "SAVE"],
+        b"prototypes" => &["prototypes", "SAVE"],
         b"prototype" => &["prototype", "ID", "SAVE"],
-        b"block" => &["block", "N", "SAVE"],
+        b"blocks" if plain.len() < 3 => &["blocks", "SAVE"],
         b"blocks" => &["blocks", "NAME", "SAVE"],
+        b"block" => &["block", "N", "SAVE"],
+        b"fields" => &["fields", "N", "SAVE"],
         b"field" => &["field", "N", "NAME", "SAVE"],
+        b"index" => &["index", "SAVE"],
+        b"check" => &["check", "INDEX", "SAVE"],
         _ => &["SAVE"],
     };
     if let Some(missing) = wanted.get(plain.len()) {
@@ -224,15 +275,32 @@ fn question(
     }
     let mut rest = plain.into_iter().skip(1);
     let mut next = || rest.next().unwrap_or_default();
+    let mut index = None;
     let question = match wanted[0] {
         "info" => Some(Question::Info),
+        "prototypes" => Some(Question::Prototypes),
         "prototype" => Some(Question::Prototype(number(&next())?)),
+        "blocks" if wanted.len() < 3 => Some(Question::Blocks),
+        "blocks" => Some(Question::BlocksNamed(next().into_vec())),
         "block" => Some(Question::Block(number(&next())?)),
-        "blocks" => Some(Question::Blocks(next().into_vec())),
+        "fields" => Some(Question::Fields(number(&next())?)),
         "field" => Some(Question::Field(number(&next())?, next().into_vec())),
+        "index" => Some(Question::Index),
+        "check" => {
+            index = Some(next());
+            Some(Question::Check)
+        }
         _ => None,
     };
-    Ok((question, save))
+    if index.as_ref().is_some_and(|index| index.is_empty()) {
+        return usage("the name of the INDEX is empty".into());
+    }
+    Ok(Asked {
+        question,
+        index,
+        save,
+        output: None,
+    })
 }
 
 /// More words than a save, and the first is no question.
@@ -312,9 +380,12 @@ mod tests {
 
     #[test]
     fn near_questions() {
-        assert_eq!(near(b"fields"), Some("field"));
+        assert_eq!(near(b"filed"), Some("field"));
+        assert_eq!(near(b"feilds"), Some("fields"));
         assert_eq!(near(b"Info"), Some("info"));
-        assert_eq!(near(b"prototypes"), Some("prototype"));
+        assert_eq!(near(b"protoypes"), Some("prototypes"));
+        assert_eq!(near(b"protoype"), Some("prototype"));
+        assert_eq!(near(b"indexes"), Some("index"));
         assert_eq!(near(b"blcok"), Some("block"));
         assert_eq!(near(b"bloks"), Some("blocks"));
         assert_eq!(near(b"game.sii"), None);

@@ -4,6 +4,7 @@
 
 mod arguments;
 mod input;
+mod list;
 mod output;
 mod progress;
 mod refused;
@@ -14,6 +15,7 @@ mod system;
 mod walk;
 
 use arguments::{Arguments, Question, HELP, VERSION};
+use input::Index;
 use sii_decode::{BsiiFile, Refusal};
 use std::ffi::OsString;
 use std::io::{self, Write};
@@ -78,14 +80,21 @@ fn run(words: Vec<OsString>, message: &mut Vec<u8>) -> Result<u8, Failure> {
         Arguments::Ask(asked) => asked,
     };
     let content = input::read(&asked.save)?;
+    let index = match &asked.index {
+        Some(path) => Some(input::read_index(path, &content)?),
+        None => None,
+    };
     let (question, output) = (asked.question.as_ref(), asked.output.as_deref());
+    if let (Some(Question::Index), Some(output)) = (question, output) {
+        output::not_the_save(output, &asked.save)?;
+    }
     let done = match question {
         None => text(&content, output),
-        Some(question) => answer(&content, question, output),
+        Some(question) => answer(&content, index.as_ref(), question, output),
     };
     if let Err(Failure::Refused(refusal)) = &done {
         let name = input::name(&asked.save);
-        *message = refused::message(&name, &content, question, refusal);
+        *message = refused::message(&name, &content, index.as_ref(), question, refusal);
     }
     done.map(|()| 0)
 }
@@ -101,8 +110,16 @@ fn text(content: &[u8], output: Option<&Path>) -> Result<(), Failure> {
     output::write(output, |out| out.write_all(&text))
 }
 
-fn answer(content: &[u8], question: &Question, output: Option<&Path>) -> Result<(), Failure> {
-    let file = BsiiFile::parse(content)?;
+fn answer(
+    content: &[u8],
+    index: Option<&Index>,
+    question: &Question,
+    output: Option<&Path>,
+) -> Result<(), Failure> {
+    let file = match index {
+        Some(index) => BsiiFile::with_index(content, &index.bytes)?,
+        None => BsiiFile::parse(content)?,
+    };
     match question {
         Question::Info => output::write(output, |out| {
             writeln!(out, "prototypes {}", file.prototype_count())?;
@@ -111,6 +128,7 @@ fn answer(content: &[u8], question: &Question, output: Option<&Path>) -> Result<
             writeln!(out, "end {}", file.end())?;
             writeln!(out, "version {}", file.version())
         }),
+        Question::Prototypes => output::write(output, |out| list::prototypes(out, &file)),
         Question::Prototype(id) => {
             let prototype = file.get_prototype(*id)?;
             output::write(output, |out| {
@@ -118,6 +136,11 @@ fn answer(content: &[u8], question: &Question, output: Option<&Path>) -> Result<
                 writeln!(out, "name {}", show::Escaped(prototype.name.as_bytes()))?;
                 writeln!(out, "fields {}", prototype.fields)
             })
+        }
+        Question::Blocks => output::write(output, |out| list::blocks(out, &file)),
+        Question::BlocksNamed(name) => {
+            file.nth_by_prototype_name(name, 0)?;
+            output::write(output, |out| list::blocks_named(out, &file, name))
         }
         Question::Block(number) => {
             let block = file.block(*number)?;
@@ -129,20 +152,22 @@ fn answer(content: &[u8], question: &Question, output: Option<&Path>) -> Result<
                 writeln!(out, "id {}", block.id)
             })
         }
-        Question::Blocks(name) => {
-            file.nth_by_prototype_name(name, 0)?;
-            output::write(output, |out| {
-                // Each line costs a reading of the save, so none waits for the next, and none is
-                // asked for when the reader has gone.
-                file.blocks_by_prototype_name(name).try_for_each(|number| {
-                    writeln!(out, "{number}")?;
-                    out.flush()
-                })
-            })
+        Question::Fields(number) => {
+            let mut fields = file.definitions(*number)?;
+            output::write(output, |out| list::fields(out, &mut fields))
         }
         Question::Field(block, name) => {
             let field = file.field(*block, name)?;
             output::write(output, |out| show::field(out, field))
         }
+        Question::Index => match file.index() {
+            Some(index) => output::write(output, |out| out.write_all(index)),
+            None => {
+                let error = io::ErrorKind::OutOfMemory.into();
+                Err(Failure::Io("the index".into(), error))
+            }
+        },
+        // That it fits was found out above.
+        Question::Check => Ok(()),
     }
 }

@@ -119,9 +119,27 @@ fn open_place(path: PathBuf) -> io::Result<Place> {
     }
 }
 
-/// Whether both are of one file.
-pub fn same_file(a: &Metadata, b: &Metadata) -> bool {
+fn same_file(a: &Metadata, b: &Metadata) -> bool {
     (a.dev(), a.ino()) == (b.dev(), b.ino())
+}
+
+/// Fails if the path leads to the save, which would be lost.
+pub fn not_the_save(path: &Path, save: &OsStr) -> Result<(), Failure> {
+    let read = match save == "-" {
+        true => input_metadata(),
+        false => fs::metadata(save),
+    };
+    match (fs::metadata(path), read) {
+        (Ok(there), Ok(read)) if same_file(&there, &read) => {
+            let error = io::Error::other("it is the save itself, and stays as it is");
+            Err(Failure::Io(show::path(path.as_os_str()), error))
+        }
+        _ => Ok(()),
+    }
+}
+
+fn input_metadata() -> io::Result<Metadata> {
+    File::from(io::stdin().as_fd().try_clone_to_owned()?).metadata()
 }
 
 fn folder_of(path: &Path) -> &Path {

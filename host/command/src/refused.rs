@@ -1,25 +1,30 @@
 //! The message of a refusal.
 
 use crate::arguments::Question;
+use crate::input::Index;
 use crate::show::{self, Quoted};
 use crate::walk::{self, Block, Place};
-use sii_decode::{BsiiFile, Refusal, LENGTH_LIMIT};
+use sii_decode::{BsiiFile, Refusal, LENGTH_LIMIT, RECORD};
 
-/// Whether the offset says something about the bytes there.
+/// Whether the offset says something about the save's bytes there: that of 14 counts in the index.
 fn has_bytes(number: u32) -> bool {
-    !matches!(number, 10..=13)
+    !matches!(number, 10..=14)
 }
 
 /// What was refused, where that is, and the bytes there.
 pub fn message(
     name: &str,
     content: &[u8],
+    index: Option<&Index>,
     question: Option<&Question>,
     refusal: &Refusal,
 ) -> Vec<u8> {
     let Refusal { number, offset, .. } = *refusal;
     if !has_bytes(number) {
-        let sentence = sentence(content, question, refusal, None);
+        let sentence = match index {
+            Some(index) if number == 14 => misfit(content, index, offset),
+            _ => sentence(content, question, refusal, None),
+        };
         return format!("sii-decode: {name}: refused {number} at {offset}: {sentence}\n").into();
     }
     let place = walk::place_of(content, offset);
@@ -34,6 +39,22 @@ pub fn message(
         show::around(&mut message, content, offset);
     }
     message
+}
+
+/// How the index departs from the save's own at that offset of it.
+fn misfit(content: &[u8], index: &Index, offset: u64) -> String {
+    let blocks = BsiiFile::parse(content).map_or(0, |file| file.block_count());
+    let record = offset / RECORD as u64;
+    let there = (index.bytes.len() as u64).saturating_sub(offset);
+    let how = match there {
+        _ if blocks == 0 => "the save has no block, so its index is empty".into(),
+        _ if record >= blocks => "it goes on behind the record of the last block".into(),
+        0 => format!("its record {record} is missing"),
+        part if part < RECORD as u64 => format!("its record {record} is cut"),
+        _ => format!("its record {record} differs"),
+    };
+    let name = &index.name;
+    format!("{name} is not the index of this save: {how} (has the save changed since?)")
 }
 
 fn in_words(block: &Block) -> String {
@@ -126,10 +147,14 @@ fn absent(content: &[u8], question: &Question) -> Option<String> {
         count => format!("there is no block {number}: the save has {count} blocks, counted from 0"),
     };
     match question {
-        Question::Info => None,
+        Question::Info
+        | Question::Prototypes
+        | Question::Blocks
+        | Question::Index
+        | Question::Check => None,
         Question::Prototype(id) => Some(format!("the save defines no prototype with the id {id}")),
-        Question::Block(number) => Some(no_block(number)),
-        Question::Blocks(name) => Some(format!(
+        Question::Block(number) | Question::Fields(number) => Some(no_block(number)),
+        Question::BlocksNamed(name) => Some(format!(
             "the save has no block whose prototype is named {}",
             Quoted(name)
         )),
@@ -167,7 +192,7 @@ mod tests {
     /// How the place goes with the refusal's number.
     fn check(bytes: &[u8], refusal: &Refusal) {
         let Refusal { number, offset, .. } = *refusal;
-        let message = message("x", bytes, None, refusal);
+        let message = message("x", bytes, None, None, refusal);
         let start = format!("sii-decode: x: refused {number} at {offset} (0x{offset:08x}): ");
         assert!(message.starts_with(start.as_bytes()) && message.ends_with(b"\n"));
         assert!(message.iter().filter(|byte| **byte == b'\n').count() <= 6);

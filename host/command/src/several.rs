@@ -73,16 +73,12 @@ fn one(save: &OsStr, target: &Path) -> Result<(), (Failure, Vec<u8>)> {
     };
     let content = input::read(save).map_err(told)?;
     // Of a folder of saves none may be lost: game.sii may be BSII as well.
-    if let (Ok(there), Ok(read)) = (fs::metadata(target), fs::metadata(save)) {
-        if output::same_file(&there, &read) {
-            let error = io::Error::other("it is the save itself, and stays as it is");
-            return Err(told(failed(target, error)));
-        }
-    }
+    output::not_the_save(target, save).map_err(told)?;
     let text = match sii_decode::to_siin(&content) {
         Ok(text) => text,
         Err(refusal) => {
-            let message = crate::refused::message(&input::name(save), &content, None, &refusal);
+            let message =
+                crate::refused::message(&input::name(save), &content, None, None, &refusal);
             return Err((Failure::Refused(refusal), message));
         }
     };

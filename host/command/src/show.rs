@@ -66,11 +66,16 @@ pub fn path(word: &OsStr) -> String {
     shown
 }
 
+/// A type's number, what an element is, and whether it is an array's.
+pub fn type_of(type_id: u32, kind: &str, array: bool) -> String {
+    let array = if array { " array" } else { "" };
+    format!("{type_id:02x} {kind}{array}")
+}
+
 /// The type, then a line for each element: its index and its value.
 pub fn field(out: &mut dyn Write, field: DataField) -> io::Result<()> {
-    let array = if field.is_array() { " array" } else { "" };
-    let kind = field.kind_name();
-    writeln!(out, "type {:02x} {kind}{array}", field.type_id)?;
+    let shown = type_of(field.type_id, field.kind_name(), field.is_array());
+    writeln!(out, "type {shown}")?;
     for (index, value) in field.elements().enumerate() {
         match value {
             DataValue::String(text) => writeln!(out, "{index} {}", Escaped(text.as_bytes()))?,

@@ -50,6 +50,21 @@ impl Comparison {
         pair.compare(&plan, random)
     }
 
+    /// Look-ups by an index that may be any bytes.
+    pub fn by_index(&mut self, file: &[u8], index: &[u8], tally: &mut Tally) -> Check {
+        let Some(library) = &mut self.library else {
+            return Ok(());
+        };
+        let plan = Plan::new(&mut self.planner, file);
+        let mut pair = Pair {
+            library: &mut Side::new("library", library.as_mut(), 0),
+            model: &mut Side::new("model", &mut self.model, 0),
+            file,
+            tally,
+        };
+        pair.by_index(index, &plan)
+    }
+
     /// The element call on bytes that no file vouches for.
     pub fn element(
         &mut self,

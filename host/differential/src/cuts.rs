@@ -131,11 +131,14 @@ impl<'a, 'b> Asked<'a, 'b> {
     /// One of the other calls with a file says the same as the reading call.
     fn other_call(&mut self, file: &[u8], words: usize, expected: Fault) -> Check {
         let (n, name) = (0, &b""[..]);
-        let call = match self.random.below(5) {
+        let call = match self.random.below(8) {
             0 => Call::GetPrototype { id: 1 },
             1 => Call::BlockAt { n },
             2 => Call::BlocksByPrototypeName { name, n },
             3 => Call::FieldOf { block: n, name },
+            4 => Call::WriteIndex,
+            5 => Call::CheckIndex { index: b"none" },
+            6 => Call::DefinesOnce,
             _ => Call::ToSiin,
         };
         let found = self.side.ask(call, file, words)?.fault();

@@ -13,6 +13,10 @@ pub fn files() -> Vec<Vec<u8>> {
         long_text(1 << 20, 1 << 20),
         long_text(1 << 10, 1 << 10),
         long_string(1 << 22),
+        // The largest that there is room for.
+        long_string(LENGTH_LIMIT as u32 - 49),
+        late_records(),
+        many_fields(700_000),
         many_prototypes(3000),
         many_blocks(100),
         many_placements(500_000),
@@ -52,6 +56,24 @@ fn long_string(len: u32) -> Vec<u8> {
     record.extend(len.to_le_bytes());
     record.extend((0..len).map(|i| (i % 128) as u8));
     file(&[record])
+}
+
+/// A prototype and its block at the end of the longest file.
+fn late_records() -> Vec<u8> {
+    let late = |len: usize| {
+        let long = prototype(1, &vec![b'n'; len], &[]);
+        let fields = [definition(0x2b, b"f")];
+        file(&[long, prototype(2, b"p", &fields), block(2, &[7, 0])])
+    };
+    let without = late(0).len();
+    late(LENGTH_LIMIT - without)
+}
+
+/// More fields than two bytes count, all of one name.
+fn many_fields(count: u32) -> Vec<u8> {
+    let fields = vec![definition(0x2b, b""); count as usize];
+    let values: Vec<_> = (0..count).flat_map(|i| (i as u16).to_le_bytes()).collect();
+    file(&[prototype(1, b"p", &fields), block(1, &values)])
 }
 
 fn many_prototypes(count: u32) -> Vec<u8> {

@@ -2,6 +2,7 @@
 
 pub mod compare;
 pub mod cuts;
+mod index_side;
 pub mod large;
 #[cfg(feature = "linked")]
 pub mod linked;

@@ -11,7 +11,7 @@ use model::Model;
 /// How often the two are asked for the same thing with a random table size.
 const TABLE_SIZES: usize = 2;
 
-const WHO: &str = "library and model";
+pub const WHO: &str = "library and model";
 
 pub struct Pair<'a, 'b> {
     pub library: &'a mut Side<'b>,
@@ -25,11 +25,12 @@ impl Pair<'_, '_> {
         self.lookups(plan)?;
         self.fields(plan)?;
         self.text(plan.words)?;
+        self.index(plan, random)?;
         self.table_sizes(plan, random)
     }
 
     /// Both are asked; the answer.
-    fn both(&mut self, call: Call<'_>, words: usize) -> Result<Answer, Difference> {
+    pub fn both(&mut self, call: Call<'_>, words: usize) -> Result<Answer, Difference> {
         let found = self.library.ask(call, self.file, words)?;
         let expected = self.model.ask(call, self.file, words)?;
         let asked = || format!("{words} words, {call:?}");
@@ -121,7 +122,7 @@ impl Pair<'_, '_> {
             return Ok(());
         }
         let [found, expected] = [&self.library, &self.model]
-            .map(|side| String::from_utf8_lossy(side.written(answer)).into_owned());
+            .map(|side| String::from_utf8_lossy(side.written(answer.length)).into_owned());
         self.tally
             .same((WHO, "text bytes"), String::new, found, expected)
     }
@@ -155,10 +156,15 @@ impl Pair<'_, '_> {
             Call::BlockAt { n: 0 },
             Call::BlocksByPrototypeName { name, n: 0 },
             Call::FieldOf { block: 0, name },
+            Call::CheckIndex {
+                index: &plan.index.index,
+            },
+            Call::DefinesOnce,
         ];
         for call in calls {
             self.both(call, words)?;
         }
+        self.write_index(words)?;
         self.text(words)
     }
 }

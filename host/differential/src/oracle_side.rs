@@ -4,7 +4,7 @@ use crate::plan::{indices, Plan, TEXT_MEMORY};
 use crate::report::{differ, Check, Difference, Exception, Label, Note, Tally};
 use crate::side::Side;
 use crate::stand_in::StandIn;
-use calls::{kind, one_nan, Answer, Call, Element, LENGTH_LIMIT};
+use calls::{kind, one_nan, Answer, Call, Element, Field, LENGTH_LIMIT};
 use model::{word_text, Model, Place};
 use oracle::{BsiiFile, DataValue, Fault, Id};
 
@@ -123,7 +123,8 @@ pub fn compare(
             lookups.prototypes()?;
             lookups.blocks()?;
             lookups.names()?;
-            lookups.fields()?;
+            let index = lookups.index()?;
+            lookups.fields(index.as_deref())?;
         }
     }
     text(side, file, plan, verdict, tally)
@@ -153,8 +154,13 @@ fn refusals(
             block: 0,
             name: b"",
         },
+        Call::WriteIndex,
+        Call::CheckIndex {
+            index: &plan.index.index,
+        },
+        Call::DefinesOnce,
     ];
-    let mut found = [0; 5];
+    let mut found = [0; 8];
     for (found, call) in found.iter_mut().zip(calls) {
         *found = class(side.ask(call, file, plan.words)?.number());
     }
@@ -163,7 +169,7 @@ fn refusals(
         label,
         || "reply to each call".to_string(),
         found,
-        [expected; 5],
+        [expected; 8],
     )
 }
 
@@ -279,17 +285,42 @@ impl Lookups<'_, '_> {
             .collect()
     }
 
-    fn fields(&mut self) -> Check {
+    /// The index that the side writes, which it accepts, if no prototype id is defined twice.
+    fn index(&mut self) -> Result<Option<Vec<u8>>, Difference> {
+        let label = label(self.side, "index");
+        let Some(index) = self.side.whole_index(self.file, self.plan.words)? else {
+            return differ(label, "an accepted file has none");
+        };
+        let asked = || format!("{index:02x?}");
+        let blocks = self.parsed.data_blocks.len();
+        let bytes = blocks * calls::RECORD;
+        self.tally.same(label, asked, index.len(), bytes)?;
+        let checked = self.ask(Call::CheckIndex { index: &index })?;
+        self.tally.same(label, asked, checked.fault(), (0, 0, 0))?;
+        let once = self.ask(Call::DefinesOnce)?.named();
+        Ok(Some(index).filter(|_| once.value == 1))
+    }
+
+    /// With an index also by it: what the Rust says of the field call then holds for the look-up too.
+    fn fields(&mut self, index: Option<&[u8]>) -> Check {
         let plan = self.plan;
         for n in &plan.blocks {
             for name in &plan.names {
-                self.field(*n, name)?;
+                let found = self.field(*n, name)?;
+                if let Some(index) = index {
+                    let block = *n;
+                    let call = Call::FieldByIndex { index, block, name };
+                    let by_index = self.side.ask(call, self.file, 0)?.field();
+                    let asked = || format!("block {n}, name {name:?}");
+                    let label = label(self.side, "field_by_index");
+                    self.tally.same(label, asked, by_index, found)?;
+                }
             }
         }
         Ok(())
     }
 
-    fn field(&mut self, n: u64, name: &[u8]) -> Check {
+    fn field(&mut self, n: u64, name: &[u8]) -> Result<Field, Difference> {
         let answer = self.ask(Call::FieldOf { block: n, name })?.field();
         let block = self.parsed.data_blocks.get(n as usize);
         let value = match (block, std::str::from_utf8(name)) {
@@ -300,7 +331,9 @@ impl Lookups<'_, '_> {
         let asked = || format!("block {n}, name {name:?}");
         let call = label(self.side, "field");
         self.tally.same(call, asked, answer.number, expected)?;
-        let Some(value) = value else { return Ok(()) };
+        let Some(value) = value else {
+            return Ok(answer);
+        };
         let Some(bytes) = part(self.file, answer.part_offset, answer.part_len) else {
             return differ(call, format!("{}: {answer:?}", asked()));
         };
@@ -316,7 +349,7 @@ impl Lookups<'_, '_> {
             let label = label(self.side, "element");
             self.tally.same(label, asked, ok, true)?;
         }
-        Ok(())
+        Ok(answer)
     }
 }
 
@@ -491,7 +524,7 @@ fn text(
             for room in [needed as usize + 9, needed as usize] {
                 let answer = side.text(file, words, room)?;
                 tally.same(call, || format!("room {room}"), answer.number, 0)?;
-                same_text(side.written(answer), text, verdict, call, tally)?;
+                same_text(side.written(answer.length), text, verdict, call, tally)?;
             }
             too_little_room(side, file, plan, verdict, tally)
         }

@@ -1,6 +1,6 @@
 //! What is asked about a file.
 
-use model::{Model, Place};
+use model::{Model, Parsed, Place};
 
 /// The text length up to which the Rust is asked for the text.
 pub const TEXT_MEMORY: u64 = 64 << 20;
@@ -15,6 +15,44 @@ pub struct Plan {
     pub words: usize,
     /// The distinct ids, if the file is accepted.
     pub distinct: Option<usize>,
+    /// What an index is asked about, also of a file that is refused.
+    pub index: IndexPlan,
+}
+
+/// By what stands in front of the file's first fault.
+pub struct IndexPlan {
+    pub index: Vec<u8>,
+    /// Offsets of records, types, lengths and values.
+    pub places: Vec<usize>,
+    /// Some of the names, and one that is nowhere.
+    pub names: Vec<Vec<u8>>,
+}
+
+/// Places and names that an index is asked about, so that a large file does not cost more.
+const MOST: usize = 1000;
+
+impl IndexPlan {
+    fn new(file: &[u8], read: &Parsed) -> IndexPlan {
+        let mut places = read.starts.clone();
+        places.extend(read.types.iter().map(|(at, _)| at));
+        // A string's length stands in front of it.
+        places.extend(read.names.iter().map(|name| name.offset - 4));
+        let values = read.blocks.iter().flat_map(|block| &block.values);
+        places.extend(values.map(|value| value.place.offset));
+        let mut names = vec![b"nowhere".to_vec()];
+        names.extend(
+            read.names
+                .iter()
+                .take(MOST)
+                .map(|name| name.of(file).to_vec()),
+        );
+        let index = read.index();
+        IndexPlan {
+            index,
+            places: places.into_iter().take(MOST).collect(),
+            names,
+        }
+    }
 }
 
 impl Plan {
@@ -27,6 +65,7 @@ impl Plan {
             // A prototype has at least 17 bytes.
             words: 3 * (file.len() / 17) + 2,
             distinct: None,
+            index: IndexPlan::new(file, model.in_front_of_fault(file)),
         };
         if let Ok(parsed) = model.parsed(file, usize::MAX) {
             let name = |place: &Place| place.of(file).to_vec();

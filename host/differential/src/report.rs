@@ -96,6 +96,9 @@ pub struct Tally {
     /// marks (15) apart.
     pub readings: [u64; REPLIES],
     pub texts: [u64; REPLIES],
+    /// Checks of an index and look-ups by one, by the reply.
+    pub checks: [u64; REPLIES],
+    pub look_ups: [u64; REPLIES],
 }
 
 impl Tally {
@@ -133,6 +136,11 @@ impl Tally {
         let _ = writeln!(text, "answers     {}", self.answers);
         let _ = writeln!(text, "readings    {}", replies(&self.readings));
         let _ = writeln!(text, "texts       {}", replies(&self.texts));
+        for (what, counts) in [("checks", &self.checks), ("look-ups", &self.look_ups)] {
+            if counts.iter().any(|count| *count > 0) {
+                let _ = writeln!(text, "{what:<11} {}", replies(counts));
+            }
+        }
         let exceptions = self.exceptions.iter().map(|(e, n)| (e.name(), *n));
         let _ = writeln!(text, "exceptions  {}", named(exceptions.collect()));
         let notes = self.notes.iter().map(|(n, count)| (n.name(), *count));

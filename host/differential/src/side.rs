@@ -1,7 +1,7 @@
 //! One implementation, called with a table and an output that are watched.
 
 use crate::report::{differ, Difference};
-use calls::{Answer, Call, Element, Implementation, Lent, Text};
+use calls::{Answer, Call, Element, Implementation, Length, Lent, Text};
 
 /// Words or bytes on both ends of what is lent.
 const MARGIN: usize = 8;
@@ -75,21 +75,35 @@ impl<'a> Side<'a> {
         (i as u32).wrapping_mul(167).wrapping_add(self.garbage) as u8
     }
 
-    /// Lends an output full of a pattern, which stays beyond the text, and everywhere on refusal.
-    /// The text is in `written` afterwards.
-    pub fn text(&mut self, file: &[u8], words: usize, room: usize) -> Result<Text, Difference> {
+    /// Lends an output full of a pattern, which stays beyond what is written, and everywhere on refusal.
+    /// What was written is in `written` afterwards.
+    fn output(
+        &mut self,
+        call: Call<'_>,
+        file: &[u8],
+        words: usize,
+        room: usize,
+    ) -> Result<Answer, Difference> {
         let mut out = std::mem::take(&mut self.out);
         out.clear();
         out.extend((0..room + 2 * MARGIN).map(|i| self.pattern(i)));
         let lent = &mut out[MARGIN..MARGIN + room];
-        let answer = self.with_table(Call::ToSiin, file, words, lent)?.text();
-        let length = if answer.number == 0 { answer.length } else { 0 };
+        let answer = self.with_table(call, file, words, lent)?;
+        let length = match answer {
+            Answer::Text(Text {
+                number: 0, length, ..
+            }) => length,
+            Answer::Length(Length {
+                number: 0, length, ..
+            }) => length,
+            _ => 0,
+        };
         if length > room as u64 {
             let detail = format!("length {length} in an output of {room}");
             return differ((self.name, "output"), detail);
         }
-        let text = MARGIN..MARGIN + length as usize;
-        let kept = |i: usize| text.contains(&i) || out[i] == self.pattern(i);
+        let written = MARGIN..MARGIN + length as usize;
+        let kept = |i: usize| written.contains(&i) || out[i] == self.pattern(i);
         if let Some(i) = (0..out.len()).find(|i| !kept(*i)) {
             let place = i as i64 - MARGIN as i64;
             let detail = format!("byte {place} of {room} changed, with {answer:?}");
@@ -99,8 +113,35 @@ impl<'a> Side<'a> {
         Ok(answer)
     }
 
-    /// The text of the last accepted `text`.
-    pub fn written(&self, text: Text) -> &[u8] {
-        &self.out[MARGIN..MARGIN + text.length as usize]
+    pub fn text(&mut self, file: &[u8], words: usize, room: usize) -> Result<Text, Difference> {
+        Ok(self.output(Call::ToSiin, file, words, room)?.text())
+    }
+
+    pub fn index(&mut self, file: &[u8], words: usize, room: usize) -> Result<Length, Difference> {
+        Ok(self.output(Call::WriteIndex, file, words, room)?.length())
+    }
+
+    /// The text or index of the last accepted `text` or `index`, of this length.
+    pub fn written(&self, length: u64) -> &[u8] {
+        &self.out[MARGIN..MARGIN + length as usize]
+    }
+
+    /// The whole index, if the file has one.
+    pub fn whole_index(
+        &mut self,
+        file: &[u8],
+        words: usize,
+    ) -> Result<Option<Vec<u8>>, Difference> {
+        let short = self.index(file, words, 0)?;
+        let length = match short.number {
+            0 | 11 => short.length,
+            _ => return Ok(None),
+        };
+        let whole = self.index(file, words, length as usize)?;
+        if (whole.number, whole.length) != (0, length) {
+            let detail = format!("{whole:?} in a space of the needed length, {length}");
+            return differ((self.name, "write_index"), detail);
+        }
+        Ok(Some(self.written(length).to_vec()))
     }
 }

@@ -10,12 +10,15 @@ pub use run::{run, Counts};
 
 use crate::report::{Check, Difference, Label, Tally};
 use crate::side::Side;
-use calls::{Answer, Call, Field, Implementation, Reading};
+use calls::{Answer, Call, Field, Implementation, Length, Reading, RECORD};
 use generate::save::{Block, Save};
 use generate::widening::{Insertion, Widening};
 use model::Model;
 use parts::{text_parts, Part};
 use std::fmt;
+
+/// Number, offset and lacking bytes.
+type Fault = (u32, u64, u64);
 
 #[derive(Default)]
 pub struct Widenings {
@@ -75,6 +78,8 @@ struct Found {
 /// The answers about the old save.
 struct Before {
     text: Vec<u8>,
+    index: Vec<u8>,
+    /// By the field call and by the old save's index alike.
     found: Vec<Found>,
 }
 
@@ -126,11 +131,13 @@ impl Asked<'_, '_> {
         self.reading(old)?;
         let text = self.text(old)?;
         let file = old.bytes();
+        let index = self.index(old)?;
         let mut found = Vec::new();
         for (number, block) in old.blocks().enumerate() {
             for name in names(old) {
+                let block_number = number as u64;
                 let call = Call::FieldOf {
-                    block: number as u64,
+                    block: block_number,
                     name,
                 };
                 let answer = self.side.ask(call, &file, words(old))?.field();
@@ -138,6 +145,8 @@ impl Asked<'_, '_> {
                 let expected = made_value(old, block, name);
                 let asked = || format!("block {number}, name {name:?}");
                 self.same("a field before", asked, part.clone(), expected)?;
+                let by_index = self.by_index(&file, &index, block_number, name)?;
+                self.same("a field by index before", asked, by_index, answer)?;
                 if let Some((type_id, bytes)) = part {
                     found.push(Found {
                         block: number,
@@ -148,7 +157,36 @@ impl Asked<'_, '_> {
                 }
             }
         }
-        Ok(Before { text, found })
+        Ok(Before { text, index, found })
+    }
+
+    /// The index is that of the records which the save was made of; it fits, no id is defined twice.
+    fn index(&mut self, save: &Save) -> Result<Vec<u8>, Difference> {
+        let (file, words, expected) = (save.bytes(), words(save), save.index());
+        let written = self.side.whole_index(&file, words)?;
+        self.same("index", String::new, written, Some(expected.clone()))?;
+        self.check(&file, words, &expected, (0, 0, 0))?;
+        let once = self.side.ask(Call::DefinesOnce, &file, words)?.named();
+        self.same("once", String::new, (once.number, once.value), (0, 1))?;
+        Ok(expected)
+    }
+
+    fn check(&mut self, file: &[u8], words: usize, index: &[u8], expected: Fault) -> Check {
+        let call = Call::CheckIndex { index };
+        let checked = self.side.ask(call, file, words)?.fault();
+        let asked = || format!("{index:02x?}");
+        self.same("check of an index", asked, checked, expected)
+    }
+
+    fn by_index(
+        &mut self,
+        file: &[u8],
+        index: &[u8],
+        block: u64,
+        name: &[u8],
+    ) -> Result<Field, Difference> {
+        let call = Call::FieldByIndex { index, block, name };
+        Ok(self.side.ask(call, file, 0)?.field())
     }
 
     /// The counts are those of the records that the save was made of.
@@ -181,7 +219,7 @@ impl Asked<'_, '_> {
         let found = (answer.number, answer.length);
         let asked = || format!("with {room} bytes");
         self.same("text", asked, found, (0, length as u64))?;
-        Ok(self.side.written(answer).to_vec())
+        Ok(self.side.written(answer.length).to_vec())
     }
 
     /// What demand 3 says of a save after insertions.
@@ -191,6 +229,8 @@ impl Asked<'_, '_> {
         let parts = text_parts(self.model, new);
         self.left_out(&text, &parts, &before.text)?;
         let (file, numbers) = (new.bytes(), new.new_numbers());
+        let index = self.index(new)?;
+        self.stale(&file, words(new), &before.index, &index)?;
         for found in &before.found {
             let (block, name) = (numbers[found.block], &found.name[..]);
             let call = Call::FieldOf { block, name };
@@ -199,20 +239,36 @@ impl Asked<'_, '_> {
             let asked = || format!("old block {}, {call:?}", found.block);
             let expected = Some((found.type_id, &found.bytes[..]));
             self.same("a field after", asked, part, expected)?;
+            let by_index = self.by_index(&file, &index, block, name)?;
+            let part = part_of(&file, by_index).map(|bytes| (by_index.type_id, bytes));
+            self.same("a field by index after", asked, part, expected)?;
         }
-        self.found_or_absent(new)
+        self.found_or_absent(new, &index)
     }
 
-    /// No field call is refused for the save.
-    fn found_or_absent(&mut self, save: &Save) -> Check {
+    /// The index of the old save is that of the new one, or the check tells the first record that is not.
+    fn stale(&mut self, file: &[u8], words: usize, old: &[u8], new: &[u8]) -> Check {
+        let records = old.len().max(new.len()) / RECORD;
+        let differs = (0..records).find(|k| {
+            let of = k * RECORD..(k + 1) * RECORD;
+            old.get(of.clone()) != new.get(of)
+        });
+        let expected = differs.map_or((0, 0, 0), |k| (14, (k * RECORD) as u64, 0));
+        self.check(file, words, old, expected)
+    }
+
+    /// No field call is refused for the save, and a look-up by its index finds the same.
+    fn found_or_absent(&mut self, save: &Save, index: &[u8]) -> Check {
         let file = save.bytes();
         for block in 0..=save.blocks().count() as u64 {
             for name in names(save) {
                 let call = Call::FieldOf { block, name };
-                let number = self.side.ask(call, &file, words(save))?.number();
-                let asked = || format!("{call:?} gives {number}");
-                let is_so = matches!(number, 0 | 13);
+                let answer = self.side.ask(call, &file, words(save))?.field();
+                let asked = || format!("{call:?} gives {}", answer.number);
+                let is_so = matches!(answer.number, 0 | 13);
                 self.same("found or absent", asked, is_so, true)?;
+                let by_index = self.by_index(&file, index, block, name)?;
+                self.same("found or absent by index", asked, by_index, answer)?;
             }
         }
         Ok(())
@@ -237,7 +293,7 @@ impl Asked<'_, '_> {
         self.same("the old text", asked, Shown(&left), Shown(old))
     }
 
-    /// Reading, text and every field call give 7 at the offset.
+    /// Reading, text, every field call, writing an index and checking one give 7 at the offset.
     fn stops(&mut self, save: &Save, offset: u64) -> Check {
         let (file, words) = (save.bytes(), words(save));
         let answer = self.side.ask(Call::Read, &file, words)?;
@@ -248,6 +304,13 @@ impl Asked<'_, '_> {
             let found = (answer.number, answer.offset);
             self.same("text of an unlisted type", String::new, found, (7, offset))?;
         }
+        for room in [0, RECORD, RECORD * save.blocks().count()] {
+            let answer = self.side.index(&file, words, room)?;
+            let expected = Length::refused(7, offset);
+            self.same("index of an unlisted type", String::new, answer, expected)?;
+        }
+        self.check(&file, words, &save.index(), (7, offset, 0))?;
+        self.check(&file, words, b"none", (7, offset, 0))?;
         for block in 0..=save.blocks().count() as u64 {
             for name in names(save) {
                 let call = Call::FieldOf { block, name };

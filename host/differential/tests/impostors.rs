@@ -1,11 +1,15 @@
 //! The comparison has to find each of these wrong implementations out.
 
-use calls::{Answer, Block, Call, Element, Field, Implementation, Lent, Prototype, Reading, Text};
+use calls::{
+    Answer, Block, Call, Checked, Element, Field, Implementation, Length, Lent, Number, Prototype,
+    Reading, Text, LENGTH_LIMIT, RECORD,
+};
 use differential::compare::Comparison;
 use differential::report::Tally;
 use generate::bytes::one_value;
 use generate::Random;
 use model::Model;
+use std::collections::HashSet;
 use texts::store;
 
 mod texts;
@@ -60,6 +64,31 @@ enum Fault {
     SevenWithAnEighth,
     TwoForVersion1,
     TwoForTheHeaderAlone,
+    IndexWrittenBeforeRefusing,
+    IndexOfTheLastDefinition,
+    IndexLengthInRecords,
+    BlockLengthWithoutItsId,
+    ShortSpaceBeforeFaults,
+    CheckComparesLengths,
+    CheckComparesBlockOffsets,
+    CheckIgnoresWhatIsBehind,
+    MisfitBeforeFaults,
+    MisfitAtTheByte,
+    MisfitAtTheLength,
+    LookUpStopsAtTheValue,
+    LookUpTrustsTheLength,
+    LookUpTrustsTheFields,
+    LookUpByTheLastDefinition,
+    LookUpMultiplies,
+    LookUpChecksTheHeader,
+    LookUpAssumesTwo,
+    LookUpFindsABadMark,
+    LookUpEndsAtTheEnd,
+    LookUpMissesAtThePrototype,
+    LookUpOfACutRecord,
+    AlwaysOnce,
+    OnceWithoutIdZero,
+    TwiceIfTheyDiffer,
 }
 
 const FAULTS: [Fault; 47] = [
@@ -110,6 +139,74 @@ const FAULTS: [Fault; 47] = [
     Fault::SevenWithAnEighth,
     Fault::TwoForVersion1,
     Fault::TwoForTheHeaderAlone,
+];
+
+/// About an index, each with the check that finds it out first.
+const INDEX_FAULTS: [(Fault, &str); 25] = [
+    (Fault::IndexWrittenBeforeRefusing, "library: output"),
+    (Fault::IndexOfTheLastDefinition, "library and Rust: index"),
+    (Fault::IndexLengthInRecords, "library: write_index"),
+    (Fault::BlockLengthWithoutItsId, "library and Rust: index"),
+    (
+        Fault::ShortSpaceBeforeFaults,
+        "library and Rust: class of a refused file",
+    ),
+    (
+        Fault::CheckComparesLengths,
+        "library and model: check_index",
+    ),
+    (
+        Fault::CheckComparesBlockOffsets,
+        "library and model: check_index",
+    ),
+    (
+        Fault::CheckIgnoresWhatIsBehind,
+        "library and model: check_index",
+    ),
+    (Fault::MisfitBeforeFaults, "library and model: check_index"),
+    (Fault::MisfitAtTheByte, "library and model: check_index"),
+    (Fault::MisfitAtTheLength, "library and model: check_index"),
+    (
+        Fault::LookUpStopsAtTheValue,
+        "library and model: field_by_index",
+    ),
+    (
+        Fault::LookUpTrustsTheLength,
+        "library and model: field_by_index",
+    ),
+    (
+        Fault::LookUpTrustsTheFields,
+        "library and model: field_by_index",
+    ),
+    (
+        Fault::LookUpByTheLastDefinition,
+        "library and model: field_by_index",
+    ),
+    (Fault::LookUpMultiplies, "library and model: field_by_index"),
+    (
+        Fault::LookUpChecksTheHeader,
+        "library and model: field_by_index",
+    ),
+    (Fault::LookUpAssumesTwo, "library and Rust: field_by_index"),
+    (
+        Fault::LookUpFindsABadMark,
+        "library and model: field_by_index",
+    ),
+    (
+        Fault::LookUpEndsAtTheEnd,
+        "library and model: field_by_index",
+    ),
+    (
+        Fault::LookUpMissesAtThePrototype,
+        "library and model: field_by_index",
+    ),
+    (
+        Fault::LookUpOfACutRecord,
+        "library and model: field_by_index",
+    ),
+    (Fault::AlwaysOnce, "library and Rust: field_by_index"),
+    (Fault::OnceWithoutIdZero, "library and model: defines_once"),
+    (Fault::TwiceIfTheyDiffer, "library and model: defines_once"),
 ];
 
 struct Impostor {
@@ -178,10 +275,17 @@ impl Implementation for Impostor {
             Answer::Reading(answer) => Answer::Reading(self.reading(answer, file)),
             Answer::Prototype(answer) => Answer::Prototype(self.prototype(answer)),
             Answer::Block(answer) => Answer::Block(self.block(answer)),
-            Answer::Field(answer) => Answer::Field(self.field(answer, call, file)),
+            Answer::Field(answer) => Answer::Field(match call {
+                Call::FieldByIndex { index, block, name } => {
+                    self.looked_up(answer, file, index, block, name)
+                }
+                _ => self.field(answer, call, file),
+            }),
             Answer::Element(answer) => Answer::Element(self.element(answer, call)),
             Answer::Text(answer) => Answer::Text(self.text(answer, file, out, &before)),
-            Answer::Number(_) => answer,
+            Answer::Number(_) => self.once(answer, call, file),
+            Answer::Length(answer) => Answer::Length(self.written(answer, file, out)),
+            Answer::Checked(answer) => Answer::Checked(self.checked(answer, call, file)),
         }
     }
 }
@@ -501,6 +605,247 @@ impl Impostor {
     }
 }
 
+/// A number of a record.
+fn number(record: &[u8], at: usize) -> usize {
+    (0..3).map(|i| (record[at + i] as usize) << (8 * i)).sum()
+}
+
+/// What is wrong about an index.
+impl Impostor {
+    fn own_index(&mut self, file: &[u8]) -> Vec<u8> {
+        let parsed = self.model.parsed(file, usize::MAX).expect("it answered");
+        let mut index = parsed.index();
+        for (record, block) in index.chunks_mut(RECORD).zip(&parsed.blocks) {
+            let start = parsed.last_of(block).start.to_le_bytes();
+            match self.fault {
+                Fault::IndexOfTheLastDefinition => record[6..9].copy_from_slice(&start[..3]),
+                Fault::BlockLengthWithoutItsId => {
+                    let shorter = (number(record, 3) - 4).to_le_bytes();
+                    record[3..6].copy_from_slice(&shorter[..3]);
+                }
+                _ => {}
+            }
+        }
+        index
+    }
+
+    fn written(&mut self, mut answer: Length, file: &[u8], out: &mut [u8]) -> Length {
+        match (self.fault, answer.number) {
+            (Fault::IndexWrittenBeforeRefusing, 11) if !out.is_empty() => out[0] = !out[0],
+            (Fault::IndexLengthInRecords, 0 | 11) => answer.length /= RECORD as u64,
+            (Fault::ShortSpaceBeforeFaults, 3..=7) if out.is_empty() => {
+                answer = Length::refused(11, 0)
+            }
+            (Fault::IndexOfTheLastDefinition | Fault::BlockLengthWithoutItsId, 0) => {
+                let index = self.own_index(file);
+                out[..index.len()].copy_from_slice(&index);
+            }
+            _ => {}
+        }
+        answer
+    }
+
+    /// Whether the index would be one with the right bytes in place of all but block offsets.
+    fn has_its_offsets(&mut self, index: &[u8], file: &[u8]) -> Checked {
+        let mut made = index.to_vec();
+        for (record, own) in made
+            .chunks_mut(RECORD)
+            .zip(self.own_index(file).chunks(RECORD))
+        {
+            if record.len() == RECORD {
+                record[3..].copy_from_slice(&own[3..]);
+            }
+        }
+        let call = Call::CheckIndex { index: &made };
+        let answer = self.model.answer(call, Lent::file(file, &mut [0; 300]));
+        answer.checked()
+    }
+
+    fn checked(&mut self, answer: Checked, call: Call<'_>, file: &[u8]) -> Checked {
+        let Call::CheckIndex { index } = call else {
+            return answer;
+        };
+        if matches!(answer.number, 3..=7) && self.is(Fault::MisfitBeforeFaults) {
+            let in_front = self.model.in_front_of_fault(file).index();
+            let differs = in_front.len() >= RECORD && !index.starts_with(&in_front[..RECORD]);
+            return if differs {
+                Checked::refused(14, 0)
+            } else {
+                answer
+            };
+        }
+        if answer.number != 14 {
+            return answer;
+        }
+        let own = self.own_index(file);
+        let offset = match self.fault {
+            Fault::CheckComparesLengths if index.len() == own.len() => return Checked::default(),
+            Fault::CheckComparesBlockOffsets => return self.has_its_offsets(index, file),
+            Fault::CheckIgnoresWhatIsBehind if index.starts_with(&own) => {
+                return Checked::default()
+            }
+            Fault::MisfitAtTheByte => index.iter().zip(&own).take_while(|(a, b)| a == b).count(),
+            Fault::MisfitAtTheLength => index.len().min(own.len()),
+            _ => return answer,
+        };
+        Checked::refused(14, offset as u64)
+    }
+
+    /// The prototype and the block alone behind a header, as the model reads them, and how far the
+    /// block stands behind its place in the file.
+    fn alone(&mut self, file: &[u8], record: &[u8]) -> Option<(Vec<u8>, i64)> {
+        let (block, of) = (number(record, 0), number(record, 6));
+        let from = [&file[..8], file.get(of..)?].concat();
+        let end = *self.model.in_front_of_fault(&from).starts.get(1)?;
+        let both = [&from[..end], file.get(block..)?].concat();
+        Some((both, end as i64 - block as i64))
+    }
+
+    /// The position of the first definition so named in a record's prototype, and the value there, if
+    /// the block has a value behind it, so that this one is whole.
+    fn value_alone(&mut self, file: &[u8], record: &[u8], name: &[u8]) -> Option<(usize, Field)> {
+        let (both, behind) = self.alone(file, record)?;
+        let parsed = self.model.in_front_of_fault(&both);
+        let (of, block) = (parsed.prototypes.first()?, parsed.blocks.first()?);
+        let position = of.fields.iter().position(|f| f.name.of(&both) == name)?;
+        let is_whole = position + 1 < block.values.len();
+        let value = block.values.get(position).filter(|_| is_whole)?;
+        let found = Field {
+            type_id: value.type_id,
+            part_offset: (value.place.offset as i64 - behind) as u64,
+            part_len: value.place.len as u64,
+            ..Field::default()
+        };
+        Some((position, found))
+    }
+
+    fn looked_up(
+        &mut self,
+        answer: Field,
+        file: &[u8],
+        index: &[u8],
+        block: u64,
+        name: &[u8],
+    ) -> Field {
+        let whole = block < (index.len() / RECORD) as u64;
+        let at = block.wrapping_mul(RECORD as u64) as usize;
+        let record = index.get(at..at.saturating_add(RECORD));
+        let mut ask = |file: &[u8], index: &[u8]| {
+            let call = Call::FieldByIndex {
+                index,
+                block: 0,
+                name,
+            };
+            let answer = self.model.answer(call, Lent::file(file, &mut []));
+            answer.field()
+        };
+        if !whole {
+            return match self.fault {
+                Fault::LookUpMultiplies if file.len() <= LENGTH_LIMIT => {
+                    record.map_or(answer, |record| ask(file, record))
+                }
+                Fault::LookUpOfACutRecord if at < index.len() && file.len() <= LENGTH_LIMIT => {
+                    let padded = [&index[at..], &[0; RECORD]].concat();
+                    ask(file, &padded)
+                }
+                _ => answer,
+            };
+        }
+        let record = record.expect("it is there");
+        let (start, of) = (number(record, 0), number(record, 6));
+        let end = answer.part_offset + answer.part_len;
+        match (self.fault, answer.number) {
+            (Fault::LookUpChecksTheHeader, 0..=11) if !file.starts_with(b"BSII") => {
+                Field::refused(1, 0)
+            }
+            (Fault::LookUpAssumesTwo, 0..=11) if file.len() >= 8 => {
+                ask(&[&file[..4], &[2, 0, 0, 0], &file[8..]].concat(), record)
+            }
+            (Fault::LookUpStopsAtTheValue, 3 | 4 | 5 | 7) if file.len() >= 8 => {
+                let found = self.value_alone(file, record, name);
+                found.map_or(answer, |(_, found)| found)
+            }
+            (Fault::LookUpTrustsTheLength, 0) if end > (start + number(record, 3)) as u64 => {
+                Field::refused(13, 0)
+            }
+            (Fault::LookUpTrustsTheFields, 0) => {
+                let found = self.value_alone(file, record, name);
+                match found.is_some_and(|(position, _)| position >= number(record, 9)) {
+                    true => Field::refused(13, 0),
+                    false => answer,
+                }
+            }
+            (Fault::LookUpByTheLastDefinition, 0 | 13) => {
+                let parsed = self.model.in_front_of_fault(file);
+                let id = file.get(start..start + 4);
+                let id = id.map_or(0, |id| u32::from_le_bytes(id.try_into().unwrap()));
+                let Some(last) = parsed.prototype(id).map(|last| last.start) else {
+                    return answer;
+                };
+                let last = generate::index::record([start, 0, last, 0]);
+                let call = Call::FieldByIndex {
+                    index: &last,
+                    block: 0,
+                    name,
+                };
+                let lent = Lent::file(file, &mut []);
+                self.model.answer(call, lent).field()
+            }
+            (Fault::LookUpFindsABadMark, 6) if file.get(of..of + 4) == Some(&[0; 4]) => {
+                match file[of + 4] {
+                    0 | 1 => answer,
+                    _ => Field::refused(15, of as u64 + 4),
+                }
+            }
+            (Fault::LookUpEndsAtTheEnd, 3) => Field {
+                offset: answer.offset.min(file.len() as u64),
+                ..answer
+            },
+            (Fault::LookUpMissesAtThePrototype, 6) => Field::refused(6, of as u64),
+            _ => answer,
+        }
+    }
+
+    fn once(&mut self, answer: Answer, call: Call<'_>, file: &[u8]) -> Answer {
+        let (
+            Call::DefinesOnce,
+            Answer::Number(Number {
+                number: 0, value, ..
+            }),
+        ) = (call, answer)
+        else {
+            return answer;
+        };
+        let records = |parsed: &model::Parsed| {
+            let ends = parsed.starts[1..].to_vec();
+            let both = parsed.starts.clone().into_iter().zip(ends);
+            let prototypes = both.map(|(start, end)| &file[start..end]);
+            prototypes.filter(|record| record.starts_with(&[0; 4]))
+        };
+        let parsed = self.model.parsed(file, usize::MAX).expect("it answered");
+        let value = match self.fault {
+            Fault::AlwaysOnce => 1,
+            // Twice by id 0, and by no other.
+            Fault::OnceWithoutIdZero => {
+                let ids = records(parsed).map(|record| record[5..9].to_vec());
+                let others: Vec<_> = ids.filter(|id| *id != [0; 4]).collect();
+                let distinct: HashSet<_> = others.iter().collect();
+                u64::from(distinct.len() == others.len())
+            }
+            // A definition that is repeated byte by byte does not count.
+            Fault::TwiceIfTheyDiffer => {
+                let records: HashSet<_> = records(parsed).collect();
+                u64::from(records.len() == parsed.prototypes.len())
+            }
+            _ => value,
+        };
+        Answer::Number(Number {
+            value,
+            ..Number::default()
+        })
+    }
+}
+
 /// Another text than the one that was written, if there is room for it.
 fn in_place_of_text(text: &[u8], out: &mut [u8], before: &[u8]) -> Text {
     out.copy_from_slice(before);
@@ -529,6 +874,38 @@ fn each_impostor_is_found() {
     for fault in FAULTS {
         let found = differences(Some(fault), 2000).next();
         assert!(found.is_some(), "{fault:?} was not found");
+    }
+}
+
+#[test]
+fn each_impostor_of_an_index_is_found() {
+    for (fault, by) in INDEX_FAULTS {
+        let found = differences(Some(fault), 2000).next();
+        assert_eq!(found.as_deref(), Some(by), "{fault:?}");
+    }
+}
+
+/// The look-ups of a fuzzer, whose inputs bring their index.
+#[test]
+fn any_bytes_as_an_index() {
+    let file = one_value(0x27, &[7, 0, 0, 0]);
+    let index = Model::default().parsed(&file, 1).unwrap().index();
+    let of_no_length = [&index[..3], &[0; 3], &index[6..]].concat();
+    for (fault, index, is_found) in [
+        (Fault::LookUpTrustsTheLength, &index[..], false),
+        (Fault::LookUpTrustsTheLength, &of_no_length, true),
+        (Fault::LookUpStopsAtTheValue, &of_no_length, false),
+        (Fault::LookUpOfACutRecord, &index, false),
+        (Fault::LookUpOfACutRecord, &index[..11], true),
+        (Fault::LookUpOfACutRecord, b"", false),
+    ] {
+        let model = Model::default();
+        let mut comparison = Comparison::default();
+        comparison.library = Some(Box::new(Impostor { model, fault }));
+        let check = comparison.by_index(&file, index, &mut Tally::default());
+        let label = check.err().map(|difference| difference.label);
+        let expected = is_found.then_some("library and model: field_by_index");
+        assert_eq!(label.as_deref(), expected, "{fault:?}, {index:?}");
     }
 }
 

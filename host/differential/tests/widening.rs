@@ -1,9 +1,11 @@
 //! The run over lists of insertions has to find each of these wrong implementations out.
 
-use calls::{Answer, Call, Field, Implementation, Lent, Reading};
+use calls::{
+    Answer, Call, Checked, Field, Implementation, Length, Lent, Number, Reading, Text, RECORD,
+};
 use differential::report::Tally;
 use differential::widening::{first_unlisted, run, Widenings};
-use generate::save::{Record, Save};
+use generate::save::{Block, Prototype, Record, Save};
 use generate::widening::{widening, Insertion, Widening};
 use model::Model;
 use texts::store;
@@ -34,10 +36,23 @@ enum Fault {
     FindsNothingUnlisted,
     AbsentBeforeSeven,
     OutputBeforeSeven,
+    /// Writes records without the inserted blocks, and accepts them.
+    IndexOfOldBlocks,
+    /// Counts the fields of the old save.
+    IndexOfOldFields,
+    AcceptsTheOldIndex,
+    RefusesTheIndexWritten,
+    NotOnce,
+    LooksUpByOldNumbers,
+    LooksUpOldPositions,
+    LooksUpNoInsertedNames,
+    IndexSevenWithoutABlock,
+    SpaceBeforeSeven,
+    MisfitBeforeSeven,
 }
 
 /// Each with the check that finds it out first.
-const FAULTS: [(Fault, &str); 19] = [
+const FAULTS: [(Fault, &str); 30] = [
     (Fault::GuessesLength, "a field after"),
     (Fault::OldNumbers, "a field after"),
     (Fault::OldPositions, "a field after"),
@@ -57,6 +72,17 @@ const FAULTS: [(Fault, &str); 19] = [
     (Fault::FindsNothingUnlisted, "field of an unlisted type"),
     (Fault::AbsentBeforeSeven, "field of an unlisted type"),
     (Fault::OutputBeforeSeven, "text of an unlisted type"),
+    (Fault::IndexOfOldBlocks, "index"),
+    (Fault::IndexOfOldFields, "index"),
+    (Fault::AcceptsTheOldIndex, "check of an index"),
+    (Fault::RefusesTheIndexWritten, "check of an index"),
+    (Fault::NotOnce, "once"),
+    (Fault::LooksUpByOldNumbers, "a field by index after"),
+    (Fault::LooksUpOldPositions, "a field by index after"),
+    (Fault::LooksUpNoInsertedNames, "found or absent by index"),
+    (Fault::IndexSevenWithoutABlock, "index"),
+    (Fault::SpaceBeforeSeven, "index of an unlisted type"),
+    (Fault::MisfitBeforeSeven, "check of an index"),
 ];
 
 /// Knows the list, so that it can be wrong about what was inserted and about nothing else.
@@ -117,6 +143,27 @@ impl Implementation for Impostor {
             (Answer::Field(answer), Call::FieldOf { block, name }) => {
                 Answer::Field(self.field(answer, block, name))
             }
+            (Answer::Field(answer), Call::FieldByIndex { block, name, .. }) => {
+                Answer::Field(self.looked_up(answer, block, name))
+            }
+            (Answer::Length(answer), _) => {
+                let Some(index) = self.other_index() else {
+                    return Answer::Length(answer);
+                };
+                out.copy_from_slice(&before);
+                let Text { number, length, .. } = store(&index, out);
+                Answer::Length(Length {
+                    number,
+                    length,
+                    ..Length::default()
+                })
+            }
+            (Answer::Checked(answer), Call::CheckIndex { index }) => {
+                Answer::Checked(self.checked(answer, index))
+            }
+            (Answer::Number(answer), Call::DefinesOnce) if self.fault == Fault::NotOnce => {
+                Answer::Number(Number { value: 0, ..answer })
+            }
             (Answer::Text(_), _) => {
                 out.copy_from_slice(&before);
                 Answer::Text(store(&self.text(), out))
@@ -146,20 +193,78 @@ impl Impostor {
                 let block = numbers.get(block as usize).map_or(u64::MAX, |new| *new);
                 Call::FieldOf { block, name }
             }
+            Call::FieldByIndex { index, block, name }
+                if self.fault == Fault::LooksUpByOldNumbers =>
+            {
+                let numbers = self.new.new_numbers();
+                let block = numbers.get(block as usize).map_or(u64::MAX, |new| *new);
+                Call::FieldByIndex { index, block, name }
+            }
             call => call,
         }
     }
 
-    fn field(&self, answer: Field, block: u64, name: &[u8]) -> Field {
-        let Some(there) = self.new.blocks().nth(block as usize) else {
-            return answer;
-        };
+    /// What is written in place of the new save's index.
+    fn other_index(&self) -> Option<Vec<u8>> {
+        let index = self.new.index();
+        let records = index.chunks(RECORD).zip(self.new.blocks());
+        match self.fault {
+            Fault::IndexOfOldBlocks => {
+                let old = records.filter(|(_, block)| !block.inserted);
+                Some(old.flat_map(|(record, _)| record.to_vec()).collect())
+            }
+            Fault::IndexOfOldFields => {
+                let counted = records.flat_map(|(record, block)| {
+                    let fields = &self.new.of(block).fields;
+                    let old = fields.iter().filter(|field| !field.inserted).count();
+                    [&record[..9], &old.to_le_bytes()[..3]].concat()
+                });
+                Some(counted.collect())
+            }
+            _ => None,
+        }
+    }
+
+    fn checked(&self, answer: Checked, index: &[u8]) -> Checked {
+        match self.fault {
+            Fault::AcceptsTheOldIndex if index == self.old.index() => Checked::default(),
+            Fault::RefusesTheIndexWritten if answer.number == 0 && !index.is_empty() => {
+                Checked::refused(14, 0)
+            }
+            _ => answer,
+        }
+    }
+
+    /// A block of the new save, its prototype, and the position of the first definition so named, with
+    /// the inserted ones in front of it and without.
+    fn named(&self, block: u64, name: &[u8]) -> Option<(&Block, &Prototype, [usize; 2])> {
+        let there = self.new.blocks().nth(block as usize)?;
         let of = self.new.of(there);
-        let Some(position) = of.position(name) else {
+        let position = of.position(name)?;
+        let in_front = of.fields[..position].iter();
+        let old = in_front.filter(|field| !field.inserted).count();
+        Some((there, of, [position, old]))
+    }
+
+    fn looked_up(&self, answer: Field, block: u64, name: &[u8]) -> Field {
+        let Some((there, of, [position, old_position])) = self.named(block, name) else {
             return answer;
         };
-        let in_front = &of.fields[..position];
-        let old_position = in_front.iter().filter(|field| !field.inserted).count();
+        match self.fault {
+            Fault::LooksUpOldPositions => Field {
+                part_offset: self.start(block, old_position),
+                part_len: there.values[old_position].bytes.len() as u64,
+                ..answer
+            },
+            Fault::LooksUpNoInsertedNames if of.fields[position].inserted => Field::refused(13, 0),
+            _ => answer,
+        }
+    }
+
+    fn field(&self, answer: Field, block: u64, name: &[u8]) -> Field {
+        let Some((there, of, [position, old_position])) = self.named(block, name) else {
+            return answer;
+        };
         match self.fault {
             Fault::OldPositions => Field {
                 part_offset: self.start(block, old_position),
@@ -226,6 +331,9 @@ impl Impostor {
         let starts = save.value_starts(*id, *position);
         match (self.fault, first_unlisted(last, save)) {
             (Fault::SevenWithoutABlock, None) => answer.refused(7, 8),
+            (Fault::IndexSevenWithoutABlock, None) if call == Call::WriteIndex => {
+                answer.refused(7, 8)
+            }
             (_, None) => answer,
             (Fault::SevenAtTheBlock, Some(_)) => {
                 let first = save.value_starts(*id, 0)[0];
@@ -256,6 +364,10 @@ fn carried(fault: Fault, answer: Answer, call: Call<'_>, save: &Save) -> Answer 
             answer.refused(13, 0)
         }
         (Fault::OutputBeforeSeven, Call::ToSiin) => answer.refused(11, 0),
+        (Fault::SpaceBeforeSeven, Call::WriteIndex) => answer.refused(11, 0),
+        (Fault::MisfitBeforeSeven, Call::CheckIndex { index }) if index != save.index() => {
+            answer.refused(14, 0)
+        }
         _ => answer,
     }
 }

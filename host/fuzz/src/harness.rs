@@ -1,4 +1,4 @@
-//! One input, taken as a file and as a value.
+//! One input, taken as a file, as a value, and as a file with an index behind it.
 
 use crate::wrong::Wrong;
 use calls::Implementation;
@@ -6,6 +6,9 @@ use differential::compare::Comparison;
 use differential::linked::Linked;
 use differential::report::{Check, Tally};
 use generate::Random;
+
+/// The bytes of two records.
+const INDEX: usize = 2 * calls::RECORD;
 
 pub struct Harness {
     comparison: Comparison,
@@ -30,6 +33,10 @@ impl Harness {
     pub fn input(&mut self, input: &[u8]) -> Check {
         let mut random = Random::new(checksum(input), 0);
         self.comparison.whole(input, &mut random, &mut self.tally)?;
+        if let Some(end) = input.len().checked_sub(INDEX) {
+            let (file, index) = input.split_at(end);
+            self.comparison.by_index(file, index, &mut self.tally)?;
+        }
         match input {
             [version, type_id, index, part @ ..] => {
                 let [version, type_id] = [version, type_id].map(|byte| u32::from(*byte));
@@ -40,6 +47,11 @@ impl Harness {
             _ => Ok(()),
         }
     }
+}
+
+/// The bytes that `input` takes as a file with an index of two records.
+pub fn index_input(file: &[u8], index: &[u8; INDEX]) -> Vec<u8> {
+    [file, index].concat()
 }
 
 /// The bytes that `input` takes as this value.

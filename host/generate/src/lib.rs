@@ -4,6 +4,7 @@ pub mod bytes;
 mod corners;
 mod damage;
 pub mod ids;
+pub mod index;
 mod random;
 pub mod save;
 mod short;

@@ -1,7 +1,7 @@
 //! A save as records, each part marked: of the old save, or inserted. Nothing here reads bytes, so
 //! that what is known of a save owes nothing to a reader.
 
-use crate::bytes;
+use crate::{bytes, index};
 
 #[derive(Clone, Debug, PartialEq, Eq)]
 pub struct Definition {
@@ -157,6 +157,24 @@ impl Save {
         let numbered = self.blocks().enumerate();
         let old = numbered.filter(|(_, block)| !block.inserted);
         old.map(|(number, _)| number as u64).collect()
+    }
+
+    /// The index, which has a record for each block.
+    pub fn index(&self) -> Vec<u8> {
+        let (mut index, mut starts, mut at) = (Vec::new(), Vec::new(), self.head().len());
+        for record in &self.records {
+            let len = record.bytes().len();
+            match record {
+                Record::Prototype(prototype) => starts.push((prototype.id, at)),
+                Record::Block(block) => {
+                    let defined = starts.iter().find(|(id, _)| *id == block.prototype);
+                    let (_, start) = defined.expect("a block stands behind its prototype");
+                    index.extend(index::record([at, len, *start, block.values.len()]));
+                }
+            }
+            at += len;
+        }
+        index
     }
 
     /// Where the value at a position starts in each block of an id.

@@ -39,9 +39,10 @@ pub struct Cursor<'a> {
 }
 
 impl<'a> Cursor<'a> {
-    /// An item of `n` bytes; 3 at its start if it runs out.
+    /// An item of `n` bytes; 3 at its start if it runs out. Of one that starts behind the end, all
+    /// bytes are lacking.
     pub fn take(&mut self, n: usize) -> Result<&'a [u8], Refusal> {
-        let there = self.bytes.len() - self.at;
+        let there = self.bytes.len().saturating_sub(self.at);
         if there < n {
             return Err(Refusal {
                 number: 3,

@@ -4,6 +4,7 @@
 //! It is written from the documents and not from the Rust source, so that it can stand beside both
 //! the Rust (which gives no offsets) and the library.
 
+mod index;
 mod layout;
 mod lookup;
 mod text;
@@ -13,7 +14,8 @@ pub use lookup::{Definition, Parsed};
 pub use text::OpenPlace;
 
 use calls::{
-    Answer, Block, Call, Element, Field, Implementation, Lent, Number, Prototype, Reading, Text,
+    Answer, Block, Call, Checked, Element, Field, Implementation, Length, Lent, Number, Prototype,
+    Reading, Text,
 };
 
 /// Keeps the last file it read, since many calls on one file follow each other.
@@ -114,6 +116,19 @@ impl Implementation for Model {
                 part,
                 index,
             } => answer!(Element, layout::element_of(version, type_id, part, index)),
+            Call::WriteIndex => {
+                answer!(Length, self.parsed(file, ids).map(|p| p.write_index(out)))
+            }
+            Call::CheckIndex { index } => {
+                answer!(
+                    Checked,
+                    self.parsed(file, ids).and_then(|p| p.check_index(index))
+                )
+            }
+            Call::FieldByIndex { index, block, name } => {
+                answer!(Field, index::field_by_index(file, index, block, name))
+            }
+            Call::DefinesOnce => answer!(Number, self.parsed(file, ids).map(Parsed::defines_once)),
         }
     }
 }

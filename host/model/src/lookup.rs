@@ -11,6 +11,8 @@ pub struct Definition {
 }
 
 pub struct PrototypeRecord {
+    /// Where the record's zero number stands.
+    pub start: usize,
     pub id: u32,
     pub name: Place,
     pub fields: Vec<Definition>,
@@ -25,6 +27,8 @@ pub struct Value {
 pub struct BlockRecord {
     pub start: usize,
     pub prototype: u32,
+    /// Where the definition stands that was in force when the block was read.
+    pub in_force: usize,
     pub id: Place,
     pub values: Vec<Value>,
 }
@@ -36,6 +40,10 @@ pub struct Parsed {
     pub prototypes: Vec<PrototypeRecord>,
     pub blocks: Vec<BlockRecord>,
     pub next: usize,
+    /// Whether a prototype id is defined twice.
+    pub redefined: bool,
+    /// Where each record starts, the end record and one with a fault too.
+    pub starts: Vec<usize>,
     /// Every prototype's and field's name, replaced ones too: what a test asks for.
     pub names: Vec<Place>,
     /// Every definition's type with its offset, replaced ones too.
@@ -73,12 +81,13 @@ impl Parsed {
     /// Reads one record; true if it is the end record.
     fn record(&mut self, cursor: &mut Cursor<'_>, capacity: usize) -> Result<bool, Refusal> {
         let start = cursor.at;
+        self.starts.push(start);
         match cursor.u32()? {
             0 => {
                 let mark = cursor.at;
                 match cursor.u8()? {
                     0 => return Ok(true),
-                    1 => self.define(prototype(cursor)?, start, capacity)?,
+                    1 => self.define(prototype(cursor)?, capacity)?,
                     _ => return refuse(15, mark),
                 }
             }
@@ -87,7 +96,7 @@ impl Parsed {
         Ok(false)
     }
 
-    fn define(&mut self, new: PrototypeRecord, start: usize, room: usize) -> Result<(), Refusal> {
+    fn define(&mut self, new: PrototypeRecord, room: usize) -> Result<(), Refusal> {
         self.names.push(new.name);
         self.names.extend(new.fields.iter().map(|field| field.name));
         // The type and the name's length stand in front of the name.
@@ -95,8 +104,11 @@ impl Parsed {
         self.types.extend(types);
         let known = self.prototypes.iter().position(|old| old.id == new.id);
         match known {
-            Some(position) => self.prototypes[position] = new,
-            None if self.prototypes.len() >= room => return refuse(10, start),
+            Some(position) => {
+                self.redefined = true;
+                self.prototypes[position] = new;
+            }
+            None if self.prototypes.len() >= room => return refuse(10, new.start),
             None => self.prototypes.push(new),
         }
         Ok(())
@@ -115,6 +127,7 @@ impl Parsed {
         let mut block = BlockRecord {
             start,
             prototype,
+            in_force: in_force.start,
             id,
             values: Vec::with_capacity(in_force.fields.len()),
         };
@@ -214,14 +227,23 @@ impl Parsed {
     }
 }
 
-/// A prototype from its id on, the zero after its definitions included.
-fn prototype(cursor: &mut Cursor<'_>) -> Result<PrototypeRecord, Refusal> {
+/// A prototype from its id on, the zero after its definitions included. Its number and mark stand
+/// in front of the cursor.
+pub fn prototype(cursor: &mut Cursor<'_>) -> Result<PrototypeRecord, Refusal> {
+    let start = cursor.at - 5;
     let id = cursor.u32()?;
     let name = cursor.string()?;
     let mut fields = Vec::new();
     loop {
         match cursor.u32()? {
-            0 => return Ok(PrototypeRecord { id, name, fields }),
+            0 => {
+                return Ok(PrototypeRecord {
+                    start,
+                    id,
+                    name,
+                    fields,
+                })
+            }
             type_id => fields.push(definition(cursor, type_id)?),
         }
     }

@@ -1,7 +1,7 @@
 //! Document 01's worked bytes, those of 02's requests, and offsets and lacking bytes that no other
 //! side gives.
 
-use calls::{kind, Call, Element, Implementation, Lent, Text};
+use calls::{kind, Call, Element, Field, Implementation, Length, Lent, Text, LENGTH_LIMIT};
 use model::Model;
 
 fn text_in(file: &[u8], table: &mut [u32], out: &mut [u8]) -> Text {
@@ -431,4 +431,423 @@ fn elements() {
     assert_eq!(element(0x25, &[0xff; 4], 0).value, u64::MAX);
     assert_eq!(element(0x19, &[0; 31], 0), cut(28, 1));
     assert_eq!(element(0x19, &[0; 5], 0), cut(4, 3));
+}
+
+const INDEX_A: &str = "2300000700000800000100002a00000f0000080000010000";
+
+/// Room for two prototype ids in every table, which comes in full and is zero afterwards.
+fn asked(call: Call<'_>, file: &[u8], out: &mut [u8]) -> calls::Answer {
+    let mut table = [7; 6];
+    let lent = Lent {
+        file,
+        table: &mut table,
+        out,
+    };
+    let answer = Model::default().answer(call, lent);
+    assert_eq!(table, [0; 6]);
+    answer.known()
+}
+
+fn write_index(file: &[u8], space: &mut [u8]) -> Length {
+    asked(Call::WriteIndex, file, space).length()
+}
+
+fn index_of(file: &[u8]) -> Vec<u8> {
+    let mut space = [7; 120];
+    let written = write_index(file, &mut space);
+    assert_eq!(written.number, 0);
+    let (index, beyond) = space.split_at(written.length as usize);
+    assert!(beyond.iter().all(|byte| *byte == 7));
+    index.to_vec()
+}
+
+/// Number and offset; nothing is lacking.
+fn check(file: &[u8], index: &[u8]) -> (u32, u64) {
+    let answer = asked(Call::CheckIndex { index }, file, &mut []).checked();
+    assert_eq!(answer.lacking, 0);
+    (answer.number, answer.offset)
+}
+
+fn once(file: &[u8]) -> u64 {
+    let answer = asked(Call::DefinesOnce, file, &mut []).named();
+    assert_eq!(answer.number, 0);
+    answer.value
+}
+
+fn by_index(file: &[u8], index: &[u8], block: u64, name: &[u8]) -> Field {
+    let call = Call::FieldByIndex { index, block, name };
+    let answer = Model::default().answer(call, Lent::file(file, &mut []));
+    answer.known().field()
+}
+
+/// The type and bytes that are found.
+fn found(file: &[u8], answer: Field) -> (u32, Vec<u8>) {
+    assert_eq!(answer.number, 0, "{answer:?}");
+    let start = answer.part_offset as usize;
+    let part = &file[start..start + answer.part_len as usize];
+    (answer.type_id, part.to_vec())
+}
+
+fn runs_out(offset: u64, lacking: u64) -> Field {
+    Field {
+        lacking,
+        ..Field::refused(3, offset)
+    }
+}
+
+/// A record of these two offsets; length and number of fields, which nobody looks at, are nonsense.
+fn pointing(block: usize, prototype: usize) -> Vec<u8> {
+    let three = |number: usize| (number as u32).to_le_bytes()[..3].to_vec();
+    [three(block), vec![0xff; 3], three(prototype), vec![0xff; 3]].concat()
+}
+
+#[test]
+fn worked_writing_of_an_index() {
+    let (save, index) = (bytes(SAVE_A), bytes(INDEX_A));
+    assert_eq!((save.len(), index.len()), (62, 24));
+    let mut space = [7; 26];
+    assert_eq!(write_index(&save, &mut space[..24]).length, 24);
+    assert_eq!(space[..24], index[..]);
+    assert_eq!(index_of(&save), index);
+    let mut space = [7; 23];
+    let short = write_index(&save, &mut space);
+    assert_eq!((short.number, short.offset, short.length), (11, 0, 24));
+    assert_eq!(space, [7; 23]);
+    // Without blocks any space will do.
+    let empty = write_index(&file(&[]), &mut []);
+    assert_eq!((empty.number, empty.length), (0, 0));
+    assert_eq!(index_of(&file(&[prototype(1, "p", &[])])), b"");
+    // The file's faults come first, and its table's.
+    let cut = write_index(&save[..41], &mut []);
+    assert_eq!((cut.number, cut.offset, cut.lacking), (3, 40, 1));
+    let answer = Model::default().answer(Call::WriteIndex, Lent::file(&save, &mut [7; 2]));
+    assert_eq!(answer.fault(), (10, 8, 0));
+}
+
+/// Replies 8 and 9 are about texts.
+#[test]
+fn an_index_of_a_save_without_a_text() {
+    let block = vec![1, 0, 0, 0, 0, 9, 0, 0, 0];
+    let first = prototype(1, "p", &[(0x27, "f")]);
+    let at = 8 + first.len();
+    let fewer = file(&[first, block, prototype(1, "q", &[])]);
+    assert_eq!(text_of(&fewer), format!("refused 8 at {at}"));
+    // Offset 35, length 9, the first definition at 8 with one field.
+    assert_eq!(index_of(&fewer), bytes("230000090000080000010000"));
+    assert_eq!(once(&fewer), 0);
+    let no_list = one_value(0x37, &[5, 0, 0, 0]);
+    let list = [&no_list[..31], &[0; 4], &no_list[31..]].concat();
+    assert_eq!(text_of(&list), "refused 9 at 44");
+    assert_eq!(index_of(&list), bytes("270000090000080000010000"));
+    assert_eq!(once(&list), 1);
+}
+
+#[test]
+fn worked_checks_of_an_index() {
+    let (save, index) = (bytes(SAVE_A), bytes(INDEX_A));
+    assert_eq!(check(&save, &index), (0, 0));
+    for kept in 0..24 {
+        let offset = if kept < 12 { 0 } else { 12 };
+        assert_eq!(check(&save, &index[..kept]), (14, offset), "{kept}");
+    }
+    for more in 1..30 {
+        let longer = [&index[..], &vec![0; more]].concat();
+        assert_eq!(check(&save, &longer), (14, 24));
+    }
+    // Every byte counts, length and number of fields among them.
+    for at in 0..24 {
+        let mut changed = index.clone();
+        changed[at] ^= 1;
+        assert_eq!(check(&save, &changed), (14, at as u64 / 12 * 12));
+    }
+    let swapped = [&index[12..], &index[..12]].concat();
+    assert_eq!(check(&save, &swapped), (14, 0));
+    assert_eq!(check(&file(&[]), b""), (0, 0));
+    assert_eq!(check(&file(&[]), &[0]), (14, 0));
+    // A fault of the file comes first, also one behind the record that differs.
+    for kept in 43..62 {
+        let call = Call::CheckIndex { index: b"none" };
+        let answer = asked(call, &save[..kept], &mut []);
+        assert_eq!(answer.number(), 3, "{kept}");
+    }
+}
+
+#[test]
+fn worked_look_ups_by_an_index() {
+    let (save, index) = (bytes(SAVE_A), bytes(INDEX_A));
+    let second = by_index(&save, &index, 1, b"n");
+    assert_eq!((second.part_offset, second.part_len), (55, 2));
+    assert_eq!(found(&save, second), (0x2b, vec![7, 0]));
+    assert_eq!(found(&save, by_index(&save, &index, 0, b"n")).1, [5, 0]);
+    assert_eq!(by_index(&save, &index, 1, b"zz"), Field::refused(13, 0));
+    for block in [2, 3, 1 << 32, u64::MAX / 12, u64::MAX / 12 + 1, u64::MAX] {
+        assert_eq!(by_index(&save, &index, block, b"n"), Field::refused(13, 0));
+    }
+    // A record of which a byte is lacking is not there.
+    let cut = by_index(&save, &index[..23], 1, b"n");
+    assert_eq!(cut, Field::refused(13, 0));
+    assert_eq!(by_index(&save, &index[..12], 0, b"n").number, 0);
+    assert_eq!(by_index(&save, &index[..11], 0, b"n").number, 13);
+    let no_zero = by_index(&save, &bytes("2a00000000002a0000000000"), 0, b"n");
+    assert_eq!(no_zero, Field::refused(6, 42));
+    let at_the_end = by_index(&save, &bytes("3c0000000000080000000000"), 0, b"zz");
+    assert_eq!(at_the_end, runs_out(60, 2));
+}
+
+/// A block in front of the first: the index of the save before that finds a wrong value, and only
+/// the check says so.
+#[test]
+fn a_stale_index() {
+    let (save, index) = (bytes(SAVE_A), bytes(INDEX_A));
+    let inserted = [3, 0, 0, 0, 0, 9, 0];
+    let wider = [&save[..35], &inserted, &save[35..]].concat();
+    assert_eq!(found(&wider, by_index(&wider, &index, 0, b"n")).1, [9, 0]);
+    assert_eq!(check(&wider, &index), (14, 12));
+    let own = index_of(&wider);
+    assert_eq!(check(&wider, &own), (0, 0));
+    assert_eq!(found(&wider, by_index(&wider, &own, 1, b"n")).1, [5, 0]);
+    assert_eq!(found(&wider, by_index(&wider, &own, 2, b"n")).1, [7, 0]);
+}
+
+/// P(a), block, P(b): by the index the definition in force, by the walk the last one.
+#[test]
+fn an_id_defined_twice() {
+    let block = vec![1, 0, 0, 0, 0, 9, 0];
+    let records = [
+        prototype(1, "p", &[(0x2b, "a")]),
+        block,
+        prototype(1, "p", &[(0x2b, "b")]),
+    ];
+    let twice = file(&records);
+    assert_eq!(once(&twice), 0);
+    let index = index_of(&twice);
+    assert_eq!(index, bytes("230000070000080000010000"));
+    assert_eq!(check(&twice, &index), (0, 0));
+    let field = |name: &[u8]| asked(Call::FieldOf { block: 0, name }, &twice, &mut []).field();
+    let by_index = |name: &[u8]| by_index(&twice, &index, 0, name);
+    assert_eq!(found(&twice, by_index(b"a")), (0x2b, vec![9, 0]));
+    assert_eq!(by_index(b"b"), Field::refused(13, 0));
+    assert_eq!(field(b"a"), Field::refused(13, 0));
+    assert_eq!(field(b"b"), by_index(b"a"));
+    // The same definition twice is twice too, and so is id 0; two ids are not.
+    let same = [records[0].clone(), records[0].clone()];
+    assert_eq!(once(&file(&same)), 0);
+    let zero = prototype(0, "p", &[]);
+    assert_eq!(once(&file(&[zero.clone(), zero.clone()])), 0);
+    assert_eq!(once(&file(&[records[0].clone(), zero])), 1);
+    assert_eq!(once(&bytes(SAVE_A)), 1);
+    let cut = asked(Call::DefinesOnce, &bytes(SAVE_A)[..41], &mut []);
+    assert_eq!(cut.fault(), (3, 40, 1));
+}
+
+/// 12 is about the save, and comes in front of 13 and 14.
+#[test]
+fn a_save_above_the_limit() {
+    let save = bytes(SAVE_A);
+    let mut long = save.clone();
+    long.resize(LENGTH_LIMIT, 7);
+    let index = index_of(&long);
+    assert_eq!(index, bytes(INDEX_A));
+    assert_eq!(check(&long, &index), (0, 0));
+    let last = by_index(&long, &index, 1, b"n");
+    assert_eq!(last, by_index(&save, &index, 1, b"n"));
+    // The four bytes at the end are read as a number, and with one fewer there are three.
+    let end = by_index(&long, &pointing(LENGTH_LIMIT - 4, 8), 0, b"n");
+    assert_eq!(end, Field::refused(6, LENGTH_LIMIT as u64 - 4));
+    let end = by_index(&long, &pointing(LENGTH_LIMIT - 1, 8), 0, b"n");
+    assert_eq!(end, runs_out(LENGTH_LIMIT as u64 - 1, 3));
+    // The index may have any length.
+    let long_index = vec![0; LENGTH_LIMIT + 12];
+    assert_eq!(check(&save, &long_index), (14, 0));
+    let far = LENGTH_LIMIT as u64 / 12;
+    let far = by_index(&save, &long_index, far, b"n");
+    assert_eq!(far, Field::refused(6, 0));
+    long.push(7);
+    assert_eq!(write_index(&long, &mut []), Length::refused(12, 0));
+    assert_eq!(check(&long, b""), (12, 0));
+    assert_eq!(asked(Call::DefinesOnce, &long, &mut []).fault(), (12, 0, 0));
+    assert_eq!(by_index(&long, b"", 0, b"n"), Field::refused(12, 0));
+}
+
+/// 13 for the record, the version, the prototype, the block, 13 for the name.
+#[test]
+fn the_order_of_a_look_up() {
+    let save = bytes(SAVE_A);
+    let index = bytes(INDEX_A);
+    // The version stands in front of all that is read, and behind the record.
+    for kept in 0..8 {
+        let lacking = if kept < 4 { 4 } else { 8 - kept as u64 };
+        assert_eq!(
+            by_index(&save[..kept], &index, 0, b"n"),
+            runs_out(4, lacking)
+        );
+        assert_eq!(by_index(&save[..kept], &index, 2, b"n").number, 13);
+    }
+    // Nothing else of the header is read.
+    let foreign = [b"none\x02\0\0\0", &save[8..]].concat();
+    assert_eq!(
+        found(&foreign, by_index(&foreign, &index, 1, b"n")).1,
+        [7, 0]
+    );
+    // Both offsets behind the end: the prototype's is met first, and the whole number is lacking.
+    for (block, prototype, met) in [
+        (200, 100, runs_out(100, 4)),
+        (100, 200, runs_out(200, 4)),
+        (62, 62, runs_out(62, 4)),
+        (0xff_ffff, 8, runs_out(0xff_ffff, 4)),
+        (0xff_ffff, 0xff_ffff, runs_out(0xff_ffff, 4)),
+        (0xff_ffff, 42, Field::refused(6, 0xff_ffff)),
+        (35, 59, runs_out(59, 1)),
+    ] {
+        assert_eq!(by_index(&save, &pointing(block, prototype), 0, b"n"), met);
+    }
+    // The end record: mark 0. The number there, and none where the mark would be.
+    assert_eq!(&save[57..], [0; 5]);
+    let end = by_index(&save, &pointing(35, 57), 0, b"n");
+    assert_eq!(end, Field::refused(6, 35));
+    assert_eq!(
+        by_index(&save[..61], &pointing(35, 57), 0, b"n"),
+        runs_out(61, 1)
+    );
+    // Every mark but 1 is 6 at the block, and 15 never.
+    for mark in (0..=255).filter(|mark| *mark != 1) {
+        let mut marked = save.clone();
+        marked[12] = mark;
+        assert_eq!(by_index(&marked, &index, 1, b"n"), Field::refused(6, 42));
+    }
+    // A number that is not 0.
+    let mut numbered = save.clone();
+    numbered[11] = 1;
+    assert_eq!(by_index(&numbered, &index, 0, b"n"), Field::refused(6, 35));
+    // The prototype itself, and with a prototype id 0 that both have.
+    let itself = by_index(&save, &pointing(8, 8), 0, b"n");
+    assert_eq!(itself, Field::refused(6, 8));
+    let zero = file(&[prototype(0, "p", &[])]);
+    assert_eq!(
+        by_index(&zero, &pointing(8, 8), 0, b"n"),
+        Field::refused(6, 8)
+    );
+}
+
+/// Of the prototype 3 and 4 come first, then the block's 6, then what its id and values have.
+#[test]
+fn faults_of_a_look_up() {
+    let save = bytes(SAVE_A);
+    let index = bytes(INDEX_A);
+    // The prototype runs out item by item, whatever the block's offset is.
+    for kept in 8..35u64 {
+        let items = [8, 12, 13, 17, 21, 22, 26, 30, 31, 35];
+        let start = *items.iter().rfind(|start| **start <= kept).unwrap();
+        let end = *items.iter().find(|end| **end > kept).unwrap();
+        let met = runs_out(start, end - kept);
+        for block in [0, 35, 99] {
+            let index = pointing(block, 8);
+            assert_eq!(by_index(&save[..kept as usize], &index, 0, b"n"), met);
+        }
+    }
+    let changed = |at: usize, byte: u8| {
+        let mut changed = save.clone();
+        changed[at] = byte;
+        changed
+    };
+    assert_eq!(
+        by_index(&changed(21, 0xff), &index, 0, b"n"),
+        Field::refused(4, 21)
+    );
+    assert_eq!(
+        by_index(&changed(30, 0xff), &index, 0, b"n"),
+        Field::refused(4, 30)
+    );
+    assert_eq!(
+        by_index(&changed(21, 0xff), &pointing(99, 8), 0, b"n"),
+        Field::refused(4, 21)
+    );
+    assert_eq!(
+        by_index(&changed(35, 4), &index, 0, b"n"),
+        Field::refused(6, 35)
+    );
+    assert_eq!(
+        by_index(&changed(35, 0), &index, 0, b"n"),
+        Field::refused(6, 35)
+    );
+    // An unlisted type: 7 at the value, behind 5 in the id; 6 comes in front of both.
+    let unlisted = changed(22, 8);
+    assert_eq!(by_index(&unlisted, &index, 0, b"n"), Field::refused(7, 40));
+    assert_eq!(by_index(&unlisted, &index, 1, b"zz"), Field::refused(7, 55));
+    let mut word = unlisted.clone();
+    word[47] = 38;
+    assert_eq!(by_index(&word, &index, 1, b"n"), Field::refused(5, 47));
+    word[42] = 9;
+    assert_eq!(by_index(&word, &index, 1, b"n"), Field::refused(6, 42));
+    // The id and the value run out.
+    assert_eq!(by_index(&save[..46], &index, 1, b"n"), runs_out(46, 1));
+    assert_eq!(by_index(&save[..50], &index, 1, b"n"), runs_out(47, 5));
+    assert_eq!(by_index(&save[..56], &index, 1, b"n"), runs_out(55, 1));
+    // The walk refuses a save without its end record; the look-up does not come to it.
+    assert_eq!(by_index(&save[..57], &index, 1, b"n").number, 0);
+    assert_eq!(
+        by_index(&save[..57], &index, 1, b"zz"),
+        Field::refused(13, 0)
+    );
+}
+
+/// Every value is read, also those behind the asked one; a fault comes in front of an absent name.
+#[test]
+fn values_behind_the_asked_one() {
+    let fields = [(0x2b, "a"), (1, "s"), (0x2b, "a"), (3, "w")];
+    let of = prototype(1, "p", &fields);
+    let start = 8 + of.len();
+    let with = |text: &[u8], word: u64| {
+        let values = [&[1, 0][..], &string(text), &[2, 0], &word.to_le_bytes()];
+        let block = [&[1, 0, 0, 0, 0], &values.concat()[..]].concat();
+        file(&[of.clone(), block])
+    };
+    let good = with(b"xy", 1);
+    let index = index_of(&good);
+    // The first definition with the name.
+    let first = by_index(&good, &index, 0, b"a");
+    assert_eq!(found(&good, first), (0x2b, vec![1, 0]));
+    assert_eq!(first.part_offset as usize, start + 5);
+    for name in [&b"a"[..], b"s", b"w", b"zz"] {
+        let at = start as u64;
+        let bad_text = by_index(&with(b"x\xff", 1), &index, 0, name);
+        assert_eq!(bad_text, Field::refused(4, at + 11));
+        let bad_word = by_index(&with(b"xy", 38), &index, 0, name);
+        assert_eq!(bad_word, Field::refused(5, at + 15));
+        let cut = by_index(&good[..start + 20], &index, 0, name);
+        assert_eq!(cut, runs_out(at + 15, 3));
+    }
+}
+
+/// A prototype and a block that stand in the bytes of a string, one in the other, and overlapping.
+#[test]
+fn offsets_into_a_string() {
+    let inner = prototype(5, "q", &[(0x27, "k")]);
+    let block = [5, 0, 0, 0, 0, 42, 0, 0, 0];
+    let save = one_value(1, &string(&[&inner[..], &block].concat()));
+    let start = 44;
+    assert_eq!(&save[start..start + 5], [0, 0, 0, 0, 1]);
+    let index = pointing(start + inner.len(), start);
+    let answer = by_index(&save, &index, 0, b"k");
+    assert_eq!(found(&save, answer), (0x27, vec![42, 0, 0, 0]));
+    // The prototype's own id, read as a block: an id with one word, then the bytes behind it.
+    let overlapping = by_index(&save, &pointing(start + 5, start), 0, b"k");
+    assert_eq!(found(&save, overlapping).0, 0x27);
+    assert_eq!(overlapping.part_offset as usize, start + 5 + 4 + 9);
+}
+
+/// The version at offset 4 decides about a placement.
+#[test]
+fn a_look_up_in_version_1() {
+    let save = bytes(SEVEN);
+    let index = index_of(&save);
+    assert_eq!(index, bytes("230000210000080000010000"));
+    let answer = by_index(&save, &index, 0, b"w");
+    assert_eq!((answer.type_id, answer.part_len), (0x19, 28));
+    for version in [0, 2, 257, u32::MAX] {
+        let other = by_index(&with_version(&save, version), &index, 0, b"w");
+        assert_eq!((other.number, other.part_len), (0, 32));
+    }
+    let cut = by_index(&with_version(&save[..68], 2), &index, 0, b"w");
+    assert_eq!(cut, runs_out(68, 4));
 }

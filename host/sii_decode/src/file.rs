@@ -1,8 +1,10 @@
 //! A save and the questions about it.
 
-use crate::library;
-use crate::{DataField, Id, Refusal, LENGTH_LIMIT};
-use std::cell::RefCell;
+use crate::index::{longest_index, Record, RECORD};
+use crate::library::{self, Reading};
+use crate::{DataField, Definitions, Id, Prototypes, Refusal, LENGTH_LIMIT};
+use std::borrow::Cow;
+use std::cell::{OnceCell, RefCell};
 use std::fmt;
 
 /// A prototype has at least so many bytes.
@@ -16,17 +18,23 @@ const ROOM: usize = 4;
 
 /// A save that was read whole and found well-formed.
 ///
-/// Beside the caller's bytes it has the scratch table that each call gets. Each question reads the
-/// file again from its start.
+/// Beside the caller's bytes it has the scratch table that each call gets, and an index of 12 bytes
+/// for each block. A block and its field are found by the index, whatever stands in front of them.
+/// Where the file defines a prototype id twice, questions by a name read the file again from its
+/// start, because the index does not lead to the last definition; and where there is no memory for
+/// the index, all do.
 pub struct BsiiFile<'a> {
     content: &'a [u8],
     table: RefCell<Vec<u32>>,
-    prototypes: u64,
     blocks: u64,
-    end: u64,
+    /// None without memory for it.
+    index: Option<Cow<'a, [u8]>>,
+    // Asked for by the first question that needs them.
+    reading: OnceCell<Reading>,
+    once: OnceCell<bool>,
 }
 
-/// A prototype by the last definition of its id.
+/// A prototype, by the last definition of its id where nothing else is said.
 #[derive(Clone, Copy, Debug, PartialEq, Eq)]
 pub struct Prototype<'a> {
     /// Blocks name their prototype by it.
@@ -60,6 +68,14 @@ fn answered(number: u32, offset: u64, lacking: u64) -> Result<(), Refusal> {
         }),
     }
 }
+
+/// What was asked for is not in the save.
+const ABSENT: Refusal = Refusal {
+    number: 13,
+    offset: 0,
+    lacking: 0,
+    needed: 0,
+};
 
 /// The words of a table for as many prototypes as can stand in the save. One that is too long is
 /// refused before any byte is read, and needs none.
@@ -126,6 +142,28 @@ fn text(content: &[u8], table: &mut [u32]) -> Result<Vec<u8>, Refusal> {
     Ok(text)
 }
 
+/// How many blocks there are, and the index in a buffer of exactly its length, or none without memory
+/// for it. It is asked for at once, with room for the index of every file of this length; memory
+/// that is only reserved takes none.
+fn indexed(content: &[u8], table: &mut [u32]) -> Result<(u64, Option<Vec<u8>>), Refusal> {
+    let mut index = Vec::new();
+    if content.len() <= LENGTH_LIMIT {
+        // What fails here leaves no room, and the answer is the length that is needed.
+        let _ = index.try_reserve_exact(longest_index(content.len()));
+    }
+    let mut answer = library::write_index_within(content, table, &mut index);
+    if answer.number == 11 {
+        let length = usize::try_from(answer.length).unwrap_or(usize::MAX);
+        if index.try_reserve_exact(length).is_err() {
+            return Ok((answer.length / RECORD as u64, None));
+        }
+        answer = library::write_index_within(content, table, &mut index);
+    }
+    answered(answer.number, answer.offset, answer.lacking)?;
+    index.shrink_to_fit();
+    Ok((answer.length / RECORD as u64, Some(index)))
+}
+
 /// The SiiNunit text of a save, without a [`BsiiFile`] before: one reading less. Refused with 1, 3 to
 /// 12 and 15; with 10 and 11 if there is no memory for the table or the text.
 pub fn to_siin(content: &[u8]) -> Result<Vec<u8>, Refusal> {
@@ -133,21 +171,62 @@ pub fn to_siin(content: &[u8]) -> Result<Vec<u8>, Refusal> {
 }
 
 impl<'a> BsiiFile<'a> {
-    /// Reads the whole file. Refused with 1, 3 to 7, 12 and 15, and with 10 if there is no memory for the
-    /// table; what passes is refused by the questions below with 13 only, and by the text with 8, 9
-    /// and 11.
+    /// Reads the whole file and makes its index. Refused with 1, 3 to 7, 12 and 15, and with 10 if
+    /// there is no memory for the table; what passes is refused by the questions below with 13 only,
+    /// and by the text with 8, 9 and 11.
     pub fn parse(content: &'a [u8]) -> Result<Self, Refusal> {
-        let (reading, table) = with_table(content, |table| {
-            let reading = library::read(content, table);
-            answered(reading.number, reading.offset, reading.lacking).map(|()| reading)
+        let ((blocks, index), table) = with_table(content, |table| indexed(content, table))?;
+        Ok(BsiiFile::opened(
+            content,
+            table,
+            blocks,
+            index.map(Cow::Owned),
+        ))
+    }
+
+    /// The same with an index that was kept, as [`index`](BsiiFile::index) gives it. The whole file is
+    /// read to check the index against it: one of another save, or of this one before it changed,
+    /// can find wrong values. Refused as [`parse`](BsiiFile::parse) is, then with 14 unless the index
+    /// is the one that `parse` would make.
+    pub fn with_index(content: &'a [u8], index: impl Into<Cow<'a, [u8]>>) -> Result<Self, Refusal> {
+        let index = index.into();
+        let ((), table) = with_table(content, |table| {
+            let answer = library::check_index(content, table, &index);
+            answered(answer.number, answer.offset, answer.lacking)
         })?;
-        Ok(BsiiFile {
+        let blocks = (index.len() / RECORD) as u64;
+        Ok(BsiiFile::opened(content, table, blocks, Some(index)))
+    }
+
+    fn opened(
+        content: &'a [u8],
+        table: Vec<u32>,
+        blocks: u64,
+        index: Option<Cow<'a, [u8]>>,
+    ) -> Self {
+        BsiiFile {
             content,
             table: RefCell::new(table),
-            prototypes: reading.prototypes,
-            blocks: reading.blocks,
-            end: reading.next,
-        })
+            blocks,
+            index,
+            reading: OnceCell::new(),
+            once: OnceCell::new(),
+        }
+    }
+
+    /// The index: 12 bytes for each block. Kept in a file, it serves
+    /// [`with_index`](BsiiFile::with_index). None if there was no memory for it.
+    pub fn index(&self) -> Option<&[u8]> {
+        self.index.as_deref()
+    }
+
+    /// Whether no prototype id is defined twice. Then the definition by which a block is read is the
+    /// last one of its prototype's id, and blocks and fields are found by name through the index. The
+    /// file is read when this is first asked for, or first needed.
+    pub fn defines_once(&self) -> bool {
+        let ask = || library::defines_once(self.content, &mut self.table.borrow_mut());
+        // What was read before is not refused, and a refusal would answer 0.
+        *self.once.get_or_init(|| ask().value == 1)
     }
 
     /// The first four bytes.
@@ -162,9 +241,10 @@ impl<'a> BsiiFile<'a> {
         u32::from_le_bytes([a, b, c, d])
     }
 
-    /// How many different prototype ids the file defines.
+    /// How many different prototype ids the file defines. The file is read when this or
+    /// [`end`](BsiiFile::end) is first asked for.
     pub fn prototype_count(&self) -> u64 {
-        self.prototypes
+        self.reading().prototypes
     }
 
     /// How many blocks the file has.
@@ -172,15 +252,21 @@ impl<'a> BsiiFile<'a> {
         self.blocks
     }
 
-    /// The offset after the end record; what stands behind it is ignored.
+    /// The offset after the end record; what stands behind it is ignored. The file is read when this or
+    /// [`prototype_count`](BsiiFile::prototype_count) is first asked for.
     pub fn end(&self) -> u64 {
-        self.end
+        self.reading().next
     }
 
-    /// The prototype of an id, by its last definition.
+    fn reading(&self) -> &Reading {
+        let ask = || library::read(self.content, &mut self.table.borrow_mut());
+        self.reading.get_or_init(ask)
+    }
+
+    /// The prototype of an id, by its last definition. The file is read for it; a block's prototype
+    /// is found without that by [`DataBlock::prototype`].
     pub fn get_prototype(&self, id: u32) -> Result<Prototype<'a>, Refusal> {
-        let answer = library::get_prototype(self.content, &mut self.table.borrow_mut(), id);
-        answered(answer.number, answer.offset, answer.lacking)?;
+        let answer = self.prototype_answer(id)?;
         Ok(Prototype {
             id,
             name: crate::utf8(self.place(answer.name_offset, answer.name_len)),
@@ -188,18 +274,50 @@ impl<'a> BsiiFile<'a> {
         })
     }
 
+    /// Each definition of a prototype, in the order of the file: of several with one id the last is the
+    /// one that [`get_prototype`](BsiiFile::get_prototype) gives. They are found by the index, so
+    /// without memory for that there are none to be had.
+    pub fn prototypes<'data>(&'data self) -> Option<Prototypes<'a, 'data>> {
+        Some(Prototypes::of(self.content, self.index()?))
+    }
+
+    fn prototype_answer(&self, id: u32) -> Result<library::Prototype, Refusal> {
+        let answer = library::get_prototype(self.content, &mut self.table.borrow_mut(), id);
+        answered(answer.number, answer.offset, answer.lacking).map(|()| answer)
+    }
+
+    fn record(&self, number: u64) -> Option<Record> {
+        Record::of(self.index.as_deref()?, number)
+    }
+
+    /// The index where it leads to the last definition of every prototype.
+    fn index_by_name(&self) -> Option<&[u8]> {
+        self.index.as_deref().filter(|_| self.defines_once())
+    }
+
     /// Block `number`, from 0.
     pub fn block(&self, number: u64) -> Result<DataBlock, Refusal> {
-        let answer = library::block_at(self.content, &mut self.table.borrow_mut(), number);
-        answered(answer.number, answer.offset, answer.lacking)?;
+        if number >= self.blocks {
+            return Err(ABSENT);
+        }
+        let found = self.record(number).and_then(|it| it.block(self.content));
+        let (prototype_id, id) = match found {
+            Some(found) => found,
+            None => {
+                let answer = library::block_at(self.content, &mut self.table.borrow_mut(), number);
+                answered(answer.number, answer.offset, answer.lacking)?;
+                let id = self.place(answer.id_offset, answer.id_len);
+                (answer.prototype_id, id)
+            }
+        };
         Ok(DataBlock {
             number,
-            prototype_id: answer.prototype_id,
-            id: Id::from_bytes(self.place(answer.id_offset, answer.id_len)),
+            prototype_id,
+            id: Id::from_bytes(id),
         })
     }
 
-    /// All blocks in order. Each costs a reading of the file.
+    /// All blocks in order.
     pub fn blocks<'data>(&'data self) -> Blocks<'a, 'data> {
         Blocks {
             file: self,
@@ -207,16 +325,46 @@ impl<'a> BsiiFile<'a> {
         }
     }
 
+    /// The fields of block `number`, by the definition with which the block was read: as many as the
+    /// block has values. Refused with 13; and with 11 if there was no memory for the index and an id
+    /// is defined twice, so that the definition cannot be found.
+    pub fn definitions(&self, number: u64) -> Result<Definitions<'a>, Refusal> {
+        let block = self.block(number)?;
+        let version = self.version();
+        let found = self.record(number);
+        let found = found.and_then(|it| it.definitions(self.content, version));
+        match found {
+            Some(found) => Ok(found),
+            None if self.defines_once() => {
+                // The length of the name stands in front of it.
+                let at = self.prototype_answer(block.prototype_id)?.name_offset - 4;
+                Definitions::at(self.content, at as usize, version).ok_or(ABSENT)
+            }
+            None => Err(Refusal {
+                number: 11,
+                needed: self.blocks * RECORD as u64,
+                ..ABSENT
+            }),
+        }
+    }
+
     /// The number of the `n`-th block, from 0, whose prototype has that name by its last
     /// definition.
     pub fn nth_by_prototype_name(&self, name: impl AsRef<[u8]>, n: u64) -> Result<u64, Refusal> {
+        let name = name.as_ref();
+        if self.index_by_name().is_some() {
+            let nth = usize::try_from(n).ok();
+            let found = nth.and_then(|nth| self.blocks_by_prototype_name(name).nth(nth));
+            return found.ok_or(ABSENT);
+        }
         let mut table = self.table.borrow_mut();
-        let answer = library::blocks_by_prototype_name(self.content, &mut table, name.as_ref(), n);
+        let answer = library::blocks_by_prototype_name(self.content, &mut table, name, n);
         answered(answer.number, answer.offset, answer.lacking)?;
         Ok(answer.value)
     }
 
-    /// The numbers of all these blocks, in order. Each costs a reading of the file.
+    /// The numbers of all these blocks, in order. Where an id is defined twice, each costs a reading of
+    /// the file.
     pub fn blocks_by_prototype_name<'data, N: AsRef<[u8]> + ?Sized>(
         &'data self,
         name: &'data N,
@@ -224,14 +372,17 @@ impl<'a> BsiiFile<'a> {
         BlocksByPrototypeName {
             file: self,
             name: name.as_ref(),
-            n: 0,
+            next: 0,
         }
     }
 
     /// The value of a block, by the block's number, under the first field of that name.
     pub fn field(&self, block: u64, name: impl AsRef<[u8]>) -> Result<DataField<'a>, Refusal> {
-        let mut table = self.table.borrow_mut();
-        let answer = library::field_of(self.content, &mut table, block, name.as_ref());
+        let (content, name) = (self.content, name.as_ref());
+        let answer = match self.index_by_name() {
+            Some(index) => library::field_by_index(content, index, block, name),
+            None => library::field_of(content, &mut self.table.borrow_mut(), block, name),
+        };
         answered(answer.number, answer.offset, answer.lacking)?;
         Ok(DataField {
             version: self.version(),
@@ -252,9 +403,25 @@ impl<'a> BsiiFile<'a> {
 }
 
 impl DataBlock {
-    /// The block's prototype, by its last definition.
+    /// The block's prototype, by its last definition. Where an id is defined twice, the file is read for
+    /// it.
     pub fn prototype<'a>(&self, file: &BsiiFile<'a>) -> Result<Prototype<'a>, Refusal> {
-        file.get_prototype(self.prototype_id)
+        let record = file.index_by_name().and_then(|_| file.record(self.number));
+        let defined = record.and_then(|it| Some((it.prototype(file.content)?, it.fields)));
+        match defined {
+            // Of another file's block the number says nothing.
+            Some(((id, name), fields)) if id == self.prototype_id => Ok(Prototype {
+                id,
+                name: crate::utf8(name),
+                fields,
+            }),
+            _ => file.get_prototype(self.prototype_id),
+        }
+    }
+
+    /// The block's fields, by the definition with which it was read.
+    pub fn definitions<'a>(&self, file: &BsiiFile<'a>) -> Result<Definitions<'a>, Refusal> {
+        file.definitions(self.number)
     }
 
     /// The block's value under a name.
@@ -272,9 +439,9 @@ impl fmt::Debug for BsiiFile<'_> {
     fn fmt(&self, f: &mut fmt::Formatter<'_>) -> fmt::Result {
         f.debug_struct("BsiiFile")
             .field("bytes", &self.content.len())
-            .field("prototypes", &self.prototypes)
+            .field("prototypes", &self.prototype_count())
             .field("blocks", &self.blocks)
-            .field("end", &self.end)
+            .field("end", &self.end())
             .finish_non_exhaustive()
     }
 }
@@ -308,15 +475,28 @@ impl ExactSizeIterator for Blocks<'_, '_> {}
 pub struct BlocksByPrototypeName<'a, 'data> {
     file: &'data BsiiFile<'a>,
     name: &'data [u8],
-    n: u64,
+    /// By the index the next block to look at, otherwise how many were found.
+    next: u64,
 }
 
 impl Iterator for BlocksByPrototypeName<'_, '_> {
     type Item = u64;
 
     fn next(&mut self) -> Option<u64> {
-        let found = self.file.nth_by_prototype_name(self.name, self.n).ok()?;
-        self.n += 1;
-        Some(found)
+        let file = self.file;
+        let Some(index) = file.index_by_name() else {
+            let found = file.nth_by_prototype_name(self.name, self.next).ok()?;
+            self.next += 1;
+            return Some(found);
+        };
+        loop {
+            let record = Record::of(index, self.next)?;
+            let number = self.next;
+            self.next += 1;
+            let named = record.prototype(file.content);
+            if named.is_some_and(|(_, name)| name == self.name) {
+                return Some(number);
+            }
+        }
     }
 }

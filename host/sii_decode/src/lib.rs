@@ -9,6 +9,28 @@
 //! assert_eq!(file.block_count(), 0);
 //! ```
 //!
+//! # The index
+//!
+//! A [`BsiiFile`] finds blocks and fields by an index, of 12 bytes for each block, so that a loop over
+//! all blocks reads the save a fixed number of times. The index may be kept beside the save, and lent
+//! when the save is opened again. One of a save that has changed since would find wrong values, so it
+//! is checked then, and refused with 14:
+//!
+//! ```
+//! use sii_decode::BsiiFile;
+//! // A prototype `p` with a bool `b`, and one block of it.
+//! let mut save = b"BSII\x02\0\0\0\0\0\0\0\x01\x01\0\0\0\x01\0\0\0p\x35\0\0\0\x01\0\0\0b\0\0\0\0".to_vec();
+//! save.extend(b"\x01\0\0\0\0\x01\0\0\0\0\0");
+//! let index = BsiiFile::parse(&save).unwrap().index().unwrap().to_vec();
+//! assert_eq!(index, [35, 0, 0, 6, 0, 0, 8, 0, 0, 1, 0, 0]);
+//! let file = BsiiFile::with_index(&save, &index).unwrap();
+//! assert_eq!(file.field(0, "b").unwrap().part, [1]);
+//! // A second block.
+//! save.splice(35..35, *b"\x01\0\0\0\0\0");
+//! let refusal = BsiiFile::with_index(&save, &index).unwrap_err();
+//! assert_eq!((refusal.number, refusal.offset), (14, 12));
+//! ```
+//!
 //! # What is assumed of the caller
 //!
 //! The floating-point environment that every thread starts with, and that Rust assumes too: f32
@@ -21,6 +43,7 @@
 
 mod file;
 mod id;
+mod index;
 #[allow(unsafe_code)]
 pub mod library;
 mod plain;
@@ -29,6 +52,7 @@ mod value;
 
 pub use file::{to_siin, Blocks, BlocksByPrototypeName, BsiiFile, DataBlock, Prototype};
 pub use id::Id;
+pub use index::{longest_index, Definition, Definitions, Prototypes, RECORD};
 pub use plain::OtherKind;
 pub use refusal::Refusal;
 pub use value::{DataField, DataValue, Elements, Placement};

@@ -2,7 +2,7 @@
 //! lend table and output themselves. `include/sii_decode.h` says of each what it answers and what
 //! the members of the answers mean. All unsafe code that touches the library is here.
 
-pub use calls::{kind, Block, Element, Field, Number, Prototype, Reading, Text};
+pub use calls::{kind, Block, Checked, Element, Field, Length, Number, Prototype, Reading, Text};
 
 extern "C" {
     fn sii_read(file: *const u8, len: usize, table: *mut u32, words: usize) -> Reading;
@@ -47,13 +47,39 @@ extern "C" {
         out: *mut u8,
         out_len: usize,
     ) -> Text;
+    fn sii_write_index(
+        file: *const u8,
+        len: usize,
+        table: *mut u32,
+        words: usize,
+        index: *mut u8,
+        index_len: usize,
+    ) -> Length;
+    fn sii_check_index(
+        file: *const u8,
+        len: usize,
+        table: *mut u32,
+        words: usize,
+        index: *const u8,
+        index_len: usize,
+    ) -> Checked;
+    fn sii_field_by_index(
+        file: *const u8,
+        len: usize,
+        index: *const u8,
+        index_len: usize,
+        block: u64,
+        name: *const u8,
+        name_len: usize,
+    ) -> Field;
+    fn sii_defines_once(file: *const u8, len: usize, table: *mut u32, words: usize) -> Number;
 }
 
 /// `sii_read`: the whole file is read.
 pub fn read(file: &[u8], table: &mut [u32]) -> Reading {
     let (words, table) = (table.len(), table.as_mut_ptr());
     // SAFETY: each pointer comes from a slice and goes with its length. The library keeps none of
-    // them, writes only to table and output, and asks for nothing more, whatever the bytes are.
+    // them, writes only to table, output and the space of a written index, and asks for nothing more, whatever the bytes are.
     // That is so for all of the calls below.
     unsafe { sii_read(file.as_ptr(), file.len(), table, words) }
 }
@@ -116,6 +142,64 @@ pub fn to_siin_within(file: &[u8], table: &mut [u32], out: &mut Vec<u8>) -> Text
     if answer.number == 0 {
         // SAFETY: the call has written the first `length` bytes, which is at most `room`.
         unsafe { out.set_len(answer.length as usize) };
+    }
+    answer
+}
+
+/// `sii_write_index`: the index, if the space has room for it.
+pub fn write_index(file: &[u8], table: &mut [u32], index: &mut [u8]) -> Length {
+    let (words, table) = (table.len(), table.as_mut_ptr());
+    let (len, file) = (file.len(), file.as_ptr());
+    // SAFETY: as in `read`.
+    unsafe { sii_write_index(file, len, table, words, index.as_mut_ptr(), index.len()) }
+}
+
+/// `sii_check_index`: whether this is the index that `write_index` writes for the file.
+pub fn check_index(file: &[u8], table: &mut [u32], index: &[u8]) -> Checked {
+    let (words, table) = (table.len(), table.as_mut_ptr());
+    let (len, file) = (file.len(), file.as_ptr());
+    // SAFETY: as in `read`.
+    unsafe { sii_check_index(file, len, table, words, index.as_ptr(), index.len()) }
+}
+
+/// `sii_field_by_index`: the value of a block under a name, at the places that the index names. An
+/// index of another save, or of this one before it changed, can find a wrong value.
+pub fn field_by_index(file: &[u8], index: &[u8], block: u64, name: &[u8]) -> Field {
+    let (len, file) = (file.len(), file.as_ptr());
+    let (index_len, index) = (index.len(), index.as_ptr());
+    // SAFETY: as in `read`.
+    unsafe {
+        sii_field_by_index(
+            file,
+            len,
+            index,
+            index_len,
+            block,
+            name.as_ptr(),
+            name.len(),
+        )
+    }
+}
+
+/// `sii_defines_once`: 1 if no prototype id is defined twice, else 0.
+pub fn defines_once(file: &[u8], table: &mut [u32]) -> Number {
+    let (words, table) = (table.len(), table.as_mut_ptr());
+    // SAFETY: as in `read`.
+    unsafe { sii_defines_once(file.as_ptr(), file.len(), table, words) }
+}
+
+/// The index in the place of what `index` held, if its capacity has room for it; otherwise `index` is
+/// empty. No memory is touched but the index's.
+pub fn write_index_within(file: &[u8], table: &mut [u32], index: &mut Vec<u8>) -> Length {
+    let (words, table) = (table.len(), table.as_mut_ptr());
+    let (len, file) = (file.len(), file.as_ptr());
+    index.clear();
+    let (room, start) = (index.capacity(), index.as_mut_ptr());
+    // SAFETY: as in `to_siin_within`.
+    let answer = unsafe { sii_write_index(file, len, table, words, start, room) };
+    if answer.number == 0 {
+        // SAFETY: the call has written the first `length` bytes, which is at most `room`.
+        unsafe { index.set_len(answer.length as usize) };
     }
     answer
 }

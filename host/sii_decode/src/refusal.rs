@@ -1,5 +1,6 @@
 //! Why a call has no answer.
 
+use crate::RECORD;
 use std::error::Error;
 use std::fmt;
 
@@ -10,24 +11,30 @@ use std::fmt;
 /// `Debug`, and is for the user to read.
 #[derive(Clone, Copy, PartialEq, Eq)]
 pub struct Refusal {
-    /// From 1 to 13, but not 2, which is retired; or 15.
+    /// From 1 to 15, but not 2, which is retired.
     pub number: u32,
-    /// The byte that it is about; for 10 to 13 it says nothing about the bytes there.
+    /// The byte that it is about; for 10 to 13 it says nothing about the bytes there, and for 14 it
+    /// counts from the index's first byte.
     pub offset: u64,
     /// For number 3, how many bytes are not there of the item that starts at the offset: one number,
     /// one byte, or the bytes of one string. Else 0.
     pub lacking: u64,
-    /// The text's length for number 11, else 0.
+    /// The length of the text, or of the index, for number 11, else 0.
     pub needed: u64,
 }
 
 impl Refusal {
-    /// The number in plain words, with the lacking or needed bytes.
+    /// The number in plain words, with the lacking or needed bytes or the record.
     pub fn sentence(&self) -> String {
         match (self.number, self.lacking) {
             (3, 1) => "the input ends 1 byte early".into(),
             (3, lacking) => format!("the input ends {lacking} bytes early"),
             (11, _) => format!("{}, which has {} bytes", words(11), self.needed),
+            (14, _) => format!(
+                "{}, from its record {} on",
+                words(14),
+                self.offset / RECORD as u64
+            ),
             (number, _) => words(number).into(),
         }
     }
@@ -44,9 +51,10 @@ fn words(number: u32) -> &'static str {
         8 => "the last definition of the block's prototype has another number of fields than the block has values",
         9 => "an enum's number is not in the last definition's list, or there is no list",
         10 => "there is not enough memory for the table of prototypes",
-        11 => "there is not enough memory for the text",
+        11 => "there is not enough memory for the text or the index",
         12 => "the file is longer than 16777216 bytes",
         13 => "there is no such prototype, block, name or element",
+        14 => "the index is not that of this save",
         15 => "not a record of this format",
         _ => "the library gave a number that has no meaning",
     }

@@ -103,6 +103,51 @@ impl fmt::Display for DataValue<'_> {
     }
 }
 
+/// Whether the type is an array's.
+pub(crate) fn is_array(type_id: u32) -> bool {
+    matches!(
+        type_id,
+        0x02 | 0x04
+            | 0x06
+            | 0x0a
+            | 0x12
+            | 0x18
+            | 0x1a
+            | 0x26
+            | 0x28
+            | 0x2c
+            | 0x32
+            | 0x34
+            | 0x36
+            | 0x3a
+            | 0x3c
+    )
+}
+
+/// What one element of the type is in a save of this version, or `unlisted`.
+pub(crate) fn kind_name(version: u32, type_id: u32) -> &'static str {
+    match type_id {
+        0x01 | 0x02 => "string",
+        0x03 | 0x04 => "word",
+        0x05 | 0x06 => "f32",
+        0x07 => "two-f32",
+        0x09 | 0x0a => "three-f32",
+        0x11 | 0x12 => "three-i32",
+        0x17 | 0x18 => "four-f32",
+        0x19 | 0x1a if version == 1 => "seven-f32",
+        0x19 | 0x1a => "placement",
+        0x25 | 0x26 => "i32",
+        0x27 | 0x28 | 0x2f => "u32",
+        0x2b | 0x2c => "u16",
+        0x31 | 0x32 => "i64",
+        0x33 | 0x34 => "u64",
+        0x35 | 0x36 => "bool",
+        0x37 => "enum",
+        0x39..=0x3d => "id",
+        _ => "unlisted",
+    }
+}
+
 /// A block's value under a name: its type, the bytes of the file that encode it, and the version by
 /// which they are read.
 #[derive(Clone, Copy, Debug, PartialEq, Eq)]
@@ -120,48 +165,13 @@ pub struct DataField<'a> {
 impl<'a> DataField<'a> {
     /// Whether the type is an array's: then the part starts with the number of elements.
     pub fn is_array(&self) -> bool {
-        matches!(
-            self.type_id,
-            0x02 | 0x04
-                | 0x06
-                | 0x0a
-                | 0x12
-                | 0x18
-                | 0x1a
-                | 0x26
-                | 0x28
-                | 0x2c
-                | 0x32
-                | 0x34
-                | 0x36
-                | 0x3a
-                | 0x3c
-        )
+        is_array(self.type_id)
     }
 
     /// What one element is, in the word of [`DataValue::kind_name`]; `unlisted` for a type that
     /// the format does not list, which no value that was found has.
     pub fn kind_name(&self) -> &'static str {
-        match self.type_id {
-            0x01 | 0x02 => "string",
-            0x03 | 0x04 => "word",
-            0x05 | 0x06 => "f32",
-            0x07 => "two-f32",
-            0x09 | 0x0a => "three-f32",
-            0x11 | 0x12 => "three-i32",
-            0x17 | 0x18 => "four-f32",
-            0x19 | 0x1a if self.version == 1 => "seven-f32",
-            0x19 | 0x1a => "placement",
-            0x25 | 0x26 => "i32",
-            0x27 | 0x28 | 0x2f => "u32",
-            0x2b | 0x2c => "u16",
-            0x31 | 0x32 => "i64",
-            0x33 | 0x34 => "u64",
-            0x35 | 0x36 => "bool",
-            0x37 => "enum",
-            0x39..=0x3d => "id",
-            _ => "unlisted",
-        }
+        kind_name(self.version, self.type_id)
     }
 
     /// Element `index`, from 0; a single value has element 0 only. The offset of a refusal counts
