@@ -116,9 +116,13 @@ fn answer(
     question: &Question,
     output: Option<&Path>,
 ) -> Result<(), Failure> {
-    let file = match index {
-        Some(index) => BsiiFile::with_index(content, &index.bytes)?,
-        None => BsiiFile::parse(content)?,
+    let file = match (index, question) {
+        (Some(index), _) => BsiiFile::with_index(content, &index.bytes)?,
+        // An index would cost more readings than it saves.
+        (None, Question::Info | Question::Prototype(_) | Question::Field(..)) => {
+            BsiiFile::without_index(content)?
+        }
+        (None, _) => BsiiFile::parse(content)?,
     };
     match question {
         Question::Info => output::write(output, |out| {

@@ -43,7 +43,7 @@ pub fn message(
 
 /// How the index departs from the save's own at that offset of it.
 fn misfit(content: &[u8], index: &Index, offset: u64) -> String {
-    let blocks = BsiiFile::parse(content).map_or(0, |file| file.block_count());
+    let blocks = BsiiFile::without_index(content).map_or(0, |file| file.block_count());
     let record = offset / RECORD as u64;
     let there = (index.bytes.len() as u64).saturating_sub(offset);
     let how = match there {
@@ -141,7 +141,7 @@ fn not_bsii(content: &[u8]) -> Option<&'static str> {
 
 /// What was asked for and is not there.
 fn absent(content: &[u8], question: &Question) -> Option<String> {
-    let file = BsiiFile::parse(content).ok()?;
+    let file = BsiiFile::without_index(content).ok()?;
     let no_block = |number: &u64| match file.block_count() {
         1 => format!("there is no block {number}: the save has 1 block, with the number 0"),
         count => format!("there is no block {number}: the save has {count} blocks, counted from 0"),

@@ -21,13 +21,12 @@ const ROOM: usize = 4;
 /// Beside the caller's bytes it has the scratch table that each call gets, and an index of 12 bytes
 /// for each block. A block and its field are found by the index, whatever stands in front of them.
 /// Where the file defines a prototype id twice, questions by a name read the file again from its
-/// start, because the index does not lead to the last definition; and where there is no memory for
-/// the index, all do.
+/// start, because the index does not lead to the last definition; and without an index, all do.
 pub struct BsiiFile<'a> {
     content: &'a [u8],
     table: RefCell<Vec<u32>>,
     blocks: u64,
-    /// None without memory for it.
+    /// None without memory for it, or if none is wanted.
     index: Option<Cow<'a, [u8]>>,
     // Asked for by the first question that needs them.
     reading: OnceCell<Reading>,
@@ -184,7 +183,19 @@ impl<'a> BsiiFile<'a> {
         ))
     }
 
-    /// The same with an index that was kept, as [`index`](BsiiFile::index) gives it. The whole file is
+    /// The same without an index, by one reading in place of two: for a single question. Each one by a
+    /// block's number or by a name then reads the file again from its start.
+    pub fn without_index(content: &'a [u8]) -> Result<Self, Refusal> {
+        let (reading, table) = with_table(content, |table| {
+            let reading = library::read(content, table);
+            answered(reading.number, reading.offset, reading.lacking).map(|()| reading)
+        })?;
+        let mut file = BsiiFile::opened(content, table, reading.blocks, None);
+        file.reading = OnceCell::from(reading);
+        Ok(file)
+    }
+
+    /// The same as [`parse`](BsiiFile::parse) with an index that was kept, as [`index`](BsiiFile::index) gives it. The whole file is
     /// read to check the index against it: one of another save, or of this one before it changed,
     /// can find wrong values. Refused as [`parse`](BsiiFile::parse) is, then with 14 unless the index
     /// is the one that `parse` would make.
@@ -215,7 +226,8 @@ impl<'a> BsiiFile<'a> {
     }
 
     /// The index: 12 bytes for each block. Kept in a file, it serves
-    /// [`with_index`](BsiiFile::with_index). None if there was no memory for it.
+    /// [`with_index`](BsiiFile::with_index). None if there was no memory for it, and
+    /// [`without_index`](BsiiFile::without_index).
     pub fn index(&self) -> Option<&[u8]> {
         self.index.as_deref()
     }
@@ -276,7 +288,7 @@ impl<'a> BsiiFile<'a> {
 
     /// Each definition of a prototype, in the order of the file: of several with one id the last is the
     /// one that [`get_prototype`](BsiiFile::get_prototype) gives. They are found by the index, so
-    /// without memory for that there are none to be had.
+    /// without one there are none to be had.
     pub fn prototypes<'data>(&'data self) -> Option<Prototypes<'a, 'data>> {
         Some(Prototypes::of(self.content, self.index()?))
     }
@@ -326,8 +338,8 @@ impl<'a> BsiiFile<'a> {
     }
 
     /// The fields of block `number`, by the definition with which the block was read: as many as the
-    /// block has values. Refused with 13; and with 11 if there was no memory for the index and an id
-    /// is defined twice, so that the definition cannot be found.
+    /// block has values. Refused with 13; and with 11 without an index if an id is defined twice, so
+    /// that the definition cannot be found.
     pub fn definitions(&self, number: u64) -> Result<Definitions<'a>, Refusal> {
         let block = self.block(number)?;
         let version = self.version();

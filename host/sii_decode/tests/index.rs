@@ -228,6 +228,37 @@ fn generated_saves() {
     );
 }
 
+/// Without an index the answers are the same.
+#[test]
+fn without_an_index() {
+    let mut blocks = 0;
+    for number in 0..300 {
+        let bytes = generate::file(7, number);
+        let plain = BsiiFile::without_index(&bytes);
+        let file = match BsiiFile::parse(&bytes) {
+            Ok(file) => file,
+            Err(refusal) => {
+                assert_eq!(plain.err(), Some(refusal));
+                continue;
+            }
+        };
+        let plain = plain.unwrap();
+        assert_eq!(plain.index(), None);
+        assert_eq!(plain.block_count(), file.block_count());
+        assert_eq!(plain.prototype_count(), file.prototype_count());
+        assert_eq!(plain.end(), file.end());
+        for (block, walked) in file.blocks().zip(plain.blocks()) {
+            assert_eq!(block, walked);
+            assert_eq!(walked.prototype(&plain), block.prototype(&file));
+            for name in names(&file) {
+                assert_eq!(walked.field(&plain, &name), block.field(&file, &name));
+            }
+            blocks += 1;
+        }
+    }
+    assert!(blocks > 100, "{blocks}");
+}
+
 /// A save's index is stale as soon as an update has widened the save.
 #[test]
 fn widened_saves() {
