@@ -30,9 +30,9 @@
  *
  * An index is kept beside a file, so that a field can be found without reading all of it. It has no header and one record of 12 bytes for each
  * block, in the order of the blocks: four numbers of three bytes, least byte first. They are the offset of the block, which is that of its prototype
- * id; its length from there to the end of its last value; the offset of the record that defines its prototype, by the definition in force when the
- * block was read; and the number of that definition's fields. sii_write_index writes it, sii_check_index compares it with the file,
- * sii_field_by_index looks a field up by it.
+ * id; its length from there to the end of its last value; the offset of the record that defines its prototype, which is that of its number 0, by the
+ * definition in force when the block was read; and the number of that definition's fields. sii_write_index writes it, sii_check_index compares it
+ * with the file, sii_field_by_index looks a field up by it.
  */
 #ifndef SII_DECODE_H
 #define SII_DECODE_H

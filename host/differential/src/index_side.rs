@@ -4,7 +4,7 @@ use crate::model_side::{Pair, WHO};
 use crate::plan::{IndexPlan, Plan};
 use crate::report::{Check, Difference};
 use calls::{Call, Length};
-use generate::index::{changed, changed_file, hostile};
+use generate::index::{changed, changed_file, hostile, inside_a_string};
 use generate::Random;
 
 /// Wrong indexes of a file that are checked.
@@ -16,7 +16,7 @@ const LOOKED_UP: usize = 2;
 /// Names that are looked up by any bytes as an index.
 const NAMES: usize = 4;
 
-impl Pair<'_, '_> {
+impl<'b> Pair<'_, 'b> {
     pub fn index(&mut self, plan: &Plan, random: &mut Random) -> Check {
         self.both(Call::DefinesOnce, plan.words)?;
         self.write_index(plan.words)?;
@@ -34,15 +34,20 @@ impl Pair<'_, '_> {
             let hostile = hostile(random, index, self.file.len(), &plan.index.places);
             self.some(&hostile, &plan.index, random)?;
             let other = changed_file(random, self.file, &plan.index.places);
-            let mut pair = Pair {
-                library: self.library,
-                model: self.model,
-                file: &other,
-                tally: self.tally,
-            };
-            pair.some(index, &plan.index, random)?;
+            self.of(&other).some(index, &plan.index, random)?;
         }
-        Ok(())
+        let (save, moved) = inside_a_string(self.file, index);
+        self.of(&save).some(&moved, &plan.index, random)
+    }
+
+    /// The same two, asked about another file.
+    fn of<'c>(&'c mut self, file: &'c [u8]) -> Pair<'c, 'b> {
+        Pair {
+            library: self.library,
+            model: self.model,
+            file,
+            tally: self.tally,
+        }
     }
 
     /// Blocks of the index and names of the file; now and then a block that is not there.

@@ -1,7 +1,7 @@
 //! One implementation, called with a table and an output that are watched.
 
 use crate::report::{differ, Difference};
-use calls::{Answer, Call, Element, Implementation, Length, Lent, Text};
+use calls::{Answer, Call, Element, Implementation, Length, Lent, Text, RECORD};
 
 /// Words or bytes on both ends of what is lent.
 const MARGIN: usize = 8;
@@ -137,6 +137,11 @@ impl<'a> Side<'a> {
             0 | 11 => short.length,
             _ => return Ok(None),
         };
+        // A block has at least five bytes.
+        if length > (file.len() / 5 * RECORD) as u64 {
+            let detail = format!("length {length} for a file of {} bytes", file.len());
+            return differ((self.name, "write_index"), detail);
+        }
         let whole = self.index(file, words, length as usize)?;
         if (whole.number, whole.length) != (0, length) {
             let detail = format!("{whole:?} in a space of the needed length, {length}");

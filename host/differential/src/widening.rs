@@ -54,7 +54,7 @@ fn one_side(side: Side<'_>, made: &Widening, model: &mut Model, tally: &mut Tall
     };
     last.insert(&mut save);
     match first_unlisted(last, &save) {
-        Some(offset) => asked.stops(&save, offset as u64),
+        Some(offset) => asked.stops(&save, last, offset as u64),
         None => asked.still_converts(&before, &save),
     }
 }
@@ -293,8 +293,41 @@ impl Asked<'_, '_> {
         self.same("the old text", asked, Shown(&left), Shown(old))
     }
 
+    /// A look-up reads one block: of another prototype's what it was made with, and of this one's it
+    /// gives 7 at its own value.
+    fn beside_unlisted(&mut self, save: &Save, last: &Insertion) -> Check {
+        let Insertion::Field { id, position, .. } = last else {
+            return Ok(());
+        };
+        let (file, index) = (save.bytes(), save.index());
+        let mut starts = save.value_starts(*id, *position).into_iter();
+        for (number, block) in save.blocks().enumerate() {
+            let start = match block.prototype == *id {
+                true => starts.next(),
+                false => None,
+            };
+            for name in names(save) {
+                let answer = self.by_index(&file, &index, number as u64, name)?;
+                let asked = || format!("block {number}, name {name:?}: {answer:?}");
+                match start {
+                    Some(start) => {
+                        let expected = Field::refused(7, start as u64);
+                        self.same("look-up of an unlisted type", asked, answer, expected)?;
+                    }
+                    None => {
+                        let part = part_of(&file, answer);
+                        let part = part.map(|bytes| (answer.type_id, bytes.to_vec()));
+                        let expected = made_value(save, block, name);
+                        self.same("look-up beside an unlisted type", asked, part, expected)?;
+                    }
+                }
+            }
+        }
+        Ok(())
+    }
+
     /// Reading, text, every field call, writing an index and checking one give 7 at the offset.
-    fn stops(&mut self, save: &Save, offset: u64) -> Check {
+    fn stops(&mut self, save: &Save, last: &Insertion, offset: u64) -> Check {
         let (file, words) = (save.bytes(), words(save));
         let answer = self.side.ask(Call::Read, &file, words)?;
         let expected = answer.refused(7, offset);
@@ -311,6 +344,7 @@ impl Asked<'_, '_> {
         }
         self.check(&file, words, &save.index(), (7, offset, 0))?;
         self.check(&file, words, b"none", (7, offset, 0))?;
+        self.beside_unlisted(save, last)?;
         for block in 0..=save.blocks().count() as u64 {
             for name in names(save) {
                 let call = Call::FieldOf { block, name };

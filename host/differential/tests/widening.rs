@@ -49,10 +49,13 @@ enum Fault {
     IndexSevenWithoutABlock,
     SpaceBeforeSeven,
     MisfitBeforeSeven,
+    /// Looks a name up without reading what stands behind its value.
+    LooksUpUnlisted,
+    SevenInEveryBlock,
 }
 
 /// Each with the check that finds it out first.
-const FAULTS: [(Fault, &str); 30] = [
+const FAULTS: [(Fault, &str); 32] = [
     (Fault::GuessesLength, "a field after"),
     (Fault::OldNumbers, "a field after"),
     (Fault::OldPositions, "a field after"),
@@ -83,6 +86,8 @@ const FAULTS: [(Fault, &str); 30] = [
     (Fault::IndexSevenWithoutABlock, "index"),
     (Fault::SpaceBeforeSeven, "index of an unlisted type"),
     (Fault::MisfitBeforeSeven, "check of an index"),
+    (Fault::LooksUpUnlisted, "look-up of an unlisted type"),
+    (Fault::SevenInEveryBlock, "look-up beside an unlisted type"),
 ];
 
 /// Knows the list, so that it can be wrong about what was inserted and about nothing else.
@@ -365,6 +370,12 @@ fn carried(fault: Fault, answer: Answer, call: Call<'_>, save: &Save) -> Answer 
         }
         (Fault::OutputBeforeSeven, Call::ToSiin) => answer.refused(11, 0),
         (Fault::SpaceBeforeSeven, Call::WriteIndex) => answer.refused(11, 0),
+        (Fault::LooksUpUnlisted, Call::FieldByIndex { .. }) if answer.number() == 7 => {
+            Answer::Field(Field::default())
+        }
+        (Fault::SevenInEveryBlock, Call::FieldByIndex { .. }) if answer.number() == 0 => {
+            answer.refused(7, 8)
+        }
         (Fault::MisfitBeforeSeven, Call::CheckIndex { index }) if index != save.index() => {
             answer.refused(14, 0)
         }

@@ -2,10 +2,12 @@
 
 use crate::damage::damage;
 use crate::valid::Made;
-use crate::Random;
+use crate::{bytes, Random};
 
 /// The bytes of one record.
 pub const RECORD: usize = 12;
+/// The end record of a file.
+const END: [u8; 5] = [0; 5];
 /// The largest number that a record holds.
 const LARGEST: usize = (1 << 24) - 1;
 
@@ -114,6 +116,25 @@ fn offset(random: &mut Random, len: usize, places: &[usize]) -> usize {
         8 => len.saturating_sub(2) + random.below(8),
         _ => random.pick(&[0, 4, 8, LARGEST, LARGEST - 3]),
     }
+}
+
+/// A save of one block with a string that is the file, and the file's index moved into that string. The
+/// save is of the file's version, if that has one; the string need not be UTF-8.
+pub fn inside_a_string(file: &[u8], index: &[u8]) -> (Vec<u8>, Vec<u8>) {
+    let version = file.get(4..8).and_then(|bytes| bytes.try_into().ok());
+    let fields = [bytes::definition(1, b"f")];
+    let records = [
+        bytes::prototype(1, b"p", &fields),
+        bytes::block(1, &bytes::string(file)),
+    ];
+    let save = bytes::file_of(version.map_or(2, u32::from_le_bytes), &records);
+    let start = save.len() - END.len() - file.len();
+    let moved = index.chunks_exact(RECORD).flat_map(|own| {
+        let [block, length, prototype, fields] = [0, 3, 6, 9].map(|at| number(&own[at..at + 3]));
+        record([block + start, length, prototype + start, fields])
+    });
+    let moved = moved.collect();
+    (save, moved)
 }
 
 /// Another file than the one that an index is of, with damage at the places or anywhere.

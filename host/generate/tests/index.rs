@@ -1,6 +1,6 @@
 //! What is made about indexes: the right one of a save, and wrong ones of every kind.
 
-use generate::index::{changed, changed_file, hostile, record, RECORD};
+use generate::index::{changed, changed_file, hostile, inside_a_string, record, RECORD};
 use generate::save::{Block, Definition, Prototype, Record, Save, Value};
 use generate::Random;
 
@@ -137,6 +137,19 @@ fn records_point_everywhere() {
     }
     assert!(some(&|b, p| b == p && b < 62) && some(&|b, p| b == p + 5));
     assert!(some(&|b, p| b > 62 && p > 62));
+}
+
+#[test]
+fn a_file_inside_a_string() {
+    let file = generate::worked_bytes();
+    let (save, index) = inside_a_string(&file, &[record([48, 29, 8, 2]), vec![0; 5]].concat());
+    assert_eq!(save[..8], file[..8]);
+    let start = save.len() - 5 - file.len();
+    assert_eq!(save[start..save.len() - 5], file);
+    assert_eq!(save[start - 4..start], (file.len() as u32).to_le_bytes());
+    assert_eq!(index, record([start + 48, 29, start + 8, 2]));
+    let (save, _) = inside_a_string(b"BSII\x01\0\0", b"");
+    assert_eq!(save[..8], *b"BSII\x02\0\0\0");
 }
 
 #[test]
