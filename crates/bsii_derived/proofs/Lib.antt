@@ -1,2 +1,1 @@
 -- Laws of the index.
-

@@ -38,15 +38,6 @@ pub record KindAt (s : List ℕ) (at : ℕ) (r : RecordKind) : Type 0 where
 pub record MarkAt (s : List ℕ) (at : ℕ) (r : RecordKind) : Type 0 where
   pub is : (h : Head) (n : ℕ) (t : List ℕ) → markedParser at (drop at s) ≡ ok h n t → r ≡ kindOf h n
 
--- ---- values and blocks
-
-pub record ValuesSkipped (version : ℕ) (s : List ℕ) (fields start : ℕ) (r : Parsed) : Type 0 where
-  pub ends : (l : Fields) (n : ℕ) (t : List ℕ) → fieldsParser fields (drop fields s) ≡ ok l n t
-      → (v : List DataValue) (m : ℕ) (u : List ℕ) → dataValuesParser version (l .fields) start (drop start s) ≡ ok v m u → r ≡ Next m
-
-pub record BlockSkipped (version : ℕ) (s : List ℕ) (o at : ℕ) (r : Parsed) : Type 0 where
-  pub ends : (p : Prototype) → DefinedAt s o p → (v : List DataValue) (m : ℕ) (u : List ℕ) → (idParser >>= (λ i. dataValuesParser version (p .fields))) at (drop at s) ≡ ok v m u → r ≡ Next m
-
 -- ---- records: `env` is the definitions so far, `last` all definitions of the file
 
 pub record PrototypeMet (s t : List ℕ) (rows : ℕ) (env last : List Prototype) (p : Prototype) (n : ℕ) (r : Met) : Type 0 where
