@@ -1,4 +1,3 @@
-<<<<<<< HEAD
 -- Laws of the index: its bytes (Bytes), ids that are defined once (Once), what a look-up reads of what the walk has read (Defined, Entries), the promises and
 -- what they say by themselves (Claims, Says), worked questions and the refusals of each call.
 pub mod Bytes
@@ -10,6 +9,3 @@ pub mod Computes
 pub mod WorkedIndex
 pub mod IndexRefusals
 pub mod Says
-=======
--- Laws of the index.
->>>>>>> a63cca89c766a6d5d9856f09222254216507cca5
