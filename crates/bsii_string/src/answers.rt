@@ -60,6 +60,8 @@ pub const INPUT_LONG: u32 = 12;
 
 pub const ABSENT: u32 = 13;
 
+pub const MISFIT: u32 = 14;
+
 pub const BAD_MARK: u32 = 15;
 
 // The most bytes that a file may have.

@@ -1,0 +1,1 @@
+-- Laws of the look-up by an index.
