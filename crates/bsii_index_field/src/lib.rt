@@ -123,7 +123,11 @@ fn block_parser(s: &[u8], version: u32, at: usize, id: u32, fields: usize) -> Pa
             if n != id {
                 return Parsed::Fault(refused(UNDEFINED_PROTOTYPE, at));
             }
-            data_block_parser(s, version, fields, next)
+            let block = data_block_parser(s, version, fields, next);
+            match block {
+                Counted::Fault(f) => Parsed::Fault(f),
+                Counted::Fields { count: _, next: end } => Parsed::Next(end),
+            }
         }
     }
 }
