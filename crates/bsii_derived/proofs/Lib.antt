@@ -1,1 +1,6 @@
 -- Laws of the index.
+pub mod Bytes
+pub mod Once
+pub mod Defined
+pub mod Entries
+pub mod Claims

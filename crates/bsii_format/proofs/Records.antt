@@ -49,7 +49,7 @@ fieldsFrom-fits (suc n) fs t (cons {f = f} {fs = gs} g k) h l =
     rw append-assoc
     (bind-fits (λ e. fieldsThen (fieldsFrom n) (e .value) (e .raw)) (consumed-fits g) (map-fits (consField f) (fieldsFrom-fits n gs t k h (omega arith))))
 
-fields-long : {fs : List (Consumed ValuePrototype)} → GoodFields fs → length fs ≤ length (fieldsBytes fs)
+pub fields-long : {fs : List (Consumed ValuePrototype)} → GoodFields fs → length fs ≤ length (fieldsBytes fs)
 unfolding fieldsBytes
 fields-long nil = omega arith
 fields-long (cons {f = f} {fs = fs} g k) = rw length-append (omega (arith, entry-takes g, fields-long k))
@@ -290,7 +290,7 @@ pub head-takes : {h : Head} {c : List ℕ} → Fits Head headParser h c → 1 �
 unfolding headParser _>>=_ after number _<$>_ bytes
 head-takes h = takes headParser h refl
 
-record-takes : (version : ℕ) (env : List Prototype) (i : Record) → GoodRecord version env i → 1 ≤ length (recordBytes i)
+pub record-takes : (version : ℕ) (env : List Prototype) (i : Record) → GoodRecord version env i → 1 ≤ length (recordBytes i)
 unfolding recordBytes
 record-takes version env (prototype p) g = rw length-append (omega (arith, head-takes (g .head)))
 record-takes version env (block b) g = rw length-append (omega (arith, head-takes (g .head)))
