@@ -131,7 +131,7 @@ fn block_step(
             let offset = size(in_force);
             let end = block_end(s, version, offset, id_at, known);
             match end {
-                Counted::Fault(f) => return ReadStep::Refused(f),
+                Counted::Fault(fault) => return ReadStep::Refused(fault),
                 Counted::Fields { count, next } => return ReadStep::Block(
                     Progress {
                         at: next,

@@ -7,11 +7,9 @@ use mathlib.Core.List.{List, _∷_}
 use lib.ListN.{length, drop}
 use Rattle.bsii_format.specs.Reader.{ok, same, _>>=_}
 use Rattle.bsii_format.specs.Strings.{idParser}
-use Rattle.bsii_format.specs.Prototypes.{Prototype, Fields, fieldsParser}
+use Rattle.bsii_format.specs.Prototypes.{Prototype}
 use Rattle.bsii_format.specs.Blocks.{DataValue, DataBlock, getPrototype, dataValuesParser}
 use Rattle.bsii_format.specs.File.{Record, prototype, block, Head, ending, defining, carrying, headParser, end, more, recordParser}
-use Rattle.bsii_string.specs.declared.answers.Parsed.{Parsed}
-use Rattle.bsii_string.specs.declared.answers.Parsed.the-variants.{Next}
 use Rattle.bsii_prototype.specs.Entries.{markedParser}
 use Rattle.bsii_table.specs.Relation.{Entered}
 use Rattle.bsii_parse.specs.Walks.{DefinedAt}
