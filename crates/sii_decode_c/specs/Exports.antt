@@ -8,6 +8,8 @@ use Rattle.sii_decode_c.specs.declared.calls.SiiBlock.{SiiBlock}
 use Rattle.sii_decode_c.specs.declared.calls.SiiNumber.{SiiNumber}
 use Rattle.sii_decode_c.specs.declared.calls.SiiField.{SiiField}
 use Rattle.sii_decode_c.specs.declared.calls.SiiText.{SiiText}
+use Rattle.sii_decode_c.specs.declared.index.SiiLength.{SiiLength}
+use Rattle.sii_decode_c.specs.declared.index.SiiChecked.{SiiChecked}
 
 abbrev pub readingOut : Reply Reading → SiiReading
 readingOut (gives a) = record { number = 0; offset = 0; lacking = 0; prototypes = a .prototypes; blocks = a .blocks; next = a .next }
@@ -30,10 +32,22 @@ abbrev pub fieldOut : Reply FieldAnswer → SiiField
 fieldOut (gives a) = record { number = 0; offset = 0; lacking = 0; «type_id» = a .typeId; «part_offset» = a .part .offset; «part_len» = a .part .size }
 fieldOut (refuses f) = record { number = f .number; offset = f .offset; lacking = f .lacking; «type_id» = 0; «part_offset» = 0; «part_len» = 0 }
 
-abbrev pub lengthOut : Reply ℕ → ℕ → SiiText
-lengthOut (gives n) needed = record { number = 0; offset = 0; lacking = 0; length = n }
-lengthOut (refuses f) needed = record { number = f .number; offset = f .offset; lacking = f .lacking; length = needed }
+abbrev pub textLength : Reply ℕ → ℕ → SiiText
+textLength (gives n) needed = record { number = 0; offset = 0; lacking = 0; length = n }
+textLength (refuses f) needed = record { number = f .number; offset = f .offset; lacking = f .lacking; length = needed }
 
 -- the text's length; of a text longer than the output the needed one, and of any other refusal 0
 abbrev pub textOut : TextAnswer → SiiText
-textOut a = lengthOut (a .reply) (a .needed)
+textOut a = textLength (a .reply) (a .needed)
+
+-- the index's length, likewise
+abbrev pub indexLength : Reply ℕ → ℕ → SiiLength
+indexLength (gives n) needed = record { number = 0; offset = 0; lacking = 0; length = n }
+indexLength (refuses f) needed = record { number = f .number; offset = f .offset; lacking = f .lacking; length = needed }
+
+abbrev pub lengthOut : TextAnswer → SiiLength
+lengthOut a = indexLength (a .reply) (a .needed)
+
+abbrev pub checkedOut : Reply (Unit {0}) → SiiChecked
+checkedOut (gives u) = record { number = 0; offset = 0; lacking = 0 }
+checkedOut (refuses f) = record { number = f .number; offset = f .offset; lacking = f .lacking }

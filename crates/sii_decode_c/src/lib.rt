@@ -2,3 +2,4 @@
 // into a struct of C's layout.
 pub mod calls;
 pub mod elements;
+pub mod index;
