@@ -1,5 +1,5 @@
 -- The reading walk as a whole: what holds at each turn of its loop, and what follows at its end.
-use mathlib.Core.Path.{_≡_, refl, sym, ap, _∙_, subst}
+use mathlib.Core.Path.{_≡_, refl, sym, ap, ap₂, _∙_, subst}
 use Prim.Native.Nat.{ℕ, suc, _+_, _-_, _/_, _≤_, _<_}
 use native.Mathlib.Nat.{add-zero}
 use native.Mathlib.Omega.{arith}
@@ -18,6 +18,7 @@ use Rattle.bsii_parse.specs.declared.walk.Progress.{Progress}
 use Rattle.bsii_parse.specs.declared.walk.ReadStep.{ReadStep}
 use Rattle.bsii_parse.specs.declared.walk.Under.{Under}
 use Rattle.bsii_parse.specs.declared.walk.ReadStep.the-variants.{Prototype as WentPrototype, Block as WentBlock, End, Refused}
+use Rattle.bsii_parse.specs.declared.walk.Totals.{Totals}
 use Rattle.bsii_parse.specs.declared.walk.Walked.the-variants.{Done, Fault as Stopped}
 use Rattle.bsii_parse.proofs.Records.{behind-behind, blockCount-append, prototypeCount-append}
 use Rattle.bsii_parse.proofs.Tables.{growing-none, bare-cons}
@@ -186,11 +187,12 @@ module _ {version : ℕ} {s : List ℕ} {start : ℕ} {t₀ : List ℕ} {p : Pro
       let here : m ≡ n = cc in
       let q : Records = record { records = a .so; end = l } in
       let all : recordsAt version (length t₀ / 3) [] start s ≡ ok q m (drop m s) = from-here e ∙ last l m in
-      subst (λ k. Walks version s start t₀ (Done (record { version = version; rows = p .rows; blocks = p .blocks; prototypes = p .prototypes; next = k })) t) here
-      (subst (λ k. Walks version s start t₀ (Done (record { version = version; rows = p .rows; blocks = k; prototypes = p .prototypes; next = m })) t) (sym (a .blocks))
-      (subst (λ k. Walks version s start t₀ (Done (record { version = version; rows = p .rows; blocks = blockCount (a .so); prototypes = k; next = m })) t) (sym (a .prototypes))
-      (done q all (a .kept) (a .size))))
+      subst (λ w. Walks version s start t₀ (Done w) t) (ap (found (p .blocks) (p .prototypes)) here)
+      (subst (λ w. Walks version s start t₀ (Done w) t) (ap₂ (λ b k. found b k m) (sym (a .blocks)) (sym (a .prototypes))) (done q all (a .kept) (a .size)))
     where
+      found : (blocks prototypes next : ℕ) → Totals
+      found blocks prototypes next = record { version = version; rows = p .rows; blocks = blocks; prototypes = prototypes; next = next }
+
       last : (l : List ℕ) (m : ℕ) → behind (a .so) (ok (record { records = []; end = l }) m (drop m s)) ≡ ok (record { records = a .so; end = l }) m (drop m s)
       last l m = unfold behind in ap (λ w. ok (record { records = w; end = l }) m (drop m s)) (append-nil (a .so))
 
