@@ -1,5 +1,5 @@
 -- The reading walk as a whole: what holds at each turn of its loop, and what follows at its end.
-use mathlib.Core.Path.{_≡_, refl, sym, ap, _∙_, subst}
+use mathlib.Core.Path.{_≡_, refl, sym, ap, ap₂, _∙_, subst}
 use Prim.Native.Nat.{ℕ, suc, _+_, _-_, _/_, _≤_, _<_}
 use native.Mathlib.Nat.{add-zero}
 use native.Mathlib.Omega.{arith}
@@ -20,6 +20,7 @@ use Rattle.bsii_parse.specs.declared.walk.Progress.{Progress}
 use Rattle.bsii_parse.specs.declared.walk.ReadStep.{ReadStep}
 use Rattle.bsii_parse.specs.declared.walk.Under.{Under}
 use Rattle.bsii_parse.specs.declared.walk.ReadStep.the-variants.{Prototype as WentPrototype, Block as WentBlock, End, Refused}
+use Rattle.bsii_parse.specs.declared.walk.Totals.{Totals}
 use Rattle.bsii_parse.specs.declared.walk.Walked.the-variants.{Done, Fault as Stopped}
 use Rattle.bsii_parse.proofs.Records.{behind-behind, blockCount-append, prototypeCount-append}
 use Rattle.bsii_parse.proofs.Tables.{growing-none, bare-cons}

@@ -66,13 +66,25 @@ block-exact version fs = bind-exact _ id-exact (λ i. values-exact fs)
           (_, record { front = g .front; place = g .place; fits = values-fits (g .good) });
     }
 
+-- how far the walk is behind a prototype, and behind a block
+abbrev behindPrototype : Progress → ℕ → ℕ → Progress
+behindPrototype p n rows = record { at = n; rows = rows; blocks = p .blocks; prototypes = p .prototypes + 1 }
+
+abbrev behindBlock : Progress → ℕ → Progress
+behindBlock p n = record { at = n; rows = p .rows; blocks = p .blocks + 1; prototypes = p .prototypes }
+
+abbrev underOf : ℕ → ℕ → Under
+underOf o n = record { offset = o; fields = n }
+
 -- where the records from here on are accepted, so is the block here
-assured-body : (version rooms : ℕ) (env : List Prototype) (at : ℕ) (s : List ℕ) {id n : ℕ} {p : Prototype} → headParser at (drop at s) ≡ ok (carrying id) n (drop n s) → getPrototype id env ≡ some p
-    → (known : Bool) → Assured known (recordsAt version rooms env at s) → Assured known ((idParser >>= (λ i. dataValuesParser version (p .fields))) n (drop n s))
+assured-body : (version rooms : ℕ) (env : List Prototype) (at : ℕ) (s : List ℕ) {id n : ℕ} {p : Prototype}
+    → headParser at (drop at s) ≡ ok (carrying id) n (drop n s) → getPrototype id env ≡ some p → (known : Bool) → Assured known (recordsAt version rooms env at s)
+    → Assured known ((idParser >>= (λ i. dataValuesParser version (p .fields))) n (drop n s))
 assured-body version rooms env at s h k false y = tt
 assured-body version rooms env at s {n = n} {p = p} h k true y = go (recordParser version env at (drop at s)) refl
   where
-    go : (q : Result Step) → recordParser version env at (drop at s) ≡ q → Assured true ((idParser >>= (λ i. dataValuesParser version (p .fields))) n (drop n s))
+    go : (q : Result Step) → recordParser version env at (drop at s) ≡ q
+        → Assured true ((idParser >>= (λ i. dataValuesParser version (p .fields))) n (drop n s))
     go (ok z m t) e = let x = block-accepted version env at (drop at s) h k e in (x .0, m, t, x .1)
     go (fault f) e = fault≢ok (sym (records-fault version rooms env at s e) ∙ y .3)
 
@@ -91,8 +103,8 @@ module _ {version : ℕ} {s : List ℕ} {p : Progress} {t : List ℕ} {env : Lis
   step-fault : {f : Refusal} {t′ : List ℕ} → recordParser version (bare env) (p .at) (drop (p .at) s) ≡ fault (faultIs f) → length t′ ≡ length t → StepMeets version s p t env (Refused f) t′
   step-fault e l = refused (records-fault version (length t / 3) (bare env) (p .at) s e) l
 
-  step-passed : (i : Record) {n rows : ℕ} {r : ReadStep} {t′ : List ℕ} → recordParser version (bare env) (p .at) (drop (p .at) s) ≡ ok (more i) n (drop n s) → hasRoom (length t / 3) (bare env) i ≡ true
-      → Growing s t′ rows (consPrototype (p .at) i env) → length t′ ≡ length t
+  step-passed : (i : Record) {n rows : ℕ} {r : ReadStep} {t′ : List ℕ} → recordParser version (bare env) (p .at) (drop (p .at) s) ≡ ok (more i) n (drop n s)
+      → hasRoom (length t / 3) (bare env) i ≡ true → Growing s t′ rows (consPrototype (p .at) i env) → length t′ ≡ length t
       → Goes env (record { at = n; rows = rows; blocks = p .blocks + blockCount (i ∷ []); prototypes = p .prototypes + prototypeCount (i ∷ []) }) i r
       → StepMeets version s p t env r t′
   unfolding stepBytes
@@ -127,13 +139,14 @@ module _ {version : ℕ} {s : List ℕ} {p : Progress} {t : List ℕ} {env : Lis
         refused (records-full version (length t / 3) (bare env) (p .at) s (record-prototype version (bare env) (p .at) (drop (p .at) s) h e) (define-full (DefinedAt s) (k .holds) one refl f d)) (ap length (x .same))
 
     pub prototype-passed : {l : Fields} {n rows : ℕ} {d : Defined} {t′ : List ℕ} → fieldsParser fields (drop fields s) ≡ ok l n (drop n s) → Growing s t (p .rows) env → d ≡ Rows rows
-        → Defines s t (p .rows) id (p .at) d t′ → StepMeets version s p t env (WentPrototype (record { at = n; rows = rows; blocks = p .blocks; prototypes = p .prototypes + 1 })) t′
+        → Defines s t (p .rows) id (p .at) d t′ → StepMeets version s p t env (WentPrototype (behindPrototype p n rows)) t′
     unfolding prototypeOf blockCount prototypeCount consPrototype
     prototype-passed {l} {n} {rows} {d} {t′} e k f w =
         let x = is-put f w in
         let one = prototypeOf (p .at) (drop (p .at) s) id name fields l in
         let stands : DefinedAt s (p .at) one = record { fields = fields; next = n; head = h; list = e } in
-        subst (λ b. StepMeets version s p t env (WentPrototype (record { at = n; rows = rows; blocks = b; prototypes = p .prototypes + 1 })) t′) (add-zero (p .blocks))
+        subst (λ b. StepMeets version s p t env (WentPrototype (record { at = n; rows = rows; blocks = b; prototypes = p .prototypes + 1 })) t′)
+        (add-zero (p .blocks))
         (step-passed (prototype one) (record-prototype version (bare env) (p .at) (drop (p .at) s) h e) (define-room (DefinedAt s) (k .holds) one refl f w)
         (record { holds = define-grows (DefinedAt s) (k .holds) one refl stands f w; offsets = offsets-put s t (p .rows) t′ rows env one (p .at) x (k .offsets) })
         (x .size) behind-prototype)
@@ -144,16 +157,17 @@ module _ {version : ℕ} {s : List ℕ} {p : Progress} {t : List ℕ} {env : Lis
     pub block-undefined : {r : FoundRow} → r ≡ Nothing → foundRow r ≡ lookupTree s t (p .rows) id → StepMeets version s p t env (Refused (refusedAt undefinedPrototype (p .at))) t
     block-undefined e f = step-fault (record-undefined version (bare env) (p .at) (drop (p .at) s) h (found-nothing (DefinedAt s) (k .holds) id e f)) refl
 
-    module _ {r : FoundRow} {a b : ℕ} (e : r ≡ At a b) (f : foundRow r ≡ lookupTree s t (p .rows) id) {known : Bool} {q : Counted} (w : KnownEnd version s a at known q)
-        (y : Assured known (recordsAt version (length t / 3) (bare env) (p .at) s)) where
+    module _ {r : FoundRow} {a b : ℕ} (e : r ≡ At a b) (f : foundRow r ≡ lookupTree s t (p .rows) id) {known : Bool} {q : Counted}
+        (w : KnownEnd version s a at known q) (y : Assured known (recordsAt version (length t / 3) (bare env) (p .at) s)) where
       pub block-fault : {x : Refusal} → q ≡ Counted-Fault x → StepMeets version s p t env (Refused x) t
       block-fault z =
           let x = found-at (DefinedAt s) (k .holds) id e f in
           let v = w .ends (x .0) (x .2) (assured-body version (length t / 3) (bare env) (p .at) s h (x .1) known y) in
-          step-fault (record-block-fault version (bare env) (p .at) (drop (p .at) s) h (x .1) (fault-ended _ (ended-fault (length (x .0 .fields)) _ (sym z ∙ v)))) refl
+          step-fault (record-block-fault version (bare env) (p .at) (drop (p .at) s) h (x .1)
+          (fault-ended _ (ended-fault (length (x .0 .fields)) _ (sym z ∙ v)))) refl
 
       pub block-passed : {c n : ℕ} → q ≡ Counted-Fields c n
-          → StepMeets version s p t env (WentBlock (record { at = n; rows = p .rows; blocks = p .blocks + 1; prototypes = p .prototypes }) (record { offset = a; fields = c })) t
+          → StepMeets version s p t env (WentBlock (behindBlock p n) (underOf a c)) t
       unfolding blockCount prototypeCount consPrototype hasRoom
       block-passed {c} {n} z =
           let x = found-at (DefinedAt s) (k .holds) id e f in
@@ -163,7 +177,7 @@ module _ {version : ℕ} {s : List ℕ} {p : Progress} {t : List ℕ} {env : Lis
           let many : length (d .0 .it .fields) ≡ c = ap (λ (q : Prototype). length (q .fields)) (d .3) ∙ sym (v .0) in
           let found = ap (λ m. findBy (λ (q : Placed Prototype). q .it .id) m env) (b .2) ∙ d .1 in
           subst (λ r. StepMeets version s p t env r t)
-          (ap₂ WentBlock (ap (λ m. record { at = n; rows = p .rows; blocks = p .blocks + 1; prototypes = m }) (add-zero (p .prototypes))) (ap₂ (λ (o m : ℕ). record { offset = o; fields = m }) (d .2) many))
+          (ap₂ WentBlock (ap (λ m. record { at = n; rows = p .rows; blocks = p .blocks + 1; prototypes = m }) (add-zero (p .prototypes))) (ap₂ underOf (d .2) many))
           (step-passed (block (b .0)) (b .1) refl k refl (behind-block (d .0) found))
 
 -- ---- the same for the code's answers
@@ -192,7 +206,7 @@ module _ {s : List ℕ} {p : Progress} {t : List ℕ} {id fields : ℕ} where
     }
 
     pub defining-passed : {rows : ℕ} → d ≡ Rows rows
-        → Defining s p t id fields (WentPrototype (record { at = n; rows = rows; blocks = p .blocks; prototypes = p .prototypes + 1 })) t′
+        → Defining s p t id fields (WentPrototype (behindPrototype p n rows)) t′
     defining-passed f = record { steps = λ version env k name h. prototype-passed h (counted-is s fields e .1) k f (subst (λ z. Defines s t (p .rows) id z d t′) w x) }
 
 module _ {version : ℕ} {s : List ℕ} {p : Progress} {t : List ℕ} {id at : ℕ} {known : Bool} {r : FoundRow} (f : foundRow r ≡ lookupTree s t (p .rows) id) where
@@ -204,10 +218,10 @@ module _ {version : ℕ} {s : List ℕ} {p : Progress} {t : List ℕ} {id at : �
     carrying-fault v = record { steps = λ env k y h. block-fault h k e f (subst (λ x. KnownEnd version s x at known q) i w) y v }
 
     pub carrying-passed : {c n : ℕ} → q ≡ Counted-Fields c n
-        → Carrying version s p t known id at (WentBlock (record { at = n; rows = p .rows; blocks = p .blocks + 1; prototypes = p .prototypes }) (record { offset = z; fields = c }))
-    carrying-passed {c} {n} v = subst (λ o. Carrying version s p t known id at (WentBlock (record { at = n; rows = p .rows; blocks = p .blocks + 1; prototypes = p .prototypes }) (record { offset = o; fields = c }))) (sym i) (record {
-      steps = λ env k y h. block-passed h k e f (subst (λ x. KnownEnd version s x at known q) i w) y v;
-    })
+        → Carrying version s p t known id at (WentBlock (behindBlock p n) (underOf z c))
+    carrying-passed {c} {n} v =
+        subst (λ o. Carrying version s p t known id at (WentBlock (behindBlock p n) (underOf o c))) (sym i)
+        (record { steps = λ env k y h. block-passed h k e f (subst (λ x. KnownEnd version s x at known q) i w) y v })
 
 module _ {version : ℕ} {s : List ℕ} {p : Progress} {t : List ℕ} {known : Bool} {h : HeadAnswer} (e : headIs s h ≡ headParser (p .at) (drop (p .at) s)) where
   pub stepped-end : {n : ℕ} → h ≡ HeadEnd n → Stepped version s p t known (End n) t

@@ -75,12 +75,21 @@ module _ {version : ℕ} {s : List ℕ} {fields start field at count : ℕ} (i :
         let z : dataValuesParser version (with (y .field) (take (next - field) (drop field s)) ∷ y .rest .fields) at (drop at s) ≡ ok (x .3) m u =
         ap (λ (k : Fields). dataValuesParser version (k .fields) at (drop at s)) (sym (y .list)) ∙ x .4 in
         let w = turn (with (y .field) (take (next - field) (drop field s))) (y .rest .fields) s at z in
-        record { rest = y .rest; counts = omega (arith, x .2, ap length (y .fields)); more = y .more; end = w .end; past = ap (λ k. endOf (uncheckedValue version k at (drop at s))) (y .typed) ∙ w .past; values = w .values; others = w .others }
+        record {
+          rest = y .rest;
+          counts = omega (arith, x .2, ap length (y .fields));
+          more = y .more;
+          end = w .end;
+          past = ap (λ k. endOf (uncheckedValue version k at (drop at s))) (y .typed) ∙ w .past;
+          values = w .values;
+          others = w .others;
+        }
 
     pub past-fault : {x : Refusal} → Fault x ≡ endOf (uncheckedValue version type at (drop at s)) → (r : Counted) → ValuesSkipped version s fields start r
     past-fault v r = record { ends = λ l n t h w m u f. next≢fault (sym (both l n t h w m u f .past) ∙ sym v) }
 
-    pub past-next : field < next → {end : ℕ} → Next end ≡ endOf (uncheckedValue version type at (drop at s)) → InPast version s fields start next end (count + 1)
+    pub past-next : field < next → {end : ℕ} → Next end ≡ endOf (uncheckedValue version type at (drop at s))
+        → InPast version s fields start next end (count + 1)
     past-next later {end} v = record {
       few = omega (arith, i .few);
       rest = λ l n t h w m u f.
@@ -121,7 +130,8 @@ module _ (version : ℕ) (s : List ℕ) (o at : ℕ) {r : Parsed} (e : r ≡ end
 
 -- ---- a block, with or without tests
 
-pub known-skipped : {version : ℕ} {s : List ℕ} {o at : ℕ} {known : Bool} {r : Counted} → known ≡ true → BlockSkipped version s o at r → KnownEnd version s o at known r
+pub known-skipped : {version : ℕ} {s : List ℕ} {o at : ℕ} {known : Bool} {r : Counted} → known ≡ true → BlockSkipped version s o at r
+    → KnownEnd version s o at known r
 unfolding endOf
 known-skipped {version} {s} {o} {at} {known} {r} e b = subst (λ k. KnownEnd version s o at k r) (sym e) (record {
   ends = λ p h a. b .ends p h (a .0) (a .1) (a .2) (a .3) ∙ ap (λ q. countedEnd (length (p .fields)) (endOf q)) (sym (a .3));

@@ -68,7 +68,8 @@ unfolding prototypesIn placed defineAll
 bare-all size at [] env = refl
 bare-all size at (i ∷ l) env = bare-all size (at + size i) l (consPrototype at i env) ∙ ap (defineAll l) (bare-cons at i env)
 
-bare-find : (id : ℕ) (env : List (Placed Prototype)) → getPrototype id (bare env) ≡ Option·map (λ (q : Placed Prototype). q .it) (findBy (λ (q : Placed Prototype). q .it .id) id env)
+bare-find : (id : ℕ) (env : List (Placed Prototype))
+    → getPrototype id (bare env) ≡ Option·map (λ (q : Placed Prototype). q .it) (findBy (λ (q : Placed Prototype). q .it .id) id env)
 unfolding findBy
 bare-find id [] = refl
 bare-find id (p ∷ env) =
@@ -76,8 +77,8 @@ bare-find id (p ∷ env) =
     ∙ sym (cond-map (λ (q : Placed Prototype). q .it) (eqb id (p .it .id)) p (findBy (λ (q : Placed Prototype). q .it .id) id env))
 
 -- the definition that a look-up of the tree finds, with its offset
-pub placed-at : {s t : List ℕ} {rows : ℕ} {env : List (Placed Prototype)} → Growing s t rows env → (id : ℕ) {r : FoundRow} {a b : ℕ} → r ≡ At a b → foundRow r ≡ lookupTree s t rows id
-    → {p : Prototype} → getPrototype id (bare env) ≡ some p
+pub placed-at : {s t : List ℕ} {rows : ℕ} {env : List (Placed Prototype)} → Growing s t rows env → (id : ℕ) {r : FoundRow} {a b : ℕ} → r ≡ At a b
+    → foundRow r ≡ lookupTree s t rows id → {p : Prototype} → getPrototype id (bare env) ≡ some p
     → (q : Placed Prototype) × (findBy (λ (q : Placed Prototype). q .it .id) id env ≡ some q) × (q .offset ≡ a) × (q .it ≡ p)
 placed-at {s} {t} {rows} {env} k id {r} {a} {b} e f {p} g = go (findBy (λ (q : Placed Prototype). q .it .id) id env) refl
   where

@@ -59,7 +59,7 @@ values-none : (version at : ℕ) (s : List ℕ) → Next at ≡ endOf (dataValue
 unfolding dataValuesParser success endOf
 values-none version at s = refl
 
--- ---- the loop: definitions from `field` on and values from `at` on end as all of them do, and `count` of them were passed, each definition with a byte at least
+-- ---- the loop: definitions from `field` on and values from `at` on end as all of them do, and `count` were passed, each definition with a byte at least
 
 pub record InStep (version : ℕ) (s : List ℕ) (fields start field at count : ℕ) : Type 0 where
   pub few : count ≤ field
@@ -78,10 +78,12 @@ module _ {version : ℕ} {s : List ℕ} {fields start field at count : ℕ} (i :
         let none = turn-last s field (k .1) e .0 in
         let all : count ≡ length (l .fields) = omega (arith, k .2, ap length none) in
         ap (λ c. Many c at) all
-        ∙ ap (countedEnd (length (l .fields))) (values-none version at (drop at s) ∙ ap (λ fs. endOf (dataValuesParser version fs at (drop at s))) (sym none) ∙ k .3);
+        ∙ ap (countedEnd (length (l .fields)))
+        (values-none version at (drop at s) ∙ ap (λ fs. endOf (dataValuesParser version fs at (drop at s))) (sym none) ∙ k .3);
   }
 
-  pub step-bad : {f : Refusal} → Bad f ≡ entryOf (field + 8) (entryWith uncheckedStr field (drop field s)) → (r : Counted) → ValuesEnd version s fields start r
+  pub step-bad : {f : Refusal} → Bad f ≡ entryOf (field + 8) (entryWith uncheckedStr field (drop field s)) → (r : Counted)
+      → ValuesEnd version s fields start r
   step-bad e r = record { ends = λ l n t h. turn-bad s field (i .rest l n t h .1) e }
 
   module _ {type a b next : ℕ} (e : Field type a b next ≡ entryOf (field + 8) (entryWith uncheckedStr field (drop field s))) where
@@ -92,7 +94,8 @@ module _ {version : ℕ} {s : List ℕ} {fields start field at count : ℕ} (i :
           let x = i .rest l n t h in
           let y = turn-field s field (x .1) e in
           ap (countedEnd (length (l .fields)))
-          (value-fault version (with (y .field) (take (next - field) (drop field s))) (y .rest .fields) s at (v ∙ ap (λ z. endOf (valueParser version z at (drop at s))) (y .typed))
+          (value-fault version (with (y .field) (take (next - field) (drop field s))) (y .rest .fields) s at
+          (v ∙ ap (λ z. endOf (valueParser version z at (drop at s))) (y .typed))
           ∙ ap (λ (z : Fields). endOf (dataValuesParser version (z .fields) at (drop at s))) (sym (y .list)) ∙ x .3);
     }
 
