@@ -13,12 +13,13 @@ use Rattle.bsii_format.specs.Blocks.{getPrototype}
 use Rattle.bsii_format.specs.File.{Record, prototype, block, recordBytes, recordsBytes, Records, lengthLimit, define, distinctIds}
 use Rattle.bsii_format.specs.Calls.{Placed, placed, consPrototype, prototypesIn}
 use Rattle.bsii_string.specs.declared.answers.Refusal.{Refusal}
-use Rattle.bsii_parse.specs.Walks.{blockCount, behind, recordsAt, bare, Growing, Ready, StepMeets, passed, ended, refused, Walks, done, stopped}
+use Rattle.bsii_parse.specs.Walks.{blockCount, prototypeCount, behind, recordsAt, bare, Growing, Ready, Goes, behind-prototype, behind-block, StepMeets, passed, ended, refused, Walks, done, stopped}
 use Rattle.bsii_parse.specs.declared.walk.Progress.{Progress}
 use Rattle.bsii_parse.specs.declared.walk.ReadStep.{ReadStep}
-use Rattle.bsii_parse.specs.declared.walk.ReadStep.the-variants.{Go, End, Refused}
+use Rattle.bsii_parse.specs.declared.walk.Under.{Under}
+use Rattle.bsii_parse.specs.declared.walk.ReadStep.the-variants.{Prototype as WentPrototype, Block as WentBlock, End, Refused}
 use Rattle.bsii_parse.specs.declared.walk.Walked.the-variants.{Done, Fault as Stopped}
-use Rattle.bsii_parse.proofs.Records.{behind-behind, blockCount-append}
+use Rattle.bsii_parse.proofs.Records.{behind-behind, blockCount-append, prototypeCount-append}
 use Rattle.bsii_parse.proofs.Tables.{growing-none, bare-cons}
 
 abbrev sizeOf : Record → ℕ
@@ -48,6 +49,8 @@ pub record Along (version : ℕ) (s : List ℕ) (start : ℕ) (t₀ : List ℕ) 
   pub inside : p .at ≤ length s
   pub counted : p .blocks ≤ p .at
   pub blocks : p .blocks ≡ blockCount so
+  pub defined : p .prototypes ≤ p .at
+  pub prototypes : p .prototypes ≡ prototypeCount so
   pub size : length t ≡ length t₀
   pub few : p .rows ≤ p .at
   pub kept : Growing s t (p .rows) (defsFrom start so)
@@ -59,14 +62,16 @@ behind-none (ok q at r) = refl
 behind-none (fault f) = refl
 
 pub along-start : {version : ℕ} (s : List ℕ) (start : ℕ) (t : List ℕ) → start ≤ length s
-    → Along version s start t (record { at = start; rows = 0; blocks = 0 }) t
-unfolding recordsBytes blockCount prototypesIn placed
+    → Along version s start t (record { at = start; rows = 0; blocks = 0; prototypes = 0 }) t
+unfolding recordsBytes blockCount prototypeCount prototypesIn placed
 along-start {version} s start t h = record {
   so = [];
   place = sym (add-zero start);
   inside = h;
   counted = omega arith;
   blocks = refl;
+  defined = omega arith;
+  prototypes = refl;
   size = refl;
   few = omega arith;
   kept = growing-none s t;
@@ -75,19 +80,29 @@ along-start {version} s start t h = record {
 
 pub along-ready : {version : ℕ} {s : List ℕ} {start : ℕ} {t₀ : List ℕ} {p : Progress} {t : List ℕ} → length s ≤ lengthLimit → Along version s start t₀ p t
     → Ready s p t
-along-ready h a = record { short = h; inside = a .inside; counted = a .counted; rows = a .kept .holds .valid; few = a .few }
+along-ready h a = record { short = h; inside = a .inside; counted = a .counted; defined = a .defined; rows = a .kept .holds .valid; few = a .few }
 
-go≢end : {P : Type 0} {q : Progress} {n : ℕ} → _≡_ {A = ReadStep} (Go q) (End n) → P
-go≢end e = let z : _≡_ {A = ℕ} 0 1 = cc in let f : ⊥ = omega arith in absurd f
+-- where a walk goes on behind a step
+abbrev Went : ReadStep → Progress → Type 0
+Went (WentPrototype p) q = p ≡ q
+Went (WentBlock p u) q = p ≡ q
+Went (End n) q = ⊥
+Went (Refused f) q = ⊥
 
-go≢refused : {P : Type 0} {q : Progress} {f : Refusal} → _≡_ {A = ReadStep} (Go q) (Refused f) → P
-go≢refused e = let z : _≡_ {A = ℕ} 0 1 = cc in let f : ⊥ = omega arith in absurd f
+went : {env : List (Placed Prototype)} {p : Progress} {i : Record} {r : ReadStep} → Goes env p i r → {q : Progress} → Went r q → p ≡ q
+went behind-prototype e = e
+went (behind-block p f) e = e
+
+goes≢end : {P : Type 0} {env : List (Placed Prototype)} {p : Progress} {i : Record} {r : ReadStep} → Goes env p i r → {n : ℕ} → r ≡ End n → P
+goes≢end behind-prototype e = let z : _≡_ {A = ℕ} 0 1 = cc in let f : ⊥ = omega arith in absurd f
+goes≢end (behind-block p f) e = let z : _≡_ {A = ℕ} 0 1 = cc in let f : ⊥ = omega arith in absurd f
+
+goes≢refused : {P : Type 0} {env : List (Placed Prototype)} {p : Progress} {i : Record} {r : ReadStep} → Goes env p i r → {f : Refusal} → r ≡ Refused f → P
+goes≢refused behind-prototype e = let z : _≡_ {A = ℕ} 0 1 = cc in let f : ⊥ = omega arith in absurd f
+goes≢refused (behind-block p f) e = let z : _≡_ {A = ℕ} 0 1 = cc in let f : ⊥ = omega arith in absurd f
 
 end≢refused : {P : Type 0} {n : ℕ} {f : Refusal} → _≡_ {A = ReadStep} (End n) (Refused f) → P
 end≢refused e = let z : _≡_ {A = ℕ} 0 1 = cc in let f : ⊥ = omega arith in absurd f
-
-go-inj : {p q : Progress} → _≡_ {A = ReadStep} (Go p) (Go q) → p ≡ q
-go-inj e = cc
 
 -- a record defines one id at most
 distinct-more : (i : Record) (env : List Prototype) → distinctIds (define i env) ≤ suc (distinctIds env)
@@ -112,13 +127,13 @@ module _ {version : ℕ} {s : List ℕ} {start : ℕ} {t₀ : List ℕ} {p : Pro
   from-here : {q : Result Records} → recordsAt version (length t / 3) (bare (defsFrom start (a .so))) (p .at) s ≡ q → recordsAt version (length t₀ / 3) [] start s ≡ behind (a .so) q
   from-here e = a .rest ∙ ap (behind (a .so)) (ap (λ m. recordsAt version m (bare (defsFrom start (a .so))) (p .at) s) (sym rooms) ∙ e)
 
-  pub along-step : {r : ReadStep} {t′ : List ℕ} → StepMeets version s p t (defsFrom start (a .so)) r t′ → {q : Progress} → r ≡ Go q
+  along-step : {r : ReadStep} {t′ : List ℕ} → StepMeets version s p t (defsFrom start (a .so)) r t′ → {q : Progress} → Went r q
       → Further version s start t₀ p q t′
-  unfolding blockCount
-  along-step {t′ = t′} (passed i {n = n} {rows = rows} e on inside place kept size) z =
+  unfolding blockCount prototypeCount
+  along-step {t′ = t′} (passed i {n = n} {rows = rows} e on inside place kept size goes) z =
       let defs : defsFrom start (a .so ++ (i ∷ [])) ≡ consPrototype (p .at) i (defsFrom start (a .so)) =
       defs-snoc start (a .so) i [] ∙ ap (λ m. consPrototype m i (defsFrom start (a .so))) (sym (a .place)) in
-      subst (λ w. Further version s start t₀ p w t′) (go-inj z) (record {
+      subst (λ w. Further version s start t₀ p w t′) (went goes z) (record {
         on = on;
         along = record {
           so = a .so ++ (i ∷ []);
@@ -126,6 +141,8 @@ module _ {version : ℕ} {s : List ℕ} {start : ℕ} {t₀ : List ℕ} {p : Pro
           inside = inside;
           counted = more-blocks i (p .blocks) (a .counted) on;
           blocks = ap (λ m. m + blockCount (i ∷ [])) (a .blocks) ∙ sym (blockCount-append (a .so) (i ∷ []));
+          defined = more-prototypes i (p .prototypes) (a .defined) on;
+          prototypes = ap (λ m. m + prototypeCount (i ∷ [])) (a .prototypes) ∙ sym (prototypeCount-append (a .so) (i ∷ []));
           size = size ∙ a .size;
           few = omega (
             arith,
@@ -146,26 +163,39 @@ module _ {version : ℕ} {s : List ℕ} {start : ℕ} {t₀ : List ℕ} {p : Pro
       more-blocks : (i : Record) (b : ℕ) {at n : ℕ} → b ≤ at → at < n → b + blockCount (i ∷ []) ≤ n
       more-blocks (prototype x) b h k = unfold blockCount in omega arith
       more-blocks (block x) b h k = unfold blockCount in omega arith
-  along-step (ended e) z = go≢end (sym z)
-  along-step (refused e l) z = go≢refused (sym z)
+
+      more-prototypes : (i : Record) (b : ℕ) {at n : ℕ} → b ≤ at → at < n → b + prototypeCount (i ∷ []) ≤ n
+      more-prototypes (prototype x) b h k = unfold prototypeCount in omega arith
+      more-prototypes (block x) b h k = unfold prototypeCount in omega arith
+  along-step (ended e) z = absurd z
+  along-step (refused e l) z = absurd z
+
+  pub along-prototype : {r : ReadStep} {t′ : List ℕ} → StepMeets version s p t (defsFrom start (a .so)) r t′ → {q : Progress} → r ≡ WentPrototype q
+      → Further version s start t₀ p q t′
+  along-prototype m {q} z = along-step m (subst (λ r. Went r q) (sym z) refl)
+
+  pub along-block : {r : ReadStep} {t′ : List ℕ} → StepMeets version s p t (defsFrom start (a .so)) r t′ → {q : Progress} {u : Under} → r ≡ WentBlock q u
+      → Further version s start t₀ p q t′
+  along-block m {q} z = along-step m (subst (λ r. Went r q) (sym z) refl)
 
   pub along-end : {r : ReadStep} {t′ : List ℕ} → StepMeets version s p t (defsFrom start (a .so)) r t′ → {n : ℕ} → r ≡ End n
-      → Walks version s start t₀ (Done (record { version = version; rows = p .rows; blocks = p .blocks; next = n })) t′
-  along-end (passed i e on inside place kept size) z = go≢end z
+      → Walks version s start t₀ (Done (record { version = version; rows = p .rows; blocks = p .blocks; prototypes = p .prototypes; next = n })) t′
+  along-end (passed i e on inside place kept size goes) z = goes≢end goes z
   along-end (refused e l) z = end≢refused (sym z)
   along-end (ended {l = l} {n = m} e) {n} z =
       let here : m ≡ n = cc in
       let q : Records = record { records = a .so; end = l } in
       let all : recordsAt version (length t₀ / 3) [] start s ≡ ok q m (drop m s) = from-here e ∙ last l m in
-      subst (λ k. Walks version s start t₀ (Done (record { version = version; rows = p .rows; blocks = p .blocks; next = k })) t) here
-      (subst (λ k. Walks version s start t₀ (Done (record { version = version; rows = p .rows; blocks = k; next = m })) t) (sym (a .blocks))
-      (done q all (a .kept) (a .size)))
+      subst (λ k. Walks version s start t₀ (Done (record { version = version; rows = p .rows; blocks = p .blocks; prototypes = p .prototypes; next = k })) t) here
+      (subst (λ k. Walks version s start t₀ (Done (record { version = version; rows = p .rows; blocks = k; prototypes = p .prototypes; next = m })) t) (sym (a .blocks))
+      (subst (λ k. Walks version s start t₀ (Done (record { version = version; rows = p .rows; blocks = blockCount (a .so); prototypes = k; next = m })) t) (sym (a .prototypes))
+      (done q all (a .kept) (a .size))))
     where
       last : (l : List ℕ) (m : ℕ) → behind (a .so) (ok (record { records = []; end = l }) m (drop m s)) ≡ ok (record { records = a .so; end = l }) m (drop m s)
       last l m = unfold behind in ap (λ w. ok (record { records = w; end = l }) m (drop m s)) (append-nil (a .so))
 
   pub along-stop : {r : ReadStep} {t′ : List ℕ} → StepMeets version s p t (defsFrom start (a .so)) r t′ → {f : Refusal} → r ≡ Refused f → Walks version s start t₀ (Stopped f) t′
   unfolding behind
-  along-stop (passed i e on inside place kept size) z = go≢refused z
+  along-stop (passed i e on inside place kept size goes) z = goes≢refused goes z
   along-stop (ended e) z = end≢refused z
   along-stop {t′ = t′} (refused {f = x} e l) {f} z = let same : x ≡ f = cc in subst (λ w. Walks version s start t₀ (Stopped w) t′) same (stopped (from-here e) (l ∙ a .size))

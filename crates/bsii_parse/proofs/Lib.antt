@@ -5,3 +5,4 @@ pub mod Passing
 pub mod Along
 pub mod Whole
 pub mod Values
+pub mod Skipped

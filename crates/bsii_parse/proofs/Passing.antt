@@ -1,19 +1,20 @@
 -- The steps of the reading walk, case by case: what the code found at a record, and what the records from there on are.
-use mathlib.Core.Path.{_≡_, refl, sym, ap, _∙_, subst}
+use mathlib.Core.Path.{_≡_, refl, sym, ap, ap₂, _∙_, subst}
 use Prim.Native.Nat.{ℕ, _+_, _-_, _/_}
 use native.Mathlib.Nat.{add-zero}
 use native.Mathlib.Omega.{arith}
-use mathlib.Core.Bool.{true}
+use mathlib.Core.Bool.{Bool, true, false}
+use mathlib.Core.Option.{some}
 use mathlib.Core.List.{List, [], _∷_}
 use lib.ListN.{length, drop}
 use Rattle.bsii_format.specs.Replies.{undefinedPrototype, tableFull}
 use Rattle.bsii_format.specs.Reader.{Result, ok, fault, _>>=_, Consumed}
 use Rattle.bsii_format.specs.Strings.{idParser}
 use Rattle.bsii_format.specs.Prototypes.{ValuePrototype, Prototype, Fields, fieldsParser}
-use Rattle.bsii_format.specs.Blocks.{DataValue, dataValuesParser}
-use Rattle.bsii_format.specs.File.{Record, prototype, block, ending, defining, carrying, headParser, more, recordParser, hasRoom}
+use Rattle.bsii_format.specs.Blocks.{DataValue, findBy, getPrototype, dataValuesParser}
+use Rattle.bsii_format.specs.File.{Record, prototype, block, ending, defining, carrying, headParser, Step, more, recordParser, hasRoom}
 use Rattle.bsii_format.specs.Calls.{Placed, consPrototype}
-use Rattle.bsii_format.proofs.Readers.{Exact, bind-exact}
+use Rattle.bsii_format.proofs.Readers.{Exact, bind-exact, fault≢ok}
 use Rattle.bsii_format.proofs.Parsers.{id-exact}
 use Rattle.bsii_format.proofs.Records.{stepBytes, record-good, fields-good, fields-fits, values-good, values-fits, record-exact, record-empty}
 use Rattle.bsii_format.proofs.Positions.{moved, moved-on}
@@ -31,16 +32,18 @@ use Rattle.bsii_tree.specs.declared.Defined.{Defined}
 use Rattle.bsii_tree.specs.declared.Defined.the-variants.{Rows, Full}
 use Rattle.bsii_tree.proofs.Relation.{is-put, is-full, define-grows, define-room, define-full}
 use Rattle.bsii_prototype.specs.Answers.{countOf, headIs}
+use Rattle.bsii_prototype.specs.declared.answers.Counted.{Counted}
 use Rattle.bsii_prototype.specs.declared.answers.Counted.the-variants.{Fields as Counted-Fields, Fault as Counted-Fault}
 use Rattle.bsii_prototype.specs.declared.answers.Head.{Head as HeadAnswer}
 use Rattle.bsii_prototype.specs.declared.answers.Head.the-variants.{End as HeadEnd, Prototype as HeadPrototype, Block as HeadBlock, BadHead}
-use Rattle.bsii_parse.specs.Walks.{DefinedAt, DefinedEnd, blockCount, behind, recordsAt, bare, Growing, StepMeets, passed, ended as atEnd, refused, Stepped, Defining, Carrying}
+use Rattle.bsii_parse.specs.Walks.{DefinedAt, countedEnd, Assured, KnownEnd, blockCount, prototypeCount, behind, recordsAt, bare, Growing, Goes, behind-prototype, behind-block, StepMeets, passed, ended as atEnd, refused, Stepped, Defining, Carrying}
 use Rattle.bsii_parse.specs.declared.walk.Progress.{Progress}
 use Rattle.bsii_parse.specs.declared.walk.ReadStep.{ReadStep}
-use Rattle.bsii_parse.specs.declared.walk.ReadStep.the-variants.{Go, End, Refused}
+use Rattle.bsii_parse.specs.declared.walk.ReadStep.the-variants.{Prototype as WentPrototype, Block as WentBlock, End, Refused}
+use Rattle.bsii_parse.specs.declared.walk.Under.{Under}
 use Rattle.bsii_parse.proofs.Records.{records-fault, records-end, records-full, records-more}
-use Rattle.bsii_parse.proofs.RecordSteps.{record-fault, record-end, prototypeOf, record-prototype, record-fields-fault, record-undefined, record-block-fault, record-block}
-use Rattle.bsii_parse.proofs.Tables.{offsets-put, bare-cons}
+use Rattle.bsii_parse.proofs.RecordSteps.{record-fault, record-end, prototypeOf, record-prototype, record-fields-fault, record-undefined, record-block-fault, block-accepted, record-block}
+use Rattle.bsii_parse.proofs.Tables.{offsets-put, bare-cons, placed-at}
 
 -- ---- the list of definitions is exact
 
@@ -63,22 +66,43 @@ block-exact version fs = bind-exact _ id-exact (λ i. values-exact fs)
           (_, record { front = g .front; place = g .place; fits = values-fits (g .good) });
     }
 
+-- where the records from here on are accepted, so is the block here
+assured-body : (version rooms : ℕ) (env : List Prototype) (at : ℕ) (s : List ℕ) {id n : ℕ} {p : Prototype} → headParser at (drop at s) ≡ ok (carrying id) n (drop n s) → getPrototype id env ≡ some p
+    → (known : Bool) → Assured known (recordsAt version rooms env at s) → Assured known ((idParser >>= (λ i. dataValuesParser version (p .fields))) n (drop n s))
+assured-body version rooms env at s h k false y = tt
+assured-body version rooms env at s {n = n} {p = p} h k true y = go (recordParser version env at (drop at s)) refl
+  where
+    go : (q : Result Step) → recordParser version env at (drop at s) ≡ q → Assured true ((idParser >>= (λ i. dataValuesParser version (p .fields))) n (drop n s))
+    go (ok z m t) e = let x = block-accepted version env at (drop at s) h k e in (x .0, m, t, x .1)
+    go (fault f) e = fault≢ok (sym (records-fault version rooms env at s e) ∙ y .3)
+
+-- what a counted end says of the end
+ended-next : {k c n : ℕ} (e : Parsed) → Counted-Fields c n ≡ countedEnd k e → (c ≡ k) × (Next n ≡ e)
+ended-next (Next m) h = (cc, cc)
+ended-next (Fault f) h = let z : _≡_ {A = ℕ} 0 1 = cc in absurd (omega arith)
+
+ended-fault : (k : ℕ) {f : Refusal} (e : Parsed) → Counted-Fault f ≡ countedEnd k e → Fault f ≡ e
+ended-fault k (Next m) h = let z : _≡_ {A = ℕ} 0 1 = cc in absurd (omega arith)
+ended-fault k (Fault f) h = cc
+
 module _ {version : ℕ} {s : List ℕ} {p : Progress} {t : List ℕ} {env : List (Placed Prototype)} where
   -- ---- any record
 
   step-fault : {f : Refusal} {t′ : List ℕ} → recordParser version (bare env) (p .at) (drop (p .at) s) ≡ fault (faultIs f) → length t′ ≡ length t → StepMeets version s p t env (Refused f) t′
   step-fault e l = refused (records-fault version (length t / 3) (bare env) (p .at) s e) l
 
-  step-passed : (i : Record) {n rows : ℕ} {t′ : List ℕ} → recordParser version (bare env) (p .at) (drop (p .at) s) ≡ ok (more i) n (drop n s) → hasRoom (length t / 3) (bare env) i ≡ true
-      → Growing s t′ rows (consPrototype (p .at) i env) → length t′ ≡ length t → StepMeets version s p t env (Go (record { at = n; rows = rows; blocks = p .blocks + blockCount (i ∷ []) })) t′
+  step-passed : (i : Record) {n rows : ℕ} {r : ReadStep} {t′ : List ℕ} → recordParser version (bare env) (p .at) (drop (p .at) s) ≡ ok (more i) n (drop n s) → hasRoom (length t / 3) (bare env) i ≡ true
+      → Growing s t′ rows (consPrototype (p .at) i env) → length t′ ≡ length t
+      → Goes env (record { at = n; rows = rows; blocks = p .blocks + blockCount (i ∷ []); prototypes = p .prototypes + prototypeCount (i ∷ []) }) i r
+      → StepMeets version s p t env r t′
   unfolding stepBytes
-  step-passed i {n} e h k l =
+  step-passed i {n} e h k l g =
       let m = moved-on (record-exact version (bare env)) (record-empty version (bare env) 0) s (p .at) e in
-      let g = record-good (bare env) (p .at) (drop (p .at) s) (more i) n (drop n s) e in
+      let d = record-good (bare env) (p .at) (drop (p .at) s) (more i) n (drop n s) e in
       passed i
       (records-more version (length t / 3) (bare env) (p .at) s e h
       ∙ ap (λ z. behind (i ∷ []) (recordsAt version (length t / 3) z n s)) (sym (bare-cons (p .at) i env)))
-      (m .0) (m .1) (g .place) k l
+      (m .0) (m .1) (d .place) k l g
 
   -- ---- by the head
 
@@ -103,16 +127,16 @@ module _ {version : ℕ} {s : List ℕ} {p : Progress} {t : List ℕ} {env : Lis
         refused (records-full version (length t / 3) (bare env) (p .at) s (record-prototype version (bare env) (p .at) (drop (p .at) s) h e) (define-full (DefinedAt s) (k .holds) one refl f d)) (ap length (x .same))
 
     pub prototype-passed : {l : Fields} {n rows : ℕ} {d : Defined} {t′ : List ℕ} → fieldsParser fields (drop fields s) ≡ ok l n (drop n s) → Growing s t (p .rows) env → d ≡ Rows rows
-        → Defines s t (p .rows) id (p .at) d t′ → StepMeets version s p t env (Go (record { at = n; rows = rows; blocks = p .blocks })) t′
-    unfolding prototypeOf blockCount consPrototype
+        → Defines s t (p .rows) id (p .at) d t′ → StepMeets version s p t env (WentPrototype (record { at = n; rows = rows; blocks = p .blocks; prototypes = p .prototypes + 1 })) t′
+    unfolding prototypeOf blockCount prototypeCount consPrototype
     prototype-passed {l} {n} {rows} {d} {t′} e k f w =
         let x = is-put f w in
         let one = prototypeOf (p .at) (drop (p .at) s) id name fields l in
         let stands : DefinedAt s (p .at) one = record { fields = fields; next = n; head = h; list = e } in
-        subst (λ b. StepMeets version s p t env (Go (record { at = n; rows = rows; blocks = b })) t′) (add-zero (p .blocks))
+        subst (λ b. StepMeets version s p t env (WentPrototype (record { at = n; rows = rows; blocks = b; prototypes = p .prototypes + 1 })) t′) (add-zero (p .blocks))
         (step-passed (prototype one) (record-prototype version (bare env) (p .at) (drop (p .at) s) h e) (define-room (DefinedAt s) (k .holds) one refl f w)
         (record { holds = define-grows (DefinedAt s) (k .holds) one refl stands f w; offsets = offsets-put s t (p .rows) t′ rows env one (p .at) x (k .offsets) })
-        (x .size))
+        (x .size) behind-prototype)
 
   -- ---- a block
 
@@ -120,19 +144,27 @@ module _ {version : ℕ} {s : List ℕ} {p : Progress} {t : List ℕ} {env : Lis
     pub block-undefined : {r : FoundRow} → r ≡ Nothing → foundRow r ≡ lookupTree s t (p .rows) id → StepMeets version s p t env (Refused (refusedAt undefinedPrototype (p .at))) t
     block-undefined e f = step-fault (record-undefined version (bare env) (p .at) (drop (p .at) s) h (found-nothing (DefinedAt s) (k .holds) id e f)) refl
 
-    module _ {r : FoundRow} {a b : ℕ} (e : r ≡ At a b) (f : foundRow r ≡ lookupTree s t (p .rows) id) {q : Parsed} (w : DefinedEnd version s a at q) where
-      pub block-fault : {x : Refusal} → q ≡ Fault x → StepMeets version s p t env (Refused x) t
+    module _ {r : FoundRow} {a b : ℕ} (e : r ≡ At a b) (f : foundRow r ≡ lookupTree s t (p .rows) id) {known : Bool} {q : Counted} (w : KnownEnd version s a at known q)
+        (y : Assured known (recordsAt version (length t / 3) (bare env) (p .at) s)) where
+      pub block-fault : {x : Refusal} → q ≡ Counted-Fault x → StepMeets version s p t env (Refused x) t
       block-fault z =
           let x = found-at (DefinedAt s) (k .holds) id e f in
-          step-fault (record-block-fault version (bare env) (p .at) (drop (p .at) s) h (x .1) (fault-ended _ (sym z ∙ w .ends (x .0) (x .2)))) refl
+          let v = w .ends (x .0) (x .2) (assured-body version (length t / 3) (bare env) (p .at) s h (x .1) known y) in
+          step-fault (record-block-fault version (bare env) (p .at) (drop (p .at) s) h (x .1) (fault-ended _ (ended-fault (length (x .0 .fields)) _ (sym z ∙ v)))) refl
 
-      pub block-passed : {n : ℕ} → q ≡ Next n → StepMeets version s p t env (Go (record { at = n; rows = p .rows; blocks = p .blocks + 1 })) t
-      unfolding blockCount consPrototype hasRoom
-      block-passed {n} z =
+      pub block-passed : {c n : ℕ} → q ≡ Counted-Fields c n
+          → StepMeets version s p t env (WentBlock (record { at = n; rows = p .rows; blocks = p .blocks + 1; prototypes = p .prototypes }) (record { offset = a; fields = c })) t
+      unfolding blockCount prototypeCount consPrototype hasRoom
+      block-passed {c} {n} z =
           let x = found-at (DefinedAt s) (k .holds) id e f in
-          let e = next-ended (block-exact version (x .0 .fields)) s at (sym z ∙ w .ends (x .0) (x .2)) in
-          let y = record-block version (bare env) (p .at) (drop (p .at) s) h (x .1) e in
-          step-passed (block (y .0)) (y .1) refl k refl
+          let v = ended-next _ (sym z ∙ w .ends (x .0) (x .2) (assured-body version (length t / 3) (bare env) (p .at) s h (x .1) known y)) in
+          let b = record-block version (bare env) (p .at) (drop (p .at) s) h (x .1) (next-ended (block-exact version (x .0 .fields)) s at (v .1)) in
+          let d = placed-at k id e f (x .1) in
+          let many : length (d .0 .it .fields) ≡ c = ap (λ (q : Prototype). length (q .fields)) (d .3) ∙ sym (v .0) in
+          let found = ap (λ m. findBy (λ (q : Placed Prototype). q .it .id) m env) (b .2) ∙ d .1 in
+          subst (λ r. StepMeets version s p t env r t)
+          (ap₂ WentBlock (ap (λ m. record { at = n; rows = p .rows; blocks = p .blocks + 1; prototypes = m }) (add-zero (p .prototypes))) (ap₂ (λ (o m : ℕ). record { offset = o; fields = m }) (d .2) many))
+          (step-passed (block (b .0)) (b .1) refl k refl (behind-block (d .0) found))
 
 -- ---- the same for the code's answers
 
@@ -159,30 +191,34 @@ module _ {s : List ℕ} {p : Progress} {t : List ℕ} {id fields : ℕ} where
       steps = λ version env k name h. prototype-full h (counted-is s fields e .1) k f (subst (λ z. Defines s t (p .rows) id z d t′) w x);
     }
 
-    pub defining-passed : {rows : ℕ} → d ≡ Rows rows → Defining s p t id fields (Go (record { at = n; rows = rows; blocks = p .blocks })) t′
+    pub defining-passed : {rows : ℕ} → d ≡ Rows rows
+        → Defining s p t id fields (WentPrototype (record { at = n; rows = rows; blocks = p .blocks; prototypes = p .prototypes + 1 })) t′
     defining-passed f = record { steps = λ version env k name h. prototype-passed h (counted-is s fields e .1) k f (subst (λ z. Defines s t (p .rows) id z d t′) w x) }
 
-module _ {version : ℕ} {s : List ℕ} {p : Progress} {t : List ℕ} {id at : ℕ} {r : FoundRow} (f : foundRow r ≡ lookupTree s t (p .rows) id) where
-  pub carrying-undefined : r ≡ Nothing → Carrying version s p t id at (Refused (refusedAt undefinedPrototype (p .at)))
-  carrying-undefined e = record { steps = λ env k h. block-undefined h k e f }
+module _ {version : ℕ} {s : List ℕ} {p : Progress} {t : List ℕ} {id at : ℕ} {known : Bool} {r : FoundRow} (f : foundRow r ≡ lookupTree s t (p .rows) id) where
+  pub carrying-undefined : r ≡ Nothing → Carrying version s p t known id at (Refused (refusedAt undefinedPrototype (p .at)))
+  carrying-undefined e = record { steps = λ env k y h. block-undefined h k e f }
 
-  module _ {a b : ℕ} (e : r ≡ At a b) {z : ℕ} (i : z ≡ a) {q : Parsed} (w : DefinedEnd version s z at q) where
-    pub carrying-fault : {x : Refusal} → q ≡ Fault x → Carrying version s p t id at (Refused x)
-    carrying-fault y = record { steps = λ env k h. block-fault h k e f (subst (λ x. DefinedEnd version s x at q) i w) y }
+  module _ {a b : ℕ} (e : r ≡ At a b) {z : ℕ} (i : z ≡ a) {q : Counted} (w : KnownEnd version s z at known q) where
+    pub carrying-fault : {x : Refusal} → q ≡ Counted-Fault x → Carrying version s p t known id at (Refused x)
+    carrying-fault v = record { steps = λ env k y h. block-fault h k e f (subst (λ x. KnownEnd version s x at known q) i w) y v }
 
-    pub carrying-passed : {n : ℕ} → q ≡ Next n → Carrying version s p t id at (Go (record { at = n; rows = p .rows; blocks = p .blocks + 1 }))
-    carrying-passed y = record { steps = λ env k h. block-passed h k e f (subst (λ x. DefinedEnd version s x at q) i w) y }
+    pub carrying-passed : {c n : ℕ} → q ≡ Counted-Fields c n
+        → Carrying version s p t known id at (WentBlock (record { at = n; rows = p .rows; blocks = p .blocks + 1; prototypes = p .prototypes }) (record { offset = z; fields = c }))
+    carrying-passed {c} {n} v = subst (λ o. Carrying version s p t known id at (WentBlock (record { at = n; rows = p .rows; blocks = p .blocks + 1; prototypes = p .prototypes }) (record { offset = o; fields = c }))) (sym i) (record {
+      steps = λ env k y h. block-passed h k e f (subst (λ x. KnownEnd version s x at known q) i w) y v;
+    })
 
-module _ {version : ℕ} {s : List ℕ} {p : Progress} {t : List ℕ} {h : HeadAnswer} (e : headIs s h ≡ headParser (p .at) (drop (p .at) s)) where
-  pub stepped-end : {n : ℕ} → h ≡ HeadEnd n → Stepped version s p t (End n) t
-  stepped-end z = record { steps = λ env k. step-end (sym e ∙ ap (headIs s) z) }
+module _ {version : ℕ} {s : List ℕ} {p : Progress} {t : List ℕ} {known : Bool} {h : HeadAnswer} (e : headIs s h ≡ headParser (p .at) (drop (p .at) s)) where
+  pub stepped-end : {n : ℕ} → h ≡ HeadEnd n → Stepped version s p t known (End n) t
+  stepped-end z = record { steps = λ env k y. step-end (sym e ∙ ap (headIs s) z) }
 
-  pub stepped-bad : {f : Refusal} → h ≡ BadHead f → Stepped version s p t (Refused f) t
-  stepped-bad z = record { steps = λ env k. step-head-fault (sym e ∙ ap (headIs s) z) }
+  pub stepped-bad : {f : Refusal} → h ≡ BadHead f → Stepped version s p t known (Refused f) t
+  stepped-bad z = record { steps = λ env k y. step-head-fault (sym e ∙ ap (headIs s) z) }
 
   pub stepped-defining : {id name next : ℕ} {r : ReadStep} {t′ : List ℕ} → h ≡ HeadPrototype id name next → Defining s p t id next r t′
-      → Stepped version s p t r t′
-  stepped-defining z d = record { steps = λ env k. d .steps version env k _ (sym e ∙ ap (headIs s) z) }
+      → Stepped version s p t known r t′
+  stepped-defining z d = record { steps = λ env k y. d .steps version env k _ (sym e ∙ ap (headIs s) z) }
 
-  pub stepped-carrying : {id next : ℕ} {r : ReadStep} → h ≡ HeadBlock id next → Carrying version s p t id next r → Stepped version s p t r t
-  stepped-carrying z d = record { steps = λ env k. d .steps env k (sym e ∙ ap (headIs s) z) }
+  pub stepped-carrying : {id next : ℕ} {r : ReadStep} → h ≡ HeadBlock id next → Carrying version s p t known id next r → Stepped version s p t known r t
+  stepped-carrying z d = record { steps = λ env k y. d .steps env k y (sym e ∙ ap (headIs s) z) }

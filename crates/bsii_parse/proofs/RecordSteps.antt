@@ -79,6 +79,12 @@ module _ (version : ℕ) (env : List Prototype) (at : ℕ) (s : List ℕ) {id n 
       → recordParser version env at s ≡ fault f
   record-block-fault h = is-fault (recordParser version env at s) (block-ended version env at s e k ∙ h)
 
+  -- where the record is accepted, its id and values are
+  pub block-accepted : {z : Step} {m : ℕ} {t : List ℕ} → recordParser version env at s ≡ ok z m t
+      → (l : List DataValue) × ((idParser >>= (λ i. dataValuesParser version (p .fields))) n r ≡ ok l m t)
+  unfolding ended
+  block-accepted h = is-ok ((idParser >>= (λ i. dataValuesParser version (p .fields))) n r) (sym (block-ended version env at s e k) ∙ ap ended h)
+
   is-block : {z : Step} {m : ℕ} {t : List ℕ} → recordParser version env at s ≡ ok z m t → (b : DataBlock) × (z ≡ more (block b)) × (b .prototypeId ≡ id)
   unfolding _>>=_ _<$>_ after success blockStep consumed
   is-block {z} {m} {t} h = go (idParser n r) (sym (block-as version env at s e k) ∙ h)

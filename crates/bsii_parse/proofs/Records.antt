@@ -12,7 +12,7 @@ use Rattle.bsii_format.specs.Prototypes.{Prototype}
 use Rattle.bsii_format.specs.File.{Record, prototype, block, Step, end, more, recordParser, define, hasRoom, Records, consRecord, recordsThen, recordsFrom, defineAll}
 use Rattle.bsii_format.proofs.Readers.{shorter}
 use Rattle.bsii_format.proofs.Records.{record-exact, record-empty}
-use Rattle.bsii_parse.specs.Walks.{blockCount, behind, recordsAt}
+use Rattle.bsii_parse.specs.Walks.{blockCount, prototypeCount, behind, recordsAt}
 
 -- ---- the fuel does not show
 
@@ -99,3 +99,9 @@ unfolding blockCount
 blockCount-append [] b = omega arith
 blockCount-append (prototype p ∷ a) b = blockCount-append a b
 blockCount-append (block x ∷ a) b = omega (arith, blockCount-append a b)
+
+pub prototypeCount-append : (a b : List Record) → prototypeCount (a ++ b) ≡ prototypeCount a + prototypeCount b
+unfolding prototypeCount
+prototypeCount-append [] b = omega arith
+prototypeCount-append (prototype p ∷ a) b = omega (arith, prototypeCount-append a b)
+prototypeCount-append (block x ∷ a) b = prototypeCount-append a b

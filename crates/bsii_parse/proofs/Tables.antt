@@ -8,14 +8,17 @@ use mathlib.Core.List.{List, [], _∷_, _++_, map}
 use lib.ListN.{length, drop}
 use lib.Dec.{eqb}
 use Rattle.bsii_format.specs.Prototypes.{Prototype}
-use Rattle.bsii_format.specs.Blocks.{findBy}
+use Rattle.bsii_format.specs.Blocks.{findBy, getPrototype}
 use Rattle.bsii_format.specs.Reader.{ok}
 use Rattle.bsii_format.specs.File.{Record, prototype, block, recordBytes, define, defineAll, defining, headParser}
 use Rattle.bsii_format.specs.Calls.{Placed, placed, consPrototype, prototypesIn}
 use Rattle.bsii_table.specs.Rows.{Row, offsets, lookupFrom}
+use Rattle.bsii_table.specs.Table.{foundRow}
+use Rattle.bsii_table.specs.declared.FoundRow.{FoundRow}
+use Rattle.bsii_table.specs.declared.FoundRow.the-variants.{At}
 use Rattle.bsii_tree.specs.Table.{lookupTree, Puts, Named}
 use Rattle.bsii_tree.proofs.Ids.{head-id}
-use Rattle.bsii_tree.proofs.Relation.{grows-none}
+use Rattle.bsii_tree.proofs.Relation.{grows-none, offsets-same}
 use Rattle.bsii_order.specs.Ordered.{Ordered}
 use Rattle.bsii_order.proofs.Rows.{order-holds}
 use Rattle.bsii_parse.specs.declared.walk.Progress.{Progress}
@@ -64,3 +67,32 @@ pub bare-all : (size : Record → ℕ) (at : ℕ) (l : List Record) (env : List 
 unfolding prototypesIn placed defineAll
 bare-all size at [] env = refl
 bare-all size at (i ∷ l) env = bare-all size (at + size i) l (consPrototype at i env) ∙ ap (defineAll l) (bare-cons at i env)
+
+bare-find : (id : ℕ) (env : List (Placed Prototype)) → getPrototype id (bare env) ≡ Option·map (λ (q : Placed Prototype). q .it) (findBy (λ (q : Placed Prototype). q .it .id) id env)
+unfolding findBy
+bare-find id [] = refl
+bare-find id (p ∷ env) =
+    ap (cond (eqb id (p .it .id)) (some (p .it))) (bare-find id env)
+    ∙ sym (cond-map (λ (q : Placed Prototype). q .it) (eqb id (p .it .id)) p (findBy (λ (q : Placed Prototype). q .it .id) id env))
+
+-- the definition that a look-up of the tree finds, with its offset
+pub placed-at : {s t : List ℕ} {rows : ℕ} {env : List (Placed Prototype)} → Growing s t rows env → (id : ℕ) {r : FoundRow} {a b : ℕ} → r ≡ At a b → foundRow r ≡ lookupTree s t rows id
+    → {p : Prototype} → getPrototype id (bare env) ≡ some p
+    → (q : Placed Prototype) × (findBy (λ (q : Placed Prototype). q .it .id) id env ≡ some q) × (q .offset ≡ a) × (q .it ≡ p)
+placed-at {s} {t} {rows} {env} k id {r} {a} {b} e f {p} g = go (findBy (λ (q : Placed Prototype). q .it .id) id env) refl
+  where
+    row : lookupTree s t rows id ≡ some (offsets a b)
+    row = sym f ∙ ap foundRow e
+
+    go : (o : Option (Placed Prototype)) → findBy (λ (q : Placed Prototype). q .it .id) id env ≡ o
+        → (q : Placed Prototype) × (findBy (λ (q : Placed Prototype). q .it .id) id env ≡ some q) × (q .offset ≡ a) × (q .it ≡ p)
+    go none h =
+        let x : none ≡ some p = sym (bare-find id env ∙ ap (Option·map (λ (q : Placed Prototype). q .it)) h) ∙ g in
+        let z : _≡_ {A = ℕ} 0 1 = cc in
+        absurd (omega arith)
+    go (some q) h =
+        let x : some (q .it) ≡ some p = sym (bare-find id env ∙ ap (Option·map (λ (q : Placed Prototype). q .it)) h) ∙ g in
+        let y : some b ≡ some (q .offset) =
+        sym (ap (Option·map (λ (r : Row). r .last)) row) ∙ k .offsets id ∙ ap (Option·map (λ (q : Placed Prototype). q .offset)) h in
+        let w = offsets-same s t rows id row in
+        (q, h, cc, cc)

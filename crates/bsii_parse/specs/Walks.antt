@@ -1,24 +1,28 @@
 -- What the walks over a file's records know of it.
 use mathlib.Core.Path.{_≡_}
 use Prim.Native.Nat.{ℕ, suc, _+_, _/_, _≤_, _<_}
-use mathlib.Core.Option.{Option, Option·map}
+use mathlib.Core.Bool.{Bool, true, false}
+use mathlib.Core.Option.{Option, some, Option·map}
 use mathlib.Core.List.{List, [], _∷_, _++_, map}
 use lib.ListN.{length, drop}
 use Rattle.bsii_format.specs.Reader.{Result, ok, fault, _>>=_}
 use Rattle.bsii_format.specs.Strings.{idParser}
 use Rattle.bsii_format.specs.Prototypes.{Prototype, Fields, fieldsParser}
-use Rattle.bsii_format.specs.Blocks.{dataValuesParser, findBy}
+use Rattle.bsii_format.specs.Blocks.{DataValue, DataBlock, dataValuesParser, findBy}
 use Rattle.bsii_format.specs.File.{Record, prototype, block, defining, carrying, headParser, recordBytes, Records, recordsFrom, BsiiFile, lengthLimit, parse}
 use Rattle.bsii_format.specs.Calls.{Placed, placed, placedRecords, consPrototype, prototypesIn}
 use Rattle.bsii_string.specs.Answers.{faultIs, endOf}
 use Rattle.bsii_string.specs.declared.answers.Refusal.{Refusal}
 use Rattle.bsii_string.specs.declared.answers.Parsed.{Parsed}
+use Rattle.bsii_string.specs.declared.answers.Parsed.the-variants.{Next, Fault}
+use Rattle.bsii_prototype.specs.declared.answers.Counted.{Counted}
+use Rattle.bsii_prototype.specs.declared.answers.Counted.the-variants.{Fields as Many, Fault as Bad}
 use Rattle.bsii_table.specs.Rows.{Row, lookup, Rows}
 use Rattle.bsii_table.specs.Relation.{Represents}
 use Rattle.bsii_tree.specs.Table.{Linked, lookupTree}
 use Rattle.bsii_parse.specs.declared.walk.Progress.{Progress}
 use Rattle.bsii_parse.specs.declared.walk.ReadStep.{ReadStep}
-use Rattle.bsii_parse.specs.declared.walk.ReadStep.the-variants.{Go, End, Refused}
+use Rattle.bsii_parse.specs.declared.walk.ReadStep.the-variants.{Prototype as WentPrototype, Block as WentBlock, End, Refused}
 use Rattle.bsii_parse.specs.declared.walk.Totals.{Totals}
 use Rattle.bsii_parse.specs.declared.walk.Walked.{Walked}
 use Rattle.bsii_parse.specs.declared.walk.Walked.the-variants.{Done, Fault as Stopped}
@@ -32,18 +36,43 @@ pub record DefinedAt (s : List ℕ) (o : ℕ) (p : Prototype) : Type 0 where
   pub head : headParser o (drop o s) ≡ ok (defining (p .id) (p .name)) fields (drop fields s)
   pub list : fieldsParser fields (drop fields s) ≡ ok (record { fields = p .fields; terminator = p .terminator }) next (drop next s)
 
+-- values under n definitions end here, or have this fault
+abbrev pub countedEnd : ℕ → Parsed → Counted
+countedEnd n (Next m) = Many n m
+countedEnd n (Fault f) = Bad f
+
 -- values from `start` on, where definitions are read from `fields` on
-pub record ValuesEnd (version : ℕ) (s : List ℕ) (fields start : ℕ) (r : Parsed) : Type 0 where
-  pub ends : (l : Fields) (n : ℕ) (t : List ℕ) → fieldsParser fields (drop fields s) ≡ ok l n t → r ≡ endOf (dataValuesParser version (l .fields) start (drop start s))
+pub record ValuesEnd (version : ℕ) (s : List ℕ) (fields start : ℕ) (r : Counted) : Type 0 where
+  pub ends : (l : Fields) (n : ℕ) (t : List ℕ) → fieldsParser fields (drop fields s) ≡ ok l n t
+      → r ≡ countedEnd (length (l .fields)) (endOf (dataValuesParser version (l .fields) start (drop start s)))
 
 -- a block's id and values from `at` on, where definitions are read from `fields` on
-pub record BlockEnd (version : ℕ) (s : List ℕ) (fields at : ℕ) (r : Parsed) : Type 0 where
+pub record BlockEnd (version : ℕ) (s : List ℕ) (fields at : ℕ) (r : Counted) : Type 0 where
   pub ends : (l : Fields) (n : ℕ) (t : List ℕ) → fieldsParser fields (drop fields s) ≡ ok l n t
-      → r ≡ endOf ((idParser >>= (λ i. dataValuesParser version (l .fields))) at (drop at s))
+      → r ≡ countedEnd (length (l .fields)) (endOf ((idParser >>= (λ i. dataValuesParser version (l .fields))) at (drop at s)))
 
 -- the same under a prototype that stands at an offset
-pub record DefinedEnd (version : ℕ) (s : List ℕ) (o at : ℕ) (r : Parsed) : Type 0 where
-  pub ends : (p : Prototype) → DefinedAt s o p → r ≡ endOf ((idParser >>= (λ i. dataValuesParser version (p .fields))) at (drop at s))
+pub record DefinedEnd (version : ℕ) (s : List ℕ) (o at : ℕ) (r : Counted) : Type 0 where
+  pub ends : (p : Prototype) → DefinedAt s o p → r ≡ countedEnd (length (p .fields)) (endOf ((idParser >>= (λ i. dataValuesParser version (p .fields))) at (drop at s)))
+
+-- values and blocks that were accepted, passed without a test
+pub record ValuesSkipped (version : ℕ) (s : List ℕ) (fields start : ℕ) (r : Counted) : Type 0 where
+  pub ends : (l : Fields) (n : ℕ) (t : List ℕ) → fieldsParser fields (drop fields s) ≡ ok l n t
+      → (v : List DataValue) (m : ℕ) (u : List ℕ) → dataValuesParser version (l .fields) start (drop start s) ≡ ok v m u → r ≡ Many (length (l .fields)) m
+
+pub record BlockSkipped (version : ℕ) (s : List ℕ) (o at : ℕ) (r : Counted) : Type 0 where
+  pub ends : (p : Prototype) → DefinedAt s o p → (v : List DataValue) (m : ℕ) (u : List ℕ) → (idParser >>= (λ i. dataValuesParser version (p .fields))) at (drop at s) ≡ ok v m u
+      → r ≡ Many (length (p .fields)) m
+
+-- accepted, if that is known
+abbrev pub Assured : {A : Type 0} → Bool → Result A → Type 0
+Assured false q = Unit {0}
+Assured {A} true q = (a : A) × (n : ℕ) × (r : List ℕ) × (q ≡ ok a n r)
+
+-- a block under a prototype that stands at an offset, with or without tests
+pub record KnownEnd (version : ℕ) (s : List ℕ) (o at : ℕ) (known : Bool) (r : Counted) : Type 0 where
+  pub ends : (p : Prototype) → DefinedAt s o p → Assured known ((idParser >>= (λ i. dataValuesParser version (p .fields))) at (drop at s))
+      → r ≡ countedEnd (length (p .fields)) (endOf ((idParser >>= (λ i. dataValuesParser version (p .fields))) at (drop at s)))
 
 -- ---- the reading walk
 
@@ -52,6 +81,12 @@ unfoldable pub blockCount : List Record → ℕ
 blockCount [] = 0
 blockCount (prototype p ∷ l) = blockCount l
 blockCount (block b ∷ l) = suc (blockCount l)
+
+-- and how many prototypes
+unfoldable pub prototypeCount : List Record → ℕ
+prototypeCount [] = 0
+prototypeCount (prototype p ∷ l) = suc (prototypeCount l)
+prototypeCount (block b ∷ l) = prototypeCount l
 
 -- the records that a walk has passed, in front of those that the rest is read as
 unfoldable pub behind : List Record → Result Records → Result Records
@@ -88,35 +123,45 @@ pub record Ready (s : List ℕ) (p : Progress) (t : List ℕ) : Type 0 where
   pub short : length s ≤ lengthLimit
   pub inside : p .at ≤ length s
   pub counted : p .blocks ≤ p .at
+  pub defined : p .prototypes ≤ p .at
   pub rows : Linked s t (p .rows)
   pub few : p .rows ≤ p .at
+
+-- how the walk goes on behind the record i: behind a block with the definition that was in force for it
+pub data Goes (env : List (Placed Prototype)) (q : Progress) : Record → ReadStep → Type 0 where
+  behind-prototype : {p : Prototype} → Goes env q (prototype p) (WentPrototype q)
+  behind-block : {b : DataBlock} (p : Placed Prototype) → findBy (λ (x : Placed Prototype). x .it .id) (b .prototypeId) env ≡ some p
+      → Goes env q (block b) (WentBlock q (record { offset = p .offset; fields = length (p .it .fields) }))
 
 -- For the definitions that the table holds: the records from here on are the one that was passed and those from there on; or they are the end
 -- record; or they are refused. Behind the step the table holds the definitions with the record's.
 pub data StepMeets (version : ℕ) (s : List ℕ) (p : Progress) (t : List ℕ) (env : List (Placed Prototype)) : ReadStep → List ℕ → Type 0 where
-  passed : (i : Record) {n rows : ℕ} {t′ : List ℕ}
+  passed : (i : Record) {n rows : ℕ} {r : ReadStep} {t′ : List ℕ}
       → recordsAt version (length t / 3) (bare env) (p .at) s ≡ behind (i ∷ []) (recordsAt version (length t / 3) (bare (consPrototype (p .at) i env)) n s)
       → p .at < n → n ≤ length s → n ≡ p .at + length (recordBytes i) → Growing s t′ rows (consPrototype (p .at) i env) → length t′ ≡ length t
-      → StepMeets version s p t env (Go (record { at = n; rows = rows; blocks = p .blocks + blockCount (i ∷ []) })) t′
+      → Goes env (record { at = n; rows = rows; blocks = p .blocks + blockCount (i ∷ []); prototypes = p .prototypes + prototypeCount (i ∷ []) }) i r
+      → StepMeets version s p t env r t′
   ended : {l : List ℕ} {n : ℕ} → recordsAt version (length t / 3) (bare env) (p .at) s ≡ ok (record { records = []; end = l }) n (drop n s) → StepMeets version s p t env (End n) t
   refused : {f : Refusal} {t′ : List ℕ} → recordsAt version (length t / 3) (bare env) (p .at) s ≡ fault (faultIs f) → length t′ ≡ length t → StepMeets version s p t env (Refused f) t′
 
-pub record Stepped (version : ℕ) (s : List ℕ) (p : Progress) (t : List ℕ) (r : ReadStep) (t′ : List ℕ) : Type 0 where
-  pub steps : (env : List (Placed Prototype)) → Growing s t (p .rows) env → StepMeets version s p t env r t′
+-- for every file, or for one that is known to be accepted
+pub record Stepped (version : ℕ) (s : List ℕ) (p : Progress) (t : List ℕ) (known : Bool) (r : ReadStep) (t′ : List ℕ) : Type 0 where
+  pub steps : (env : List (Placed Prototype)) → Growing s t (p .rows) env → Assured known (recordsAt version (length t / 3) (bare env) (p .at) s) → StepMeets version s p t env r t′
 
 -- the same where the head is read already: a prototype's definitions start at `fields`, in every version, a block's id at `at`
 pub record Defining (s : List ℕ) (p : Progress) (t : List ℕ) (id fields : ℕ) (r : ReadStep) (t′ : List ℕ) : Type 0 where
   pub steps : (version : ℕ) (env : List (Placed Prototype)) → Growing s t (p .rows) env → (name : List ℕ) → headParser (p .at) (drop (p .at) s) ≡ ok (defining id name) fields (drop fields s)
       → StepMeets version s p t env r t′
 
-pub record Carrying (version : ℕ) (s : List ℕ) (p : Progress) (t : List ℕ) (id at : ℕ) (r : ReadStep) : Type 0 where
-  pub steps : (env : List (Placed Prototype)) → Growing s t (p .rows) env → headParser (p .at) (drop (p .at) s) ≡ ok (carrying id) at (drop at s) → StepMeets version s p t env r t
+pub record Carrying (version : ℕ) (s : List ℕ) (p : Progress) (t : List ℕ) (known : Bool) (id at : ℕ) (r : ReadStep) : Type 0 where
+  pub steps : (env : List (Placed Prototype)) → Growing s t (p .rows) env → Assured known (recordsAt version (length t / 3) (bare env) (p .at) s)
+      → headParser (p .at) (drop (p .at) s) ≡ ok (carrying id) at (drop at s) → StepMeets version s p t env r t
 
 -- ---- the whole walk from `start` on, and the whole file: the table holds the definitions of what was read
 
 -- what the walk has found of records of a version that end at n
 abbrev pub totalsOf : ℕ → ℕ → List Record → ℕ → Totals
-totalsOf version rows l n = record { version = version; rows = rows; blocks = blockCount l; next = n }
+totalsOf version rows l n = record { version = version; rows = rows; blocks = blockCount l; prototypes = prototypeCount l; next = n }
 
 pub data Walks (version : ℕ) (s : List ℕ) (start : ℕ) (t : List ℕ) : Walked → List ℕ → Type 0 where
   done : (q : Records) {rows n : ℕ} {t′ : List ℕ} → recordsAt version (length t / 3) [] start s ≡ ok q n (drop n s)

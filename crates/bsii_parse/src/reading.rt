@@ -25,8 +25,8 @@ pub enum Reading {
     Refused(Refusal),
 }
 
-// The file, with the tree of its ids left in the table.
-fn tree_parser(file: &[u8], table: &mut [u32]) -> Walked
+// The file, with the tree of its ids left in the table: the caller clears it.
+pub fn tree_parser(file: &[u8], table: &mut [u32]) -> Walked
     ensures { λ r. ⌜ ReadTree (now (file .entry)) (now (table .entry)) r (now (table .exit)) ⌝ }
 {
     if LENGTH_LIMIT < file.len() {

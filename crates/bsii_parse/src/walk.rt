@@ -1,5 +1,6 @@
 // The reading walk over the records, up to the end record.
 use crate::blocks::data_block_parser;
+use crate::blocks::skip_block;
 use bsii_prototype::answers::Counted;
 use bsii_prototype::answers::Head;
 use bsii_prototype::fields::fields_parser;
@@ -22,26 +23,36 @@ ghost use mathlib.Core.Path.{_≡_};
 ghost use lib.ListN.{drop};
 ghost use Rattle.bsii_format.specs.File.{lengthLimit};
 ghost use Rattle.bsii_tree.specs.Table.{Named};
-ghost use Rattle.bsii_parse.specs.Walks.{Ready, Defining, Carrying, Stepped, Walks, DefinedEnd};
+ghost use Rattle.bsii_parse.specs.Walks.{Ready, Defining, Carrying, Stepped, Walks, DefinedEnd, KnownEnd};
 
-// How far the walk is: the next record's offset, the table's rows, and the blocks so far.
+// How far the walk is: the next record's offset, the table's rows, and the blocks and the prototypes so far.
 pub struct Progress {
     pub at: usize,
     pub rows: usize,
     pub blocks: usize,
+    pub prototypes: usize,
+}
+
+// The prototype in force for a block: its offset, and how many fields it has.
+pub struct Under {
+    pub offset: usize,
+    pub fields: usize,
 }
 
 pub enum ReadStep {
-    Go(Progress),
+    Prototype(Progress),
+    Block(Progress, Under),
     End(usize),
     Refused(Refusal),
 }
 
-// What the whole walk has found: the version it was made in, the table's rows, the blocks, and the offset behind the end record.
+// What the whole walk has found: the version it was made in, the table's rows, the blocks and the prototypes, those of an id defined again counted
+// again, and the offset behind the end record.
 pub struct Totals {
     pub version: u32,
     pub rows: usize,
     pub blocks: usize,
+    pub prototypes: usize,
     pub next: usize,
 }
 
@@ -58,6 +69,7 @@ fn prototype_step(s: &[u8], p: Progress, table: &mut [u32], id: u32, fields: usi
     let at = p.at;
     let rows = p.rows;
     let blocks = p.blocks;
+    let prototypes = p.prototypes;
     let list = fields_parser(s, fields);
     match list {
         Counted::Fault(f) => return ReadStep::Refused(f),
@@ -65,10 +77,11 @@ fn prototype_step(s: &[u8], p: Progress, table: &mut [u32], id: u32, fields: usi
             let defined = define(s, table, rows, id, word(at));
             match defined {
                 Defined::Full => return ReadStep::Refused(refused(TABLE_FULL, at)),
-                Defined::Rows(held) => return ReadStep::Go(Progress {
+                Defined::Rows(held) => return ReadStep::Prototype(Progress {
                     at: next,
                     rows: held,
                     blocks,
+                    prototypes: prototypes + 1,
                 }),
             }
         }
@@ -76,20 +89,38 @@ fn prototype_step(s: &[u8], p: Progress, table: &mut [u32], id: u32, fields: usi
 }
 
 // The block whose own id starts at `at`, under the prototype at the offset `prototype`.
-pub fn block_parser(s: &[u8], version: u32, prototype: usize, at: usize) -> Parsed
+pub fn block_parser(s: &[u8], version: u32, prototype: usize, at: usize) -> Counted
     ensures { λ r. ⌜ DefinedEnd version (now (s .entry)) prototype at r ⌝ }
 {
     let fields = fields_at(s, prototype);
     match fields {
-        Parsed::Fault(f) => Parsed::Fault(f),
+        Parsed::Fault(f) => Counted::Fault(f),
         Parsed::Next(first) => data_block_parser(s, version, first, at),
     }
 }
 
+// The block whose own id starts at `at`, under the prototype at the offset `prototype`; where the file is known to be accepted, nothing is checked again.
+fn block_end(s: &[u8], version: u32, prototype: usize, at: usize, known: bool) -> Counted
+    ensures { λ r. ⌜ KnownEnd version (now (s .entry)) prototype at known r ⌝ }
+{
+    if known {
+        return skip_block(s, version, prototype, at);
+    }
+    block_parser(s, version, prototype, at)
+}
+
 // A block of this id, whose own id starts at `id_at`, under the definition in force.
-fn block_step(s: &[u8], version: u32, p: Progress, table: &[u32], id: u32, id_at: usize) -> ReadStep
+fn block_step(
+    s: &[u8],
+    version: u32,
+    p: Progress,
+    table: &[u32],
+    known: bool,
+    id: u32,
+    id_at: usize,
+) -> ReadStep
     requires { ⌜ Ready (now s) p (now table) ⌝ }
-    ensures { λ r. ⌜ Carrying version (now (s .entry)) p (now (table .entry)) id «id_at» r ⌝ }
+    ensures { λ r. ⌜ Carrying version (now (s .entry)) p (now (table .entry)) known id «id_at» r ⌝ }
 {
     let at = p.at;
     let rows = p.rows;
@@ -97,29 +128,38 @@ fn block_step(s: &[u8], version: u32, p: Progress, table: &[u32], id: u32, id_at
     match found {
         FoundRow::Nothing => return ReadStep::Refused(refused(UNDEFINED_PROTOTYPE, at)),
         FoundRow::At { in_force, last: _ } => {
-            let parsed = block_parser(s, version, size(in_force), id_at);
-            match parsed {
-                Parsed::Fault(f) => return ReadStep::Refused(f),
-                Parsed::Next(next) => return ReadStep::Go(Progress {
-                    at: next,
-                    rows,
-                    blocks: p.blocks + 1,
-                }),
+            let offset = size(in_force);
+            let end = block_end(s, version, offset, id_at, known);
+            match end {
+                Counted::Fault(fault) => return ReadStep::Refused(fault),
+                Counted::Fields { count, next } => return ReadStep::Block(
+                    Progress {
+                        at: next,
+                        rows,
+                        blocks: p.blocks + 1,
+                        prototypes: p.prototypes,
+                    },
+                    Under {
+                        offset,
+                        fields: count,
+                    },
+                ),
             }
         }
     }
 }
 
-pub fn record_step(s: &[u8], version: u32, p: Progress, table: &mut [u32]) -> ReadStep
+// The record at p. Where the file is known to be accepted, a block is passed without a test.
+pub fn record_step(s: &[u8], version: u32, p: Progress, table: &mut [u32], known: bool) -> ReadStep
     requires { ⌜ Ready (now s) p (now table) ⌝ }
-    ensures { λ r. ⌜ Stepped version (now (s .entry)) p (now (table .entry)) r (now (table .exit)) ⌝ }
+    ensures { λ r. ⌜ Stepped version (now (s .entry)) p (now (table .entry)) known r (now (table .exit)) ⌝ }
 {
     let head = head_parser(s, p.at);
     match head {
         Head::End(next) => return ReadStep::End(next),
         Head::BadHead(f) => return ReadStep::Refused(f),
         Head::Prototype { id, name: _, next } => return prototype_step(s, p, table, id, next),
-        Head::Block { id, next } => return block_step(s, version, p, table, id, next),
+        Head::Block { id, next } => return block_step(s, version, p, table, known, id, next),
     }
 }
 
@@ -132,18 +172,23 @@ pub fn walk(s: &[u8], version: u32, start: usize, table: &mut [u32]) -> Walked
         at: start,
         rows: 0,
         blocks: 0,
+        prototypes: 0,
     };
     loop {
-        let step = record_step(s, version, p, table);
+        let step = record_step(s, version, p, table, false);
         match step {
             ReadStep::End(next) => return Walked::Done(Totals {
                 version,
                 rows: p.rows,
                 blocks: p.blocks,
+                prototypes: p.prototypes,
                 next,
             }),
             ReadStep::Refused(f) => return Walked::Fault(f),
-            ReadStep::Go(further) => {
+            ReadStep::Prototype(further) => {
+                p = further;
+            }
+            ReadStep::Block(further, _) => {
                 p = further;
             }
         }

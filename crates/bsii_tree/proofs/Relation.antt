@@ -1,5 +1,5 @@
 -- The laws of the tree against the definitions so far.
-use Prim.Native.Nat.{ℕ, suc, _/_}
+use Prim.Native.Nat.{ℕ, zero, suc, _/_}
 use native.Mathlib.Omega.{arith}
 use mathlib.Core.Path.{_≡_, refl, sym, ap, _∙_, subst}
 use mathlib.Core.Bool.{Bool, true, false, cond}
@@ -14,7 +14,7 @@ use Rattle.bsii_format.specs.Blocks.{findBy, getPrototype}
 use Rattle.bsii_format.specs.File.{prototype, distinctIds, hasRoom}
 use Rattle.bsii_table.specs.Rows.{Row, offsets, lookupFrom}
 use Rattle.bsii_table.specs.Relation.{Matches}
-use Rattle.bsii_tree.specs.Table.{Linked, lookupTree, rowsWith, Puts, NoRoom, Defines, put, full}
+use Rattle.bsii_tree.specs.Table.{keyOf, rowOf, Linked, lookupTree, rowsWith, Puts, NoRoom, Defines, put, full}
 use Rattle.bsii_tree.specs.Relation.{Grows}
 use Rattle.bsii_tree.specs.declared.Defined.{Defined}
 use Rattle.bsii_tree.specs.declared.Defined.the-variants as defined
@@ -32,6 +32,21 @@ is-put q (full x) = rows≢full (sym q)
 pub is-full : {f t : List ℕ} {rows id o : ℕ} {d : Defined} {t′ : List ℕ} → d ≡ defined.Full → Defines f t rows id o d t′ → NoRoom f t rows id t′
 is-full q (put x) = rows≢full q
 is-full q (full x) = x
+
+-- ---- what `find` answered
+
+-- the last definition so far is in force
+pub offsets-same : (f t : List ℕ) (rows id : ℕ) {a b : ℕ} → lookupTree f t rows id ≡ some (offsets a b) → a ≡ b
+unfolding lookupFrom
+offsets-same f t rows id {a} {b} e = go 0 rows e
+  where
+    here : (k : Bool) (i : ℕ) (o : Option Row) → (o ≡ some (offsets a b) → a ≡ b) → cond k (some (rowOf t i)) o ≡ some (offsets a b) → a ≡ b
+    here true i o h e = let z : rowOf t i ≡ offsets a b = cc in sym (ap (λ (r : Row). r .inForce) z) ∙ ap (λ (r : Row). r .last) z
+    here false i o h e = h e
+
+    go : (i n : ℕ) → lookupFrom (keyOf f t) (rowOf t) i n id ≡ some (offsets a b) → a ≡ b
+    go i zero e = cc
+    go i (suc n) e = here (eqb id (keyOf f t i)) i (lookupFrom (keyOf f t) (rowOf t) (suc i) n id) (go (suc i) n) e
 
 module _ (At : ℕ → Prototype → Type 0) where
   -- before the first definition: whatever the table came in with

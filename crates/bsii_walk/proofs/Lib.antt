@@ -1,6 +1,5 @@
 pub mod Parts
 pub mod HeadKinds
-pub mod Skipped
 pub mod Meeting
 pub mod Naming
 pub mod Seeking

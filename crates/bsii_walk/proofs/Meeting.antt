@@ -27,8 +27,8 @@ use Rattle.bsii_table.specs.Relation.{Entered}
 use Rattle.bsii_table.specs.declared.FoundRow.{FoundRow}
 use Rattle.bsii_table.specs.declared.FoundRow.the-variants.{At, Nothing as NotFound}
 use Rattle.bsii_table.proofs.Relation.{enter-entered, entered-at, entered-nothing}
-use Rattle.bsii_parse.specs.Walks.{DefinedAt}
-use Rattle.bsii_walk.specs.Again.{kindOf, KindAt, BlockSkipped, PrototypeMet, PrototypeAgain, BlockMet, BlockAgain, Meets, a-prototype, a-block, RecordAgain}
+use Rattle.bsii_parse.specs.Walks.{DefinedAt, BlockSkipped}
+use Rattle.bsii_walk.specs.Again.{kindOf, KindAt, PrototypeMet, PrototypeAgain, BlockMet, BlockAgain, Meets, a-prototype, a-block, RecordAgain}
 use Rattle.bsii_walk.specs.declared.records.RecordKind.{RecordKind}
 use Rattle.bsii_walk.specs.declared.records.RecordKind.the-variants.{Ends, Defines, Carries}
 use Rattle.bsii_walk.specs.declared.records.Met.{Met}
@@ -40,6 +40,12 @@ none≢some e = let z : _≡_ {A = ℕ} 0 1 = cc in let f : ⊥ = omega arith in
 
 some-is : {A : Type 0} {a b : A} → _≡_ {A = Option A} (some a) (some b) → a ≡ b
 some-is e = cc
+
+counted≢fault : {P : Type 0} {a b : ℕ} {x : Refusal} → _≡_ {A = Counted} (CountedFields a b) (CountedFault x) → P
+counted≢fault w = let x : _≡_ {A = ℕ} 0 1 = cc in let g : ⊥ = omega arith in absurd g
+
+counted-same : {a b i j : ℕ} → _≡_ {A = Counted} (CountedFields a b) (CountedFields i j) → b ≡ j
+counted-same w = cc
 
 -- ---- a prototype
 
@@ -59,22 +65,16 @@ module _ (s : List ℕ) (at : ℕ) (t : List ℕ) (rows id : ℕ) {r : Parsed} (
         f ∙ fields-again first (drop first s) l ∙ ap countOf l
 
     pub again-fields-fault : {x : Refusal} → c ≡ CountedFault x → PrototypeAgain s at t rows id Nothing t
-    again-fields-fault y = record { meets = λ env last n p h i. counted≢ (sym (counted p h) ∙ y); size = refl }
-      where
-        counted≢ : {P : Type 0} {a b : ℕ} {x : Refusal} → _≡_ {A = Counted} (CountedFields a b) (CountedFault x) → P
-        counted≢ w = let x : _≡_ {A = ℕ} 0 1 = cc in let g : ⊥ = omega arith in absurd g
+    again-fields-fault y = record { meets = λ env last n p h i. counted≢fault (sym (counted p h) ∙ y); size = refl }
 
     pub again-entered : {n m w : ℕ} {t′ : List ℕ} → c ≡ CountedFields n m → w ≡ at → Enters t rows id w t′ → PrototypeAgain s at t rows id (MetPrototype m) t′
     again-entered {n} {m} {w} {t′} y o x = record {
       meets = λ env last k p h i. record {
-        met = ap MetPrototype (end-is (sym y ∙ counted p h));
+        met = ap MetPrototype (counted-same (sym y ∙ counted p h));
         entered = enter-entered (DefinedAt s) k p at i h (subst (λ a. Enters t rows id a t′) o x);
       };
       size = x .size;
     }
-      where
-        end-is : {a b i j : ℕ} → _≡_ {A = Counted} (CountedFields a b) (CountedFields i j) → b ≡ j
-        end-is w = cc
 
 -- ---- a block
 
@@ -82,20 +82,20 @@ module _ {version : ℕ} (s : List ℕ) (idAt : ℕ) (t : List ℕ) (rows id : �
   pub again-unknown : f ≡ NotFound → BlockAgain version s idAt t rows id Nothing
   again-unknown z = record { meets = λ env last k p q i j v n u b. none≢some (sym (entered-nothing (DefinedAt s) k id z e) ∙ j) }
 
-  module _ {a b : ℕ} (z : f ≡ At a b) {x y : ℕ} (i : x ≡ a) (j : y ≡ b) {r : Parsed} (w : BlockSkipped version s x idAt r) where
+  module _ {a b : ℕ} (z : f ≡ At a b) {x y : ℕ} (i : x ≡ a) (j : y ≡ b) {r : Counted} (w : BlockSkipped version s x idAt r) where
     under : (env last : List Prototype) → Entered (DefinedAt s) t rows env last → (p q : Prototype) → getPrototype id env ≡ some p → getPrototype id last ≡ some q → DefinedAt s x p × DefinedAt s y q
     under env last k p q g h =
         let o = entered-at (DefinedAt s) k id z e in
         (subst (λ c. DefinedAt s c p) (sym i) (o .3 p g), subst (λ c. DefinedAt s c q) (sym j) (subst (DefinedAt s b) (some-is (sym (o .1) ∙ h)) (o .2)))
 
-    pub again-block-fault : {x : Refusal} → r ≡ Fault x → BlockAgain version s idAt t rows id Nothing
-    again-block-fault g = record { meets = λ env last k p q d h v n u c. next≢fault (sym (w .ends p (under env last k p q d h .0) v n u c) ∙ g) }
+    pub again-block-fault : {x : Refusal} → r ≡ CountedFault x → BlockAgain version s idAt t rows id Nothing
+    again-block-fault g = record { meets = λ env last k p q d h v n u c. counted≢fault (sym (w .ends p (under env last k p q d h .0) v n u c) ∙ g) }
 
-    pub again-block : {n : ℕ} → r ≡ Next n → BlockAgain version s idAt t rows id (MetBlock idAt x y n)
-    again-block {n} g = record {
+    pub again-block : {m n : ℕ} → r ≡ CountedFields m n → BlockAgain version s idAt t rows id (MetBlock idAt x y n)
+    again-block g = record {
       meets = λ env last k p q d h v m u c.
           let o = under env last k p q d h in
-          record { inForce = x; last = y; met = ap (MetBlock idAt x y) (next-same (sym g ∙ w .ends p (o .0) v m u c)); under = o .0; named = o .1 };
+          record { inForce = x; last = y; met = ap (MetBlock idAt x y) (counted-same (sym g ∙ w .ends p (o .0) v m u c)); under = o .0; named = o .1 };
     }
 
 -- ---- any record

@@ -7,11 +7,9 @@ use mathlib.Core.List.{List, _∷_}
 use lib.ListN.{length, drop}
 use Rattle.bsii_format.specs.Reader.{ok, same, _>>=_}
 use Rattle.bsii_format.specs.Strings.{idParser}
-use Rattle.bsii_format.specs.Prototypes.{Prototype, Fields, fieldsParser}
+use Rattle.bsii_format.specs.Prototypes.{Prototype}
 use Rattle.bsii_format.specs.Blocks.{DataValue, DataBlock, getPrototype, dataValuesParser}
 use Rattle.bsii_format.specs.File.{Record, prototype, block, Head, ending, defining, carrying, headParser, end, more, recordParser}
-use Rattle.bsii_string.specs.declared.answers.Parsed.{Parsed}
-use Rattle.bsii_string.specs.declared.answers.Parsed.the-variants.{Next}
 use Rattle.bsii_prototype.specs.Entries.{markedParser}
 use Rattle.bsii_table.specs.Relation.{Entered}
 use Rattle.bsii_parse.specs.Walks.{DefinedAt}
@@ -37,15 +35,6 @@ pub record KindAt (s : List ℕ) (at : ℕ) (r : RecordKind) : Type 0 where
 -- behind a record number of zero
 pub record MarkAt (s : List ℕ) (at : ℕ) (r : RecordKind) : Type 0 where
   pub is : (h : Head) (n : ℕ) (t : List ℕ) → markedParser at (drop at s) ≡ ok h n t → r ≡ kindOf h n
-
--- ---- values and blocks
-
-pub record ValuesSkipped (version : ℕ) (s : List ℕ) (fields start : ℕ) (r : Parsed) : Type 0 where
-  pub ends : (l : Fields) (n : ℕ) (t : List ℕ) → fieldsParser fields (drop fields s) ≡ ok l n t
-      → (v : List DataValue) (m : ℕ) (u : List ℕ) → dataValuesParser version (l .fields) start (drop start s) ≡ ok v m u → r ≡ Next m
-
-pub record BlockSkipped (version : ℕ) (s : List ℕ) (o at : ℕ) (r : Parsed) : Type 0 where
-  pub ends : (p : Prototype) → DefinedAt s o p → (v : List DataValue) (m : ℕ) (u : List ℕ) → (idParser >>= (λ i. dataValuesParser version (p .fields))) at (drop at s) ≡ ok v m u → r ≡ Next m
 
 -- ---- records: `env` is the definitions so far, `last` all definitions of the file
 

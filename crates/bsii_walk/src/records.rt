@@ -1,11 +1,8 @@
 // Records of a file that was read.
+use bsii_parse::blocks::skip_block;
 use bsii_prototype::answers::Counted;
-use bsii_prototype::answers::Entry;
 use bsii_prototype::skip::fields_at;
 use bsii_prototype::skip::skip_fields;
-use bsii_prototype::skip::skip_value_prototype;
-use bsii_skip::skip_id;
-use bsii_skip::skip_value;
 use bsii_string::answers::Num;
 use bsii_string::answers::Parsed;
 use bsii_string::numbers::le_u8;
@@ -20,7 +17,7 @@ ghost use Prim.Native.Nat.{_≤_};
 ghost use lib.ListN.{length};
 ghost use Rattle.bsii_format.specs.File.{lengthLimit};
 ghost use Rattle.bsii_table.specs.Rows.{Rows};
-ghost use Rattle.bsii_walk.specs.Again.{MarkAt, KindAt, ValuesSkipped, BlockSkipped, PrototypeAgain, BlockAgain, RecordAgain};
+ghost use Rattle.bsii_walk.specs.Again.{MarkAt, KindAt, PrototypeAgain, BlockAgain, RecordAgain};
 
 // How a record begins.
 pub enum RecordKind {
@@ -76,53 +73,6 @@ pub fn kind_at(s: &[u8], at: usize) -> RecordKind
     }
 }
 
-// The end of the values from `start` on, under the definitions from `fields` on.
-pub fn skip_values(s: &[u8], version: u32, fields: usize, start: usize) -> Parsed
-    ensures { λ r. ⌜ ValuesSkipped version (now (s .entry)) fields start r ⌝ }
-{
-    let mut field = fields;
-    let mut at = start;
-    loop {
-        let entry = skip_value_prototype(s, field);
-        match entry {
-            Entry::Last(_) => return Parsed::Next(at),
-            Entry::Bad(f) => return Parsed::Fault(f),
-            Entry::Field {
-                type_id,
-                name: _,
-                name_end: _,
-                next,
-            } => {
-                let value = skip_value(s, at, version, type_id);
-                match value {
-                    Parsed::Fault(f) => return Parsed::Fault(f),
-                    Parsed::Next(end) => {
-                        at = end;
-                        field = next;
-                    }
-                }
-            }
-        }
-    }
-}
-
-// The end of a block whose id starts at `at`, under the prototype at the offset `prototype`.
-pub fn skip_block(s: &[u8], version: u32, prototype: usize, at: usize) -> Parsed
-    ensures { λ r. ⌜ BlockSkipped version (now (s .entry)) prototype at r ⌝ }
-{
-    let fields = fields_at(s, prototype);
-    match fields {
-        Parsed::Fault(f) => Parsed::Fault(f),
-        Parsed::Next(first) => {
-            let id = skip_id(s, at);
-            match id {
-                Parsed::Fault(f) => Parsed::Fault(f),
-                Parsed::Next(next) => skip_values(s, version, first, next),
-            }
-        }
-    }
-}
-
 // A prototype is in force from here on.
 pub fn prototype_again(s: &[u8], at: usize, table: &mut [u32], rows: usize, id: u32) -> Met
     requires { ⌜ (length (now s) ≤ lengthLimit) × (at ≤ length (now s)) × Rows (now table) rows ⌝ }
@@ -156,8 +106,8 @@ fn block_again(s: &[u8], version: u32, id_at: usize, table: &[u32], rows: usize,
             let other = size(last);
             let end = skip_block(s, version, prototype, id_at);
             match end {
-                Parsed::Fault(_) => return Met::Nothing,
-                Parsed::Next(next) => return Met::Block {
+                Counted::Fault(_) => return Met::Nothing,
+                Counted::Fields { count: _, next } => return Met::Block {
                     id_at,
                     in_force: prototype,
                     last: other,

@@ -1,5 +1,5 @@
--- `blocks::values_parser`: Invariant: the values from here on under the definitions from here on end as all of them do. Measure: what is left of the
--- file behind the definitions passed, since each has a byte at least.
+-- `blocks::values_parser`: Invariant: the values from here on under the definitions from here on end as all of them do, and `count` of them were
+-- passed. Measure: what is left of the file behind the definitions passed, since each has a byte at least: so the count fits too.
 use borrow.Author.Needs.{needs}
 use mathlib.Core.Path.{sym, _∙_}
 use native.Mathlib.Omega.{arith}
@@ -14,10 +14,10 @@ use Rattle.bsii_parse.proofs.blocks.values_parser.Statement.{statement}
 use Rattle.bsii_parse.proofs.blocks.values_parser.Tie as tie
 
 abbrev Inv-loop : tie.InvT-loop
-Inv-loop s version fields start field₀ at₀ field at = InStep version s fields start field at
+Inv-loop s version fields start field₀ at₀ count₀ field at count = InStep version s fields start field at count
 
 abbrev μ-loop : tie.MeasureT-loop
-μ-loop s version fields start field₀ at₀ field at = length s - field
+μ-loop s version fields start field₀ at₀ count₀ field at count = length s - field
 
 loop-holds : tie.Need-loop-holds Inv-loop μ-loop
 loop-holds c = step-start
@@ -59,6 +59,13 @@ returns-3 c =
 enum-known-value-2 : tie.Need-enum-known-value-2 Inv-loop μ-loop
 enum-known-value-2 c = search needs
 
+add-count : tie.Need-add-count Inv-loop μ-loop
+add-count c =
+    let l = c .before .before .before .before .before .before .before .before in
+    let s = now (l .before .before .args .s) in
+    let e = sym (c .before .before .before .before .before .entry2 .given .1) ∙ c .before .before .before .before .before .before .before .skip-value-prototype .ensures in
+    omega (arith, l .loop .inv .few, count-later uncheckedStr (unchecked .exact) s (l .loop .field) e)
+
 loop-less : tie.Need-loop-less Inv-loop μ-loop
 loop-less c =
     let l = c .before .before .before .before .before .before .before .before in
@@ -69,8 +76,9 @@ loop-less c =
 loop-again : tie.Need-loop-again Inv-loop μ-loop
 loop-again c =
     let l = c .before .before .before .before .before .before .before .before in
+    let s = now (l .before .before .args .s) in
     let e = sym (c .before .before .before .before .before .entry2 .given .1) ∙ c .before .before .before .before .before .before .before .skip-value-prototype .ensures in
-    step-next (l .loop .inv) e (sym (c .before .value2 .given .1) ∙ c .before .before .before .value-parser .ensures)
+    step-next (l .loop .inv) e (count-later uncheckedStr (unchecked .exact) s (l .loop .field) e .0) (sym (c .before .value2 .given .1) ∙ c .before .before .before .value-parser .ensures)
 
 pub values-parser-spec : {M : Type 1} → statement M
 values-parser-spec =
@@ -89,5 +97,6 @@ values-parser-spec =
     enum-known-value
     returns-3
     enum-known-value-2
+    add-count
     loop-less
     loop-again)

@@ -42,6 +42,9 @@ returns-2 c =
 enum-known-defined : tie.Need-enum-known-defined
 enum-known-defined c = search needs
 
+add-t19 : tie.Need-add-t19
+add-t19 c = search needs
+
 same-length-2 : tie.Need-same-length-2
 same-length-2 c = search needs
 
@@ -63,5 +66,6 @@ prototype-step-spec =
     same-length
     returns-2
     enum-known-defined
+    add-t19
     same-length-2
     returns-3)

@@ -5,7 +5,7 @@ use borrow.Author.Needs.{needs}
 use native.Mathlib.Omega.{arith}
 use Prim.Native.Nat.{_-_}
 use lib.ListN.{length}
-use Rattle.bsii_parse.proofs.Along.{Along, defsFrom, along-start, along-ready, along-step, along-end, along-stop}
+use Rattle.bsii_parse.proofs.Along.{Along, defsFrom, along-start, along-ready, along-prototype, along-block, along-end, along-stop}
 use Rattle.bsii_parse.proofs.walk.walk.Statement.{statement}
 use Rattle.bsii_parse.proofs.walk.walk.Tie as tie
 
@@ -32,7 +32,7 @@ returns c = let l = c .before .before .before .before .before .before .before in
     let a = l .before .before .before .args in
     let i = l .loop .inv in
     let r = c .before .before .before .before .before .record-step in
-    along-end i (r .ensures .steps (defsFrom (a .start) (i .so)) (i .kept)) (c .before .step .given .1)
+    along-end i (r .ensures .steps (defsFrom (a .start) (i .so)) (i .kept) tt) (c .before .step .given .1)
 
 enum-known-step-2 : tie.Need-enum-known-step-2 Inv-loop μ-loop
 enum-known-step-2 c = search needs
@@ -45,7 +45,7 @@ returns-2 c = let l = c .before .before .before .before .before .before .before 
     let a = l .before .before .before .args in
     let i = l .loop .inv in
     let r = c .before .before .before .before .before .record-step in
-    along-stop i (r .ensures .steps (defsFrom (a .start) (i .so)) (i .kept)) (c .before .step2 .given .1)
+    along-stop i (r .ensures .steps (defsFrom (a .start) (i .so)) (i .kept) tt) (c .before .step2 .given .1)
 
 enum-known-step-3 : tie.Need-enum-known-step-3 Inv-loop μ-loop
 enum-known-step-3 c = search needs
@@ -55,7 +55,7 @@ loop-less c = let l = c .before .before .before .before .before .before .before 
     let a = l .before .before .before .args in
     let i = l .loop .inv in
     let r = c .before .before .before .before .before .record-step in
-    let f = along-step i (r .ensures .steps (defsFrom (a .start) (i .so)) (i .kept)) (c .before .step3 .given .1) in
+    let f = along-prototype i (r .ensures .steps (defsFrom (a .start) (i .so)) (i .kept) tt) (c .before .step3 .given .1) in
     omega (arith, f .on, f .along .inside)
 
 loop-again : tie.Need-loop-again Inv-loop μ-loop
@@ -63,7 +63,25 @@ loop-again c = let l = c .before .before .before .before .before .before .before
     let a = l .before .before .before .args in
     let i = l .loop .inv in
     let r = c .before .before .before .before .before .record-step in
-    along-step i (r .ensures .steps (defsFrom (a .start) (i .so)) (i .kept)) (c .before .step3 .given .1) .along
+    along-prototype i (r .ensures .steps (defsFrom (a .start) (i .so)) (i .kept) tt) (c .before .step3 .given .1) .along
+
+enum-known-step-4 : tie.Need-enum-known-step-4 Inv-loop μ-loop
+enum-known-step-4 c = search needs
+
+loop-less-2 : tie.Need-loop-less-2 Inv-loop μ-loop
+loop-less-2 c = let l = c .before .before .before .before .before .before .before in
+    let a = l .before .before .before .args in
+    let i = l .loop .inv in
+    let r = c .before .before .before .before .before .record-step in
+    let f = along-block i (r .ensures .steps (defsFrom (a .start) (i .so)) (i .kept) tt) (c .before .step4 .given .1) in
+    omega (arith, f .on, f .along .inside)
+
+loop-again-2 : tie.Need-loop-again-2 Inv-loop μ-loop
+loop-again-2 c = let l = c .before .before .before .before .before .before .before in
+    let a = l .before .before .before .args in
+    let i = l .loop .inv in
+    let r = c .before .before .before .before .before .record-step in
+    along-block i (r .ensures .steps (defsFrom (a .start) (i .so)) (i .kept) tt) (c .before .step4 .given .1) .along
 
 pub walk-spec : {M : Type 1} → statement M
 walk-spec =
@@ -81,4 +99,7 @@ walk-spec =
     returns-2
     enum-known-step-3
     loop-less
-    loop-again)
+    loop-again
+    enum-known-step-4
+    loop-less-2
+    loop-again-2)

@@ -1,5 +1,5 @@
--- `records::skip_values`: Invariant: the values from here on under the definitions from here on end where all of them do. Measure: what is left of the
--- file behind the definitions passed.
+-- `blocks::skip_values`: Invariant: the values from here on under the definitions from here on end where all of them do, and `count` of them were
+-- passed. Measure: what is left of the file behind the definitions passed, since each has a byte at least: so the count fits too.
 use mathlib.Core.Path.{sym, _∙_}
 use denote.Ref.{now}
 use borrow.Author.Needs.{needs}
@@ -9,15 +9,15 @@ use lib.ListN.{length}
 use Rattle.bsii_string.specs.Answers.{uncheckedStr}
 use Rattle.bsii_prototype.proofs.Names.{unchecked}
 use Rattle.bsii_prototype.proofs.Lists.{count-later}
-use Rattle.bsii_walk.proofs.Skipped.{InPast, past-start, past-last, past-bad, past-fault, past-next}
-use Rattle.bsii_walk.proofs.records.skip_values.Statement.{statement}
-use Rattle.bsii_walk.proofs.records.skip_values.Tie as tie
+use Rattle.bsii_parse.proofs.Skipped.{InPast, past-start, past-last, past-bad, past-fault, past-next}
+use Rattle.bsii_parse.proofs.blocks.skip_values.Statement.{statement}
+use Rattle.bsii_parse.proofs.blocks.skip_values.Tie as tie
 
 abbrev Inv-loop : tie.InvT-loop
-Inv-loop s version fields start field₀ at₀ field at = InPast version s fields start field at
+Inv-loop s version fields start field₀ at₀ count₀ field at count = InPast version s fields start field at count
 
 abbrev μ-loop : tie.MeasureT-loop
-μ-loop s version fields start field₀ at₀ field at = length s - field
+μ-loop s version fields start field₀ at₀ count₀ field at count = length s - field
 
 loop-holds : tie.Need-loop-holds Inv-loop μ-loop
 loop-holds c = past-start
@@ -56,6 +56,13 @@ returns-3 c = let l = c .before .before .before .before .before .before .before 
 enum-known-value-2 : tie.Need-enum-known-value-2 Inv-loop μ-loop
 enum-known-value-2 c = search needs
 
+add-count : tie.Need-add-count Inv-loop μ-loop
+add-count c =
+    let l = c .before .before .before .before .before .before .before .before in
+    let s = now (l .before .before .args .s) in
+    let e = sym (c .before .before .before .before .before .entry2 .given .1) ∙ c .before .before .before .before .before .before .before .skip-value-prototype .ensures in
+    omega (arith, l .loop .inv .few, count-later uncheckedStr (unchecked .exact) s (l .loop .field) e)
+
 loop-less : tie.Need-loop-less Inv-loop μ-loop
 loop-less c = let l = c .before .before .before .before .before .before .before .before in
     let a = l .before .before .args in
@@ -63,9 +70,11 @@ loop-less c = let l = c .before .before .before .before .before .before .before 
     omega (arith, count-later uncheckedStr (unchecked .exact) (now (a .s)) (l .loop .field) e)
 
 loop-again : tie.Need-loop-again Inv-loop μ-loop
-loop-again c = let l = c .before .before .before .before .before .before .before .before in
+loop-again c =
+    let l = c .before .before .before .before .before .before .before .before in
+    let s = now (l .before .before .args .s) in
     let e = sym (c .before .before .before .before .before .entry2 .given .1) ∙ c .before .before .before .before .before .before .before .skip-value-prototype .ensures in
-    past-next (l .loop .inv) e (sym (c .before .value2 .given .1) ∙ c .before .before .before .skip-value .ensures)
+    past-next (l .loop .inv) e (count-later uncheckedStr (unchecked .exact) s (l .loop .field) e .0) (sym (c .before .value2 .given .1) ∙ c .before .before .before .skip-value .ensures)
 
 pub skip-values-spec : {M : Type 1} → statement M
 skip-values-spec =
@@ -84,5 +93,6 @@ skip-values-spec =
     enum-known-value
     returns-3
     enum-known-value-2
+    add-count
     loop-less
     loop-again)
