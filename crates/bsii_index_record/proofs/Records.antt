@@ -10,9 +10,10 @@ use native.Mathlib.Omega.{arith}
 use lib.ListN.{length, take, drop, length-append, length-take, length-drop}
 use lib.Seq.{sets, sets-eq, drop-drop}
 use lib.Dec.{eqb, ltb}
-use borrow.Author.Tests.{le-leb, lt-leb, ltb-true, ltb-false, not-true, not-false}
-use Rattle.bsii_format.specs.Reader.{Reader, ok, same, after, success, bytes, _>>=_, _<$>_}
+use borrow.Author.Tests.{ltb-true, ltb-false, not-true, not-false}
+use Rattle.bsii_format.specs.Reader.{Reader, same, after, success, _>>=_}
 use Rattle.bsii_format.specs.Numbers.{littleEndian, number, le}
+use Rattle.bsii_format.proofs.Positions.{number-at, number-short}
 use Rattle.bsii_derived.specs.Index.{IndexRecord, indexRecordBytes, indexRecordParser, whole, recordAt}
 use Rattle.bsii_index_record.proofs.Numbers.{le-length, same-cut, sets-append}
 
@@ -33,24 +34,14 @@ record-lacks : (k l w : ℕ) → 0 < w → l / (4 * w) ≤ k → l < k * (4 * w)
 record-lacks k l w h m = let e = div-lt-iff-lt-mul {k = 4 * w} {x = l} {y = suc k} (omega arith) .0 (omega arith) in omega (arith, suc-mul k (4 * w), e)
 
 module _ (w : ℕ) (s : List ℕ) where
-  number-there : (at : ℕ) → at + w ≤ length s → number w at (drop at s) ≡ ok (littleEndian (take w (drop at s))) (at + w) (drop (at + w) s)
-  unfolding number bytes _<$>_ _>>=_ after success
-  number-there at h =
-      let l : w ≤ length (drop at s) = rw (length-drop at s) (omega arith) in
-      rw (le-leb w (length (drop at s)) l, drop-drop w at s)
-
   -- if it goes on to no record from the next number on, it goes on to none
   number-cut : (at : ℕ) (f : ℕ → Reader IndexRecord) → 0 < w → (at + w ≤ length s → (v : ℕ) → whole w (f v (at + w) (drop (at + w) s)) ≡ none)
       → whole w ((number w >>= f) at (drop at s)) ≡ none
-  unfolding number bytes _<$>_ _>>=_ after success whole
+  unfolding _>>=_ after whole
   number-cut at f z h =
       ⊎-elim
-      (λ (k : length s < at + w).
-      let l : length (drop at s) < w = rw (length-drop at s) (omega arith) in
-      rw (lt-leb w (length (drop at s)) l))
-      (λ (k : at + w ≤ length s).
-      let l : w ≤ length (drop at s) = rw (length-drop at s) (omega arith) in
-      rw (le-leb w (length (drop at s)) l, drop-drop w at s) (h k _))
+      (λ (k : length s < at + w). rw (number-short w s at (omega arith)))
+      (λ (k : at + w ≤ length s). rw (number-at w s at (omega arith)) (h k _))
       (lt-or-le (length s) (at + w))
 
   record-there : (at : ℕ) → at + 4 * w ≤ length s → whole w (indexRecordParser w at (drop at s)) ≡ some (record {
@@ -64,12 +55,12 @@ module _ (w : ℕ) (s : List ℕ) where
       let x : at + w + w ≡ at + 2 * w = omega arith in
       let y : at + 2 * w + w ≡ at + 3 * w = omega arith in
       rw (
-        number-there at (omega arith),
-        number-there (at + w) (omega arith),
+        number-at w s at (omega arith),
+        number-at w s (at + w) (omega arith),
         x,
-        number-there (at + 2 * w) (omega arith),
+        number-at w s (at + 2 * w) (omega arith),
         y,
-        number-there (at + 3 * w) (omega arith),
+        number-at w s (at + 3 * w) (omega arith),
       )
 
   record-cut : (at : ℕ) → 0 < w → length s < at + 4 * w → whole w (indexRecordParser w at (drop at s)) ≡ none
