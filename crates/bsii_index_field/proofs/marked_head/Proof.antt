@@ -1,4 +1,5 @@
 use mathlib.Core.Path.{sym, ap, _∙_}
+use native.Mathlib.Omega.{arith}
 use lib.ListN.{drop}
 use denote.Ref.{now}
 use Rattle.bsii_string.specs.Answers.{numOf}
@@ -23,7 +24,7 @@ returns : tie.Need-returns
 returns c =
     let a = c .before .before .before .before .before .before .before .args in
     let e = sym (c .before .before .before .before .before .le-u8 .ensures) ∙ ap (numOf (now (a .s))) (c .before .before .before .mark2 .given .1) in
-    c .stranger .ensures ∙ mark-not (a .at) (drop (a .at) (now (a .s))) (a .block) e (c .before .if1 .taken)
+    c .stranger .ensures ∙ mark-not (a .at) (drop (a .at) (now (a .s))) (a .block) e (λ x. omega (arith, x))
 
 named-head-requires : tie.Need-named-head-requires
 named-head-requires c κs = search needs
@@ -38,7 +39,7 @@ returns-3 : tie.Need-returns-3
 returns-3 c =
     let a = c .before .before .before .before .before .before .before .args in
     let e = sym (c .before .before .before .before .before .le-u8 .ensures) ∙ ap (numOf (now (a .s))) (c .before .before .before .mark2 .given .1) in
-    c .named-head .ensures ∙ mark-one (a .at) (drop (a .at) (now (a .s))) (a .block) e (c .before .if1 .left)
+    c .named-head .ensures ∙ mark-one (a .at) (drop (a .at) (now (a .s))) (a .block) e (omega arith)
 
 pub marked-head-spec : {M : Type 1} → statement M
 marked-head-spec =
