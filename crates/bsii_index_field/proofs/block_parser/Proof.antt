@@ -1,4 +1,5 @@
 use mathlib.Core.Path.{sym, ap, _∙_}
+use native.Mathlib.Omega.{arith}
 use denote.Ref.{now}
 use Rattle.bsii_string.specs.Answers.{numOf}
 use Rattle.bsii_index_field.proofs.Blocks.{block-cut, block-zero, block-other, block-own}
@@ -22,7 +23,7 @@ returns : tie.Need-returns
 returns c =
     let a = c .before .before .before .before .before .before .before .args in
     let e = sym (c .before .before .before .before .before .le-u32 .ensures) ∙ ap (numOf (now (a .s))) (c .before .before .before .number2 .given .1) in
-    rw (c .refused .ensures) (block-zero e (c .before .if1 .taken))
+    rw (c .refused .ensures) (block-zero e (omega arith))
 
 refused-requires-2 : tie.Need-refused-requires-2
 refused-requires-2 c κs = search needs
@@ -33,7 +34,7 @@ returns-2 c =
     let e =
     sym (c .before .before .before .before .before .before .le-u32 .ensures)
     ∙ ap (numOf (now (a .s))) (c .before .before .before .before .number2 .given .1) in
-    rw (c .refused2 .ensures) (block-other e (c .before .if2 .taken))
+    rw (c .refused2 .ensures) (block-other e (λ x. omega (arith, x)))
 
 body-parser-requires : tie.Need-body-parser-requires
 body-parser-requires c κs = search needs
@@ -50,7 +51,7 @@ returns-4 c =
     let e =
     sym (c .before .before .before .before .before .before .le-u32 .ensures)
     ∙ ap (numOf (now (a .s))) (c .before .before .before .before .number2 .given .1) in
-    block-own e (c .before .before .if1 .left) (c .before .if2 .left) (c .body-parser .ensures)
+    block-own e (λ x. omega (arith, x)) (omega arith) (c .body-parser .ensures)
 
 pub block-parser-spec : {M : Type 1} → statement M
 block-parser-spec =
