@@ -9,8 +9,8 @@ use lib.ListN.{length, take, drop, getElem?}
 use Rattle.bsii_format.specs.Prototypes.{Prototype, fieldsParser}
 use Rattle.bsii_format.specs.Blocks.{DataBlock, DataValue, getPrototype, dataValuesParser}
 use Rattle.bsii_format.specs.File.{prototypesOf}
-use Rattle.bsii_format.specs.Calls.{Placed, placed, blocksOf, atIndex, fieldUnder, fieldIn, fieldAnswer, fieldOf, fieldCall, partOf, orAbsent}
-use Rattle.bsii_format.specs.Replies.{absent}
+use Rattle.bsii_format.specs.Calls.{Placed, placed, blocksOf, atIndex, fieldUnder, fieldIn, FieldAnswer, fieldAnswer, fieldOf, fieldCall, partOf, orAbsent}
+use Rattle.bsii_format.specs.Replies.{Reply, absent}
 use Rattle.bsii_format.specs.BlockText.{orRefuse, valuesOffset}
 use Rattle.bsii_string.specs.Answers.{refusedAt, endOf}
 use Rattle.bsii_string.specs.declared.answers.Parsed.{Parsed}
@@ -92,7 +92,7 @@ module _ {version : ℕ} {s : List ℕ} {b : Block} {name : List ℕ} {h : Parse
 field-is : {t a n t′ a′ n′ : ℕ} → _≡_ {A = FieldReply} (Field t a n) (Field t′ a′ n′) → (a ≡ a′) × (n ≡ n′)
 field-is {a = a} {n = n} {a′ = a′} {n′ = n′} e = let i : a ≡ a′ = cc in let j : n ≡ n′ = cc in (i, j)
 
-refused≢field : {P : Type 0} {f : Refusal} {t a n : ℕ} → _≡_ {A = FieldReply} (Refused f) (Field t a n) → P
+pub refused≢field : {P : Type 0} {f : Refusal} {t a n : ℕ} → _≡_ {A = FieldReply} (Refused f) (Field t a n) → P
 refused≢field e = let y : _≡_ {A = ℕ} 0 1 = cc in let f : ⊥ = omega arith in absurd f
 
 module _ {version : ℕ} {s : List ℕ} {b : Block} {name : List ℕ} {r : FoundValue} (h : FieldFound version s b name r) where
@@ -140,11 +140,12 @@ module _ {s t : List ℕ} {k : ℕ} {name : List ℕ} {r : Walked} {t′ : List 
 
 -- ---- the part
 
-module _ {words : ℕ} {s : List ℕ} {k : ℕ} {name : List ℕ} {r : FieldReply} (h : FieldRead words s k name r) where
-  pub part-none : {f : Refusal} → r ≡ Refused f → [] ≡ partOf (fieldCall words s k name)
+-- of any call that answers with a field
+module _ {s : List ℕ} {r : FieldReply} {q : Reply FieldAnswer} (h : fieldIs s r ≡ q) where
+  pub part-none : {f : Refusal} → r ≡ Refused f → [] ≡ partOf q
   unfolding partOf
-  part-none z = ap (λ v. partOf (fieldIs s v)) (sym z) ∙ ap partOf (h .reply)
+  part-none z = ap (λ v. partOf (fieldIs s v)) (sym z) ∙ ap partOf h
 
-  pub part-is : {t a n e : ℕ} → r ≡ Field t a n → e ≡ a + n → take (e - a) (drop a s) ≡ partOf (fieldCall words s k name)
+  pub part-is : {t a n e : ℕ} → r ≡ Field t a n → e ≡ a + n → take (e - a) (drop a s) ≡ partOf q
   unfolding partOf
-  part-is {t} {a} {n} {e} z i = let j : e - a ≡ n = omega (arith, i) in ap (λ (m : ℕ). take m (drop a s)) j ∙ ap (λ v. partOf (fieldIs s v)) (sym z) ∙ ap partOf (h .reply)
+  part-is {t} {a} {n} {e} z i = let j : e - a ≡ n = omega (arith, i) in ap (λ (m : ℕ). take m (drop a s)) j ∙ ap (λ v. partOf (fieldIs s v)) (sym z) ∙ ap partOf h

@@ -1,4 +1,5 @@
 -- The laws of the definitions.
+pub mod Lists
 pub mod Readers
 pub mod ReplyLaws
 pub mod Positions

@@ -18,7 +18,6 @@ use Rattle.bsii_format.proofs.Readers.{Exact, bind-exact, success-exact, verify
 use Rattle.bsii_format.proofs.Readers.{after-ok, cond-ok, is-true, and-left, and-right, ok-val, at-value}
 use Rattle.bsii_format.proofs.Parsers.{number-exact, id-exact}
 use Rattle.bsii_format.proofs.Positions.{step, bind-ok, bind-fault, verify-ok, verify-not, verify-fault, consumed-ok, ended-bind, ended-consumed, ended-map}
-use Rattle.bsii_format.proofs.Records.{values-good, values-fits}
 use Rattle.bsii_string.specs.Answers.{faultIs, refusedAt, endOf}
 use Rattle.bsii_string.specs.declared.answers.Refusal.{Refusal}
 use Rattle.bsii_string.specs.declared.answers.Parsed.{Parsed}
@@ -29,6 +28,7 @@ use Rattle.bsii_prototype.specs.declared.answers.Counted.{Counted}
 use Rattle.bsii_prototype.specs.declared.answers.Counted.the-variants.{Fields as Many, Fault as Bad}
 use Rattle.bsii_prototype.proofs.Beginnings.{head-block}
 use Rattle.bsii_parse.specs.Walks.{DefinedAt, countedEnd, ValuesEnd}
+use Rattle.bsii_parse.proofs.Passing.{values-exact}
 use Rattle.bsii_walk.specs.Seek.{BlockIs}
 use Rattle.bsii_walk.specs.declared.seek.Block.{Block}
 use Rattle.bsii_derived.specs.IndexCalls.{isOf, blockAt}
@@ -122,13 +122,6 @@ module _ {version : ℕ} {s : List ℕ} {at id fields : ℕ} where
   }
 
 -- ---- its parts
-
-values-exact : (version : ℕ) (fs : List (Consumed ValuePrototype)) → Exact (List DataValue) (dataValuesParser version fs)
-values-exact version fs = record {
-  took = λ at s l at′ r e.
-      let g = values-good fs at s l at′ r e in
-      (_, record { front = g .front; place = g .place; fits = values-fits (g .good) });
-}
 
 pub block-exact : (version : ℕ) (p : Prototype) → Exact DataBlock (blockAt version p)
 unfolding blockAt

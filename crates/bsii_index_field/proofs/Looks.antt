@@ -30,14 +30,12 @@ use Rattle.bsii_index_record.specs.declared.RecordAt.{RecordAt}
 use Rattle.bsii_index_record.specs.declared.RecordAt.the-variants.{Record, NoRecord}
 use Rattle.bsii_derived.specs.Index.{recordAt}
 use Rattle.bsii_derived.specs.IndexCalls.{blockAt, answering, fieldBy, indexFieldCall}
+use Rattle.bsii_file_field.proofs.FieldCalls.{refused≢field}
 use Rattle.bsii_index_field.specs.Looks.{PrototypeRead, BlockRead, Looked, LookedUp}
 use Rattle.bsii_index_field.specs.declared.Prototype.{Prototype}
 use Rattle.bsii_index_field.specs.declared.Prototype.the-variants.{Prototype as Read, Refused as Unread}
 use Rattle.bsii_index_field.proofs.Prototypes.{stands, unstood}
 use Rattle.bsii_index_field.proofs.Blocks.{block-exact, blockOf, block-parts}
-
-refused≢field : {P : Type 0} {f : Refusal} {t a n : ℕ} → _≡_ {A = FieldReply} (Refused f) (Field t a n) → P
-refused≢field e = let y : _≡_ {A = ℕ} 0 1 = cc in let f : ⊥ = omega arith in absurd f
 
 -- ---- at the record's offsets
 
@@ -107,16 +105,3 @@ module _ {w : ℕ} {s i : List ℕ} {k : ℕ} {name : List ℕ} where
           → LookedUp w s i k name f
       unfolding fieldBy answering
       looked v l = record { reply = l .reply ∙ sym (by-record w s i k name h e z ∙ rw v); inside = l .inside }
-
--- ---- the part
-
-module _ {w : ℕ} {s i : List ℕ} {k : ℕ} {name : List ℕ} {r : FieldReply} (h : LookedUp w s i k name r) where
-  pub part-none : {f : Refusal} → r ≡ Refused f → [] ≡ partOf (indexFieldCall w s i k name)
-  unfolding partOf
-  part-none z = ap (λ v. partOf (fieldIs s v)) (sym z) ∙ ap partOf (h .reply)
-
-  pub part-is : {t a n e : ℕ} → r ≡ Field t a n → e ≡ a + n → take (e - a) (drop a s) ≡ partOf (indexFieldCall w s i k name)
-  unfolding partOf
-  part-is {t} {a} {n} {e} z i =
-      let j : e - a ≡ n = omega (arith, i) in
-      ap (λ (m : ℕ). take m (drop a s)) j ∙ ap (λ v. partOf (fieldIs s v)) (sym z) ∙ ap partOf (h .reply)

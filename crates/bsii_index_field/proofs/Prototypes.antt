@@ -16,7 +16,7 @@ use Rattle.bsii_string.specs.declared.answers.Refusal.{Refusal}
 use Rattle.bsii_prototype.specs.Answers.{countOf}
 use Rattle.bsii_prototype.specs.declared.answers.Counted.the-variants.{Fields as Many, Fault as Bad}
 use Rattle.bsii_parse.specs.Walks.{DefinedAt}
-use Rattle.bsii_parse.proofs.Passing.{fields-exact}
+use Rattle.bsii_parse.proofs.Passing.{counted-fault, counted-is}
 use Rattle.bsii_derived.specs.IndexCalls.{PrototypeHead, prototypeHead, prototypeWith, prototypeAt}
 use Rattle.bsii_index_field.specs.Looks.{headOf, PrototypeRead, read, unread}
 use Rattle.bsii_index_field.specs.declared.Prototype.{Prototype}
@@ -62,16 +62,6 @@ head-read {i} {n} (ok h m r) e =
     (h, r, ap (λ (m : ℕ). ok h m r) j, k)
 head-read (fault x) e = read≢refused e
 
-bad-fields : {f : Refusal} (q : Result Fields) → Bad f ≡ countOf q → q ≡ fault (faultIs f)
-unfolding countOf
-bad-fields (ok l n r) e = let z : _≡_ {A = ℕ} 0 1 = cc in let f : ⊥ = omega arith in absurd f
-bad-fields {f} (fault x) e = let a : refusalIs x ≡ f = cc in ap (λ (f : Refusal). fault (faultIs f)) a
-
-good-fields : {c n : ℕ} (q : Result Fields) → Many c n ≡ countOf q → (l : Fields) × (r : List ℕ) × (q ≡ ok l n r)
-unfolding countOf
-good-fields {n = n} (ok l m r) e = let i : m ≡ n = cc in (l, r, ap (λ (m : ℕ). ok l m r) i)
-good-fields (fault x) e = let z : _≡_ {A = ℕ} 0 1 = cc in let f : ⊥ = omega arith in absurd f
-
 module _ (s : List ℕ) (at b : ℕ) where
   pub no-head : {f : Refusal} → Refused f ≡ headOf (prototypeHead b at (drop at s)) → PrototypeRead s at b (Refused f)
   no-head e = unread (prototype-fault b at (drop at s) (head-refused _ e))
@@ -81,7 +71,7 @@ module _ (s : List ℕ) (at b : ℕ) where
     no-list k =
         let h = head-read _ e in
         let m = moved head-exact s at (head-defines b at (drop at s) (h .2)) in
-        unread (prototype-cut b at (drop at s) (h .2) (ap (fieldsParser fields) (m .rest) ∙ bad-fields _ k))
+        unread (prototype-cut b at (drop at s) (h .2) (ap (fieldsParser fields) (m .rest) ∙ counted-fault _ k))
 
     pub listed : {c n : ℕ} → Many c n ≡ countOf (fieldsParser fields (drop fields s)) → PrototypeRead s at b (Read id fields)
     unfolding prototypeWith
@@ -89,12 +79,11 @@ module _ (s : List ℕ) (at b : ℕ) where
         let h = head-read _ e in
         let d = head-defines b at (drop at s) (h .2) in
         let m = moved head-exact s at d in
-        let l = good-fields _ k in
-        let list = l .2 ∙ ap (λ (r : List ℕ). ok (l .0) n r) (moved fields-exact s fields (l .2) .rest) in
+        let l = counted-is s fields k in
         subst (λ (i : ℕ). PrototypeRead s at b (Read i fields)) (h .3)
         (read (prototypeWith (with (h .0) (take (fields - at) (drop at s))) (l .0))
-        (record { fields = fields; next = n; head = d ∙ ap (ok (defining (h .0 .id) (h .0 .name)) fields) (m .rest); list = list })
-        (prototype-whole b at (drop at s) (h .2) (ap (fieldsParser fields) (m .rest) ∙ list)))
+        (record { fields = fields; next = n; head = d ∙ ap (ok (defining (h .0 .id) (h .0 .name)) fields) (m .rest); list = l .1 })
+        (prototype-whole b at (drop at s) (h .2) (ap (fieldsParser fields) (m .rest) ∙ l .1)))
 
 -- ---- and back
 

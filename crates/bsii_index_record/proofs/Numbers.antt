@@ -12,6 +12,7 @@ use borrow.Author.Tests.{eq-eqb, ne-eqb}
 use Rattle.bsii_format.specs.Reader.{same}
 use Rattle.bsii_format.specs.Numbers.{littleEndian, le}
 use Rattle.bsii_string.proofs.Bytes.{byte-more}
+use Rattle.bsii_derived.proofs.Bytes.{le-length}
 
 -- ---- read
 
@@ -49,11 +50,6 @@ pub bound-none : (w : ℕ) → 0 < 256 ^ (w - w)
 bound-none w = let z : w - w ≡ 0 = omega arith in rw z (omega arith)
 
 -- ---- compared
-
-pub le-length : (w n : ℕ) → length (le w n) ≡ w
-unfolding le
-le-length zero n = refl
-le-length (suc w) n = ap suc (le-length w (n / 256))
 
 and-false : (b : Bool) → b && false ≡ false
 and-false true = refl
@@ -104,9 +100,3 @@ sets-more l w at i n h =
 pub sets-none : (l : List ℕ) (w at n : ℕ) → w ≡ 0 → sets l at (le w n) ≡ l
 unfolding le
 sets-none l w at n e = rw e
-
-pub sets-append : (l : List ℕ) (i : ℕ) (xs ys : List ℕ) → sets (sets l i xs) (i + length xs) ys ≡ sets l i (xs ++ ys)
-sets-append l i [] ys = simp add-zero
-sets-append l i (a ∷ xs) ys =
-    let z : i + suc (length xs) ≡ suc i + length xs = omega arith in
-    rw z (sets-append (set l i a) (suc i) xs ys)

@@ -15,14 +15,9 @@ use Rattle.bsii_format.specs.Reader.{Reader, same, after, success, _>>=_}
 use Rattle.bsii_format.specs.Numbers.{littleEndian, number, le}
 use Rattle.bsii_format.proofs.Positions.{number-at, number-short}
 use Rattle.bsii_derived.specs.Index.{IndexRecord, indexRecordBytes, indexRecordParser, whole, recordAt}
-use Rattle.bsii_index_record.proofs.Numbers.{le-length, same-cut, sets-append}
-
-bool-cases : (b : Bool) → (b ≡ true) ⊎ (b ≡ false)
-bool-cases true = inl refl
-bool-cases false = inr refl
-
-lt-or-le : (a b : ℕ) → (a < b) ⊎ (b ≤ a)
-lt-or-le a b = ⊎-elim (λ e. inl (ltb-true a b e)) (λ e. inr (ltb-false a b e)) (bool-cases (ltb a b))
+use Rattle.bsii_format.proofs.Lists.{lt-or-le, sets-append}
+use Rattle.bsii_derived.proofs.Bytes.{le-length}
+use Rattle.bsii_index_record.proofs.Numbers.{same-cut}
 
 -- ---- read
 

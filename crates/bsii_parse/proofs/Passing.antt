@@ -56,15 +56,15 @@ fields-exact = record {
 }
 
 -- a block's id and values
+pub values-exact : (version : ℕ) (fs : List (Consumed ValuePrototype)) → Exact (List DataValue) (dataValuesParser version fs)
+values-exact version fs = record {
+  took = λ at s l at′ r e.
+      let g = values-good fs at s l at′ r e in
+      (_, record { front = g .front; place = g .place; fits = values-fits (g .good) });
+}
+
 block-exact : (version : ℕ) (fs : List (Consumed ValuePrototype)) → Exact (List DataValue) (idParser >>= (λ i. dataValuesParser version fs))
-block-exact version fs = bind-exact _ id-exact (λ i. values-exact fs)
-  where
-    values-exact : (fs : List (Consumed ValuePrototype)) → Exact (List DataValue) (dataValuesParser version fs)
-    values-exact fs = record {
-      took = λ at s l at′ r e.
-          let g = values-good fs at s l at′ r e in
-          (_, record { front = g .front; place = g .place; fits = values-fits (g .good) });
-    }
+block-exact version fs = bind-exact _ id-exact (λ i. values-exact version fs)
 
 -- how far the walk is behind a prototype, and behind a block
 abbrev behindPrototype : Progress → ℕ → ℕ → Progress
@@ -182,12 +182,12 @@ module _ {version : ℕ} {s : List ℕ} {p : Progress} {t : List ℕ} {env : Lis
 
 -- ---- the same for the code's answers
 
-counted-fault : {f : Refusal} (q : Result Fields) → Counted-Fault f ≡ countOf q → q ≡ fault (faultIs f)
+pub counted-fault : {f : Refusal} (q : Result Fields) → Counted-Fault f ≡ countOf q → q ≡ fault (faultIs f)
 unfolding countOf
 counted-fault (ok l n r) e = let z : _≡_ {A = ℕ} 0 1 = cc in let f : ⊥ = omega arith in absurd f
 counted-fault {f} (fault x) e = let a : refusalIs x ≡ f = cc in ap (λ (f : Refusal). fault (faultIs f)) a
 
-counted-is : (s : List ℕ) (fields : ℕ) {c n : ℕ} → Counted-Fields c n ≡ countOf (fieldsParser fields (drop fields s)) → (l : Fields) × (fieldsParser fields (drop fields s) ≡ ok l n (drop n s))
+pub counted-is : (s : List ℕ) (fields : ℕ) {c n : ℕ} → Counted-Fields c n ≡ countOf (fieldsParser fields (drop fields s)) → (l : Fields) × (fieldsParser fields (drop fields s) ≡ ok l n (drop n s))
 unfolding countOf
 counted-is s fields {c} {n} e = go (fieldsParser fields (drop fields s)) refl e
   where

@@ -10,17 +10,11 @@ use lib.Dec.{ltb}
 use lib.ListN.{set, length, getD, take, drop, length-append, length-drop, take-append-drop, drop-of-length-le}
 use lib.Seq.{sets, length-take-le, take-suc, take-all, set-out, length-sets, drop-append-le, drop-append-add, drop-nil, sets-eq, take-at}
 use borrow.Author.Tests.{le-leb, lt-leb, ltb-true, ltb-false}
+pub use Rattle.bsii_format.proofs.Lists.{bool-cases, lt-or-le, sets-append}
 use Rattle.bsii_window.specs.Window.{capped, written, Wrote}
 use Rattle.bsii_window.specs.Overlaps.{OverlapOf}
 use Rattle.bsii_window.specs.declared.window.Overlap.{Overlap}
 use Rattle.bsii_window.specs.declared.window.Overlap.the-variants as place
-
-pub bool-cases : (b : Bool) → (b ≡ true) ⊎ (b ≡ false)
-bool-cases true = inl refl
-bool-cases false = inr refl
-
-pub lt-or-le : (a b : ℕ) → (a < b) ⊎ (b ≤ a)
-lt-or-le a b = ⊎-elim (λ e. inl (ltb-true a b e)) (λ e. inr (ltb-false a b e)) (bool-cases (ltb a b))
 
 -- ---- positions
 
@@ -61,12 +55,6 @@ capped-high a b h =
     (lt-or-le (a + b) 0xffff_ffff_ffff_ffff)
 
 -- ---- windows
-
-pub sets-append : (l : List ℕ) (i : ℕ) (xs ys : List ℕ) → sets (sets l i xs) (i + length xs) ys ≡ sets l i (xs ++ ys)
-sets-append l i [] ys = simp add-zero
-sets-append l i (a ∷ xs) ys =
-    let z : i + suc (length xs) ≡ suc i + length xs = omega arith in
-    rw z (sets-append (set l i a) (suc i) xs ys)
 
 pub sets-out : (l : List ℕ) (i : ℕ) (vs : List ℕ) → length l ≤ i → sets l i vs ≡ l
 sets-out l i [] h = refl
