@@ -7,7 +7,8 @@ use lib.ListN.{length, drop}
 use Rattle.bsii_format.specs.Replies.{Reply}
 use Rattle.bsii_format.specs.Reader.{Result, ok, fault, Reader, success, _>>=_}
 use Rattle.bsii_format.specs.Numbers.{leU8, leU32}
-use Rattle.bsii_format.specs.Strings.{strParser}
+use Rattle.bsii_format.specs.Strings.{strParser, idParser}
+use Rattle.bsii_format.specs.Blocks.{dataValuesParser}
 use Rattle.bsii_format.specs.Prototypes.{Prototype as PrototypeOf, Fields, fieldsParser}
 use Rattle.bsii_format.specs.Calls.{orAbsent, fieldUnder, FieldAnswer, fieldAnswer}
 use Rattle.bsii_string.specs.Answers.{faultIs, refusalIs, endOf}
@@ -46,8 +47,14 @@ pub data PrototypeRead (s : List ℕ) (at b : ℕ) : Prototype → Type 0 where
 
 -- ---- the block at an offset, under a prototype of this id whose definitions start at `fields`
 
+-- a block's id and values from `at` on
+pub record BodyRead (version : ℕ) (s : List ℕ) (fields at : ℕ) (r : Parsed) : Type 0 where
+  pub ends : (l : Fields) (n : ℕ) (t : List ℕ) → fieldsParser fields (drop fields s) ≡ ok l n t
+      → r ≡ endOf ((idParser >>= (λ i. dataValuesParser version (l .fields))) at (drop at s))
+
 pub record BlockRead (version : ℕ) (s : List ℕ) (at id fields : ℕ) (r : Parsed) : Type 0 where
-  pub ends : (p : PrototypeOf) (l : Fields) (n : ℕ) (t : List ℕ) → p .id ≡ id → p .fields ≡ l .fields → fieldsParser fields (drop fields s) ≡ ok l n t → r ≡ endOf (blockAt version p at (drop at s))
+  pub ends : (p : PrototypeOf) (l : Fields) (n : ℕ) (t : List ℕ) → p .id ≡ id → p .fields ≡ l .fields → fieldsParser fields (drop fields s) ≡ ok l n t
+      → r ≡ endOf (blockAt version p at (drop at s))
 
 -- ---- the field
 

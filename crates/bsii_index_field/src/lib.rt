@@ -2,11 +2,10 @@
 // known of the index, so everything that is read is checked.
 use bsii_file_field::fields::FieldReply;
 use bsii_file_field::fields::placed;
-use bsii_index_record::IndexRecord;
 use bsii_index_record::RecordAt;
 use bsii_index_record::WIDTH;
 use bsii_index_record::record_at;
-use bsii_parse::blocks::data_block_parser;
+use bsii_parse::blocks::values_parser;
 use bsii_prototype::answers::Counted;
 use bsii_prototype::fields::fields_parser;
 use bsii_string::answers::ABSENT;
@@ -21,6 +20,7 @@ use bsii_string::numbers::le_u8;
 use bsii_string::numbers::le_u32;
 use bsii_string::strings::str_end;
 use bsii_walk::seek::Block;
+use bsii_word::words::id_parser;
 ghost use mathlib.Core.Path.{_≡_};
 ghost use lib.ListN.{drop};
 ghost use Rattle.bsii_format.specs.Replies.{undefinedPrototype};
@@ -30,7 +30,7 @@ ghost use Rattle.bsii_derived.specs.IndexCalls.{prototypeHead, indexFieldCall};
 ghost use Rattle.bsii_string.specs.Answers.{refusedAt};
 ghost use Rattle.bsii_file_field.specs.Answers.{fieldIs};
 ghost use Rattle.bsii_index_record.specs.Records.{Width};
-ghost use Rattle.bsii_index_field.specs.Looks.{headOf, markedHead, namedHead, PrototypeRead, BlockRead, Looked, LookedUp};
+ghost use Rattle.bsii_index_field.specs.Looks.{headOf, markedHead, namedHead, PrototypeRead, BodyRead, BlockRead, Looked, LookedUp};
 
 // A prototype's id, and the offset of its first field definition.
 pub enum Prototype {
@@ -109,6 +109,26 @@ fn prototype_parser(s: &[u8], at: usize, block: usize) -> Prototype
     }
 }
 
+// A block's id and its values, where the definitions start at `fields`.
+fn body_parser(s: &[u8], version: u32, fields: usize, at: usize) -> Parsed
+    ensures { λ r. ⌜ BodyRead version (now (s .entry)) fields at r ⌝ }
+{
+    let id = id_parser(s, at);
+    match id {
+        Parsed::Fault(f) => Parsed::Fault(f),
+        Parsed::Next(next) => {
+            let values = values_parser(s, version, fields, next);
+            match values {
+                Counted::Fault(f) => Parsed::Fault(f),
+                Counted::Fields {
+                    count: _,
+                    next: end,
+                } => Parsed::Next(end),
+            }
+        }
+    }
+}
+
 // The block at `at`, under the prototype of this id whose definitions start at `fields`.
 fn block_parser(s: &[u8], version: u32, at: usize, id: u32, fields: usize) -> Parsed
     ensures { λ r. ⌜ BlockRead version (now (s .entry)) at id fields r ⌝ }
@@ -123,11 +143,7 @@ fn block_parser(s: &[u8], version: u32, at: usize, id: u32, fields: usize) -> Pa
             if n != id {
                 return Parsed::Fault(refused(UNDEFINED_PROTOTYPE, at));
             }
-            let block = data_block_parser(s, version, fields, next);
-            match block {
-                Counted::Fault(f) => Parsed::Fault(f),
-                Counted::Fields { count: _, next: end } => Parsed::Next(end),
-            }
+            body_parser(s, version, fields, next)
         }
     }
 }

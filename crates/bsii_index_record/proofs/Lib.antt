@@ -1,1 +1,3 @@
 -- Laws of an index in bytes.
+pub mod Numbers
+pub mod Records

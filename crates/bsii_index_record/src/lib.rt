@@ -4,6 +4,7 @@ ghost use mathlib.Core.Path.{_≡_};
 ghost use Prim.Native.Nat.{_+_, _*_, _≤_};
 ghost use mathlib.Core.List.{_++_};
 ghost use lib.ListN.{length, take, drop};
+ghost use lib.Seq.{sets};
 ghost use Rattle.bsii_format.specs.Reader.{same};
 ghost use Rattle.bsii_format.specs.Numbers.{littleEndian, le};
 ghost use Rattle.bsii_derived.specs.Index.{indexRecordBytes, recordAt};
@@ -84,15 +85,21 @@ pub fn record_is(index: &[u8], at: usize, width: usize, entry: IndexRecord) -> b
     if left(index, at) < 4 * width {
         return false;
     }
-    number_is(index, at, width, entry.offset)
-        && number_is(index, at + width, width, entry.size)
-        && number_is(index, at + 2 * width, width, entry.prototype)
-        && number_is(index, at + 3 * width, width, entry.fields)
+    if !number_is(index, at, width, entry.offset) {
+        return false;
+    }
+    if !number_is(index, at + width, width, entry.size) {
+        return false;
+    }
+    if !number_is(index, at + 2 * width, width, entry.prototype) {
+        return false;
+    }
+    number_is(index, at + 3 * width, width, entry.fields)
 }
 
 fn put_number(out: &mut [u8], at: usize, width: usize, n: usize)
     requires { ⌜ at + width ≤ length (now out) ⌝ }
-    ensures { λ r. ⌜ now (out .exit) ≡ take at (now (out .entry)) ++ (le width n ++ drop (at + width) (now (out .entry))) ⌝ }
+    ensures { λ r. ⌜ now (out .exit) ≡ sets (now (out .entry)) at (le width n) ⌝ }
 {
     let mut rest = n;
     let mut i = 0;
