@@ -4,3 +4,4 @@ pub mod Once
 pub mod Defined
 pub mod Entries
 pub mod Claims
+pub mod Walk

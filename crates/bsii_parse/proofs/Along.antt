@@ -12,8 +12,10 @@ use Rattle.bsii_format.specs.Prototypes.{Prototype}
 use Rattle.bsii_format.specs.Blocks.{getPrototype}
 use Rattle.bsii_format.specs.File.{Record, prototype, block, recordBytes, recordsBytes, Records, lengthLimit, define, distinctIds}
 use Rattle.bsii_format.specs.Calls.{Placed, placed, consPrototype, prototypesIn}
+use Rattle.bsii_format.proofs.Readers.{fault≢ok, ok-val, ok-move}
+use Rattle.bsii_string.specs.Answers.{faultIs}
 use Rattle.bsii_string.specs.declared.answers.Refusal.{Refusal}
-use Rattle.bsii_parse.specs.Walks.{blockCount, prototypeCount, behind, recordsAt, bare, Growing, Ready, Goes, behind-prototype, behind-block, StepMeets, passed, ended, refused, Walks, done, stopped}
+use Rattle.bsii_parse.specs.Walks.{Assured, blockCount, prototypeCount, behind, recordsAt, bare, Growing, Ready, Goes, behind-prototype, behind-block, StepMeets, passed, ended, refused, Walks, done, stopped}
 use Rattle.bsii_parse.specs.declared.walk.Progress.{Progress}
 use Rattle.bsii_parse.specs.declared.walk.ReadStep.{ReadStep}
 use Rattle.bsii_parse.specs.declared.walk.Under.{Under}
@@ -60,6 +62,12 @@ behind-none : (q : Result Records) → q ≡ behind [] q
 unfolding behind
 behind-none (ok q at r) = refl
 behind-none (fault f) = refl
+
+behind-ok : (l : List Record) (x : Result Records) {q : Records} {n : ℕ} {u : List ℕ} → behind l x ≡ ok q n u
+    → (y : Records) × (x ≡ ok y n u) × (q .records ≡ l ++ y .records)
+unfolding behind
+behind-ok l (ok y at r) {q} {n} {u} e = (y, ok-move (λ v m w. ok y at r ≡ ok y m w) e refl, sym (ap (λ (z : Records). z .records) (ok-val e)))
+behind-ok l (fault f) e = fault≢ok e
 
 pub along-start : {version : ℕ} (s : List ℕ) (start : ℕ) (t : List ℕ) → start ≤ length s
     → Along version s start t (record { at = start; rows = 0; blocks = 0; prototypes = 0 }) t
@@ -114,10 +122,15 @@ distinct-more (prototype p) env = go (isSome (getPrototype (p .id) env))
     go false = omega arith
 distinct-more (block b) env = omega arith
 
--- one more record; the position rises, so the loop ends
-pub record Further (version : ℕ) (s : List ℕ) (start : ℕ) (t₀ : List ℕ) (p q : Progress) (t : List ℕ) : Type 0 where
+-- one more record, by the step r; the position rises, so the loop ends
+pub record Further (version : ℕ) (s : List ℕ) (start : ℕ) (t₀ : List ℕ) (p : Progress) (so : List Record) (r : ReadStep) (q : Progress) (t : List ℕ) : Type 0 where
   pub on : p .at < q .at
   pub along : Along version s start t₀ q t
+  pub one : Record
+  pub so-far : along .so ≡ so ++ (one ∷ [])
+  pub long : q .at ≡ p .at + length (recordBytes one)
+  pub counts : q .blocks ≡ p .blocks + blockCount (one ∷ [])
+  pub goes : Goes (defsFrom start so) q one r
 
 module _ {version : ℕ} {s : List ℕ} {start : ℕ} {t₀ : List ℕ} {p : Progress} {t : List ℕ} (a : Along version s start t₀ p t) where
   rooms : length t / 3 ≡ length t₀ / 3
@@ -128,13 +141,18 @@ module _ {version : ℕ} {s : List ℕ} {start : ℕ} {t₀ : List ℕ} {p : Pro
   from-here e = a .rest ∙ ap (behind (a .so)) (ap (λ m. recordsAt version m (bare (defsFrom start (a .so))) (p .at) s) (sym rooms) ∙ e)
 
   along-step : {r : ReadStep} {t′ : List ℕ} → StepMeets version s p t (defsFrom start (a .so)) r t′ → {q : Progress} → Went r q
-      → Further version s start t₀ p q t′
+      → Further version s start t₀ p (a .so) r q t′
   unfolding blockCount prototypeCount
-  along-step {t′ = t′} (passed i {n = n} {rows = rows} e on inside place kept size goes) z =
+  along-step {r} {t′ = t′} (passed i {n = n} {rows = rows} e on inside place kept size goes) z =
       let defs : defsFrom start (a .so ++ (i ∷ [])) ≡ consPrototype (p .at) i (defsFrom start (a .so)) =
       defs-snoc start (a .so) i [] ∙ ap (λ m. consPrototype m i (defsFrom start (a .so))) (sym (a .place)) in
-      subst (λ w. Further version s start t₀ p w t′) (went goes z) (record {
+      subst (λ w. Further version s start t₀ p (a .so) r w t′) (went goes z) (record {
         on = on;
+        one = i;
+        so-far = refl;
+        long = place;
+        counts = refl;
+        goes = goes;
         along = record {
           so = a .so ++ (i ∷ []);
           place = place ∙ rw bytes-snoc (omega (arith, a .place));
@@ -171,31 +189,56 @@ module _ {version : ℕ} {s : List ℕ} {start : ℕ} {t₀ : List ℕ} {p : Pro
   along-step (refused e l) z = absurd z
 
   pub along-prototype : {r : ReadStep} {t′ : List ℕ} → StepMeets version s p t (defsFrom start (a .so)) r t′ → {q : Progress} → r ≡ WentPrototype q
-      → Further version s start t₀ p q t′
+      → Further version s start t₀ p (a .so) r q t′
   along-prototype m {q} z = along-step m (subst (λ r. Went r q) (sym z) refl)
 
   pub along-block : {r : ReadStep} {t′ : List ℕ} → StepMeets version s p t (defsFrom start (a .so)) r t′ → {q : Progress} {u : Under} → r ≡ WentBlock q u
-      → Further version s start t₀ p q t′
+      → Further version s start t₀ p (a .so) r q t′
   along-block m {q} z = along-step m (subst (λ r. Went r q) (sym z) refl)
 
-  pub along-end : {r : ReadStep} {t′ : List ℕ} → StepMeets version s p t (defsFrom start (a .so)) r t′ → {n : ℕ} → r ≡ End n
-      → Walks version s start t₀ (Done (record { version = version; rows = p .rows; blocks = p .blocks; prototypes = p .prototypes; next = n })) t′
-  along-end (passed i e on inside place kept size goes) z = goes≢end goes z
-  along-end (refused e l) z = end≢refused (sym z)
-  along-end (ended {l = l} {n = m} e) {n} z =
+  -- at the end record
+  pub record Ends (n : ℕ) (t′ : List ℕ) : Type 0 where
+    pub end : List ℕ
+    pub all : recordsAt version (length t₀ / 3) [] start s ≡ ok (record { records = a .so; end = end }) n (drop n s)
+    pub kept : Growing s t′ (p .rows) (defsFrom start (a .so))
+    pub size : length t′ ≡ length t₀
+
+  pub along-all : {r : ReadStep} {t′ : List ℕ} → StepMeets version s p t (defsFrom start (a .so)) r t′ → {n : ℕ} → r ≡ End n → Ends n t′
+  along-all (passed i e on inside place kept size goes) z = goes≢end goes z
+  along-all (refused e l) z = end≢refused (sym z)
+  along-all (ended {l = l} {n = m} e) {n} z =
       let here : m ≡ n = cc in
-      let q : Records = record { records = a .so; end = l } in
-      let all : recordsAt version (length t₀ / 3) [] start s ≡ ok q m (drop m s) = from-here e ∙ last l m in
-      subst (λ k. Walks version s start t₀ (Done (record { version = version; rows = p .rows; blocks = p .blocks; prototypes = p .prototypes; next = k })) t) here
-      (subst (λ k. Walks version s start t₀ (Done (record { version = version; rows = p .rows; blocks = k; prototypes = p .prototypes; next = m })) t) (sym (a .blocks))
-      (subst (λ k. Walks version s start t₀ (Done (record { version = version; rows = p .rows; blocks = blockCount (a .so); prototypes = k; next = m })) t) (sym (a .prototypes))
-      (done q all (a .kept) (a .size))))
+      subst (λ k. Ends k t) here (record { end = l; all = from-here e ∙ last l m; kept = a .kept; size = a .size })
     where
       last : (l : List ℕ) (m : ℕ) → behind (a .so) (ok (record { records = []; end = l }) m (drop m s)) ≡ ok (record { records = a .so; end = l }) m (drop m s)
       last l m = unfold behind in ap (λ w. ok (record { records = w; end = l }) m (drop m s)) (append-nil (a .so))
 
-  pub along-stop : {r : ReadStep} {t′ : List ℕ} → StepMeets version s p t (defsFrom start (a .so)) r t′ → {f : Refusal} → r ≡ Refused f → Walks version s start t₀ (Stopped f) t′
+  pub along-end : {r : ReadStep} {t′ : List ℕ} → StepMeets version s p t (defsFrom start (a .so)) r t′ → {n : ℕ} → r ≡ End n
+      → Walks version s start t₀ (Done (record { version = version; rows = p .rows; blocks = p .blocks; prototypes = p .prototypes; next = n })) t′
+  along-end {t′ = t′} m {n} z =
+      let x = along-all m z in
+      subst (λ k. Walks version s start t₀ (Done (record { version = version; rows = p .rows; blocks = k; prototypes = p .prototypes; next = n })) t′) (sym (a .blocks))
+      (subst (λ k. Walks version s start t₀ (Done (record { version = version; rows = p .rows; blocks = blockCount (a .so); prototypes = k; next = n })) t′) (sym (a .prototypes))
+      (done (record { records = a .so; end = x .end }) (x .all) (x .kept) (x .size)))
+
+  pub along-refused : {r : ReadStep} {t′ : List ℕ} → StepMeets version s p t (defsFrom start (a .so)) r t′ → {f : Refusal} → r ≡ Refused f
+      → (recordsAt version (length t₀ / 3) [] start s ≡ fault (faultIs f)) × (length t′ ≡ length t₀)
   unfolding behind
-  along-stop (passed i e on inside place kept size goes) z = goes≢refused goes z
-  along-stop (ended e) z = end≢refused z
-  along-stop {t′ = t′} (refused {f = x} e l) {f} z = let same : x ≡ f = cc in subst (λ w. Walks version s start t₀ (Stopped w) t′) same (stopped (from-here e) (l ∙ a .size))
+  along-refused (passed i e on inside place kept size goes) z = goes≢refused goes z
+  along-refused (ended e) z = end≢refused z
+  along-refused (refused {f = x} e l) {f} z = let same : x ≡ f = cc in (from-here e ∙ ap (λ w. fault (faultIs w)) same, l ∙ a .size)
+
+  pub along-stop : {r : ReadStep} {t′ : List ℕ} → StepMeets version s p t (defsFrom start (a .so)) r t′ → {f : Refusal} → r ≡ Refused f → Walks version s start t₀ (Stopped f) t′
+  along-stop m z = let x = along-refused m z in stopped (x .0) (x .1)
+
+  -- where the whole is accepted, what is left is, and stands behind what was passed
+  pub along-accepted : {q : Records} {n : ℕ} {u : List ℕ} → recordsAt version (length t₀ / 3) [] start s ≡ ok q n u
+      → Assured true (recordsAt version (length t / 3) (bare (defsFrom start (a .so))) (p .at) s)
+  along-accepted {n = n} {u = u} e =
+      let x = behind-ok (a .so) (recordsAt version (length t₀ / 3) (bare (defsFrom start (a .so))) (p .at) s) (sym (a .rest) ∙ e) in
+      (x .0, n, u, ap (λ m. recordsAt version m (bare (defsFrom start (a .so))) (p .at) s) rooms ∙ x .1)
+
+  pub along-within : {q : Records} {n : ℕ} {u : List ℕ} → recordsAt version (length t₀ / 3) [] start s ≡ ok q n u → (l : List Record) × (q .records ≡ a .so ++ l)
+  along-within e =
+      let x = behind-ok (a .so) (recordsAt version (length t₀ / 3) (bare (defsFrom start (a .so))) (p .at) s) (sym (a .rest) ∙ e) in
+      (x .0 .records, x .2)
