@@ -37,8 +37,8 @@ abbrev pub agreedOf : ℕ → List index.IndexRecord → List ℕ → Agreed
 agreedOf w l i = record { records = agreeing w l i; blocks = length l }
 
 pub data Compares (version : ℕ) (s : List ℕ) (start : ℕ) (t i : List ℕ) (w : ℕ) : Compared → List ℕ → Type 0 where
-  compared : (q : Records) {n : ℕ} {t′ : List ℕ} → recordsAt version (length t / 3) [] start s ≡ ok q n (drop n s) → length t′ ≡ length t
-      → Compares version s start t i w (Agreeing (agreedOf w (indexAt start (q .records)) i)) t′
+  walked : (q : Records) {n : ℕ} {t′ : List ℕ} → recordsAt version (length t / 3) [] start s ≡ ok q n (drop n s) → length (indexAt start (q .records)) ≤ lengthLimit
+      → length t′ ≡ length t → Compares version s start t i w (Agreeing (agreedOf w (indexAt start (q .records)) i)) t′
   stopped : {f : Refusal} {t′ : List ℕ} → recordsAt version (length t / 3) [] start s ≡ fault (faultIs f) → length t′ ≡ length t
       → Compares version s start t i w (Stopped f) t′
 

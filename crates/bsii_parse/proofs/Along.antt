@@ -86,6 +86,10 @@ along-start {version} s start t h = record {
   rest = behind-none (recordsAt version (length t / 3) [] start s);
 }
 
+pub along-none : (version : ℕ) (s : List ℕ) (start : ℕ) (t : List ℕ) (h : start ≤ length s) → along-start {version = version} s start t h .so ≡ []
+unfolding along-start
+along-none version s start t h = refl
+
 pub along-ready : {version : ℕ} {s : List ℕ} {start : ℕ} {t₀ : List ℕ} {p : Progress} {t : List ℕ} → length s ≤ lengthLimit → Along version s start t₀ p t
     → Ready s p t
 along-ready h a = record { short = h; inside = a .inside; counted = a .counted; defined = a .defined; rows = a .kept .holds .valid; few = a .few }

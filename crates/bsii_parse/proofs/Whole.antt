@@ -6,14 +6,16 @@ use mathlib.Core.List.{List, [], _∷_}
 use lib.ListN.{length, take, drop}
 use lib.Seq.{length-take-le}
 use lib.Dec.{T, leb, leb→le}
-use Rattle.bsii_format.specs.Replies.{gives, invalidHeader, inputLong}
+use Rattle.bsii_format.specs.Ascii.{ascii}
+use Rattle.bsii_format.specs.Replies.{Fault, gives, invalidHeader, inputLong}
 use Rattle.bsii_format.specs.Reader.{ok, fault, faultAt, after, _>>=_, success, _<$>_, Consumed, with, consumed, same, tag}
-use Rattle.bsii_format.specs.File.{Record, prototype, block, recordBytes, recordsParser, headerParser, bsiiFile, bsiiParser, lengthLimit, parse, defineAll, prototypesOf, distinctIds}
+use Rattle.bsii_format.specs.File.{Record, prototype, block, recordBytes, Records, recordsFrom, recordsParser, headerParser, BsiiFile, bsiiFile, bsiiParser, lengthLimit, parse, defineAll, prototypesOf, distinctIds}
 use Rattle.bsii_format.specs.Calls.{placed, placedRecords, consBlock, blocksIn, blocksOf, prototypesIn, ofFile, Reading as ReadingOf, readingOf, readingCall}
-use Rattle.bsii_format.proofs.Readers.{is-false}
+use Rattle.bsii_format.proofs.Readers.{is-false, ok-at, after-ok, cond-ok, map-ok, consumed-took}
 use Rattle.bsii_format.proofs.Parsers.{header-exact}
-use Rattle.bsii_format.proofs.Positions.{moved-on}
-use Rattle.bsii_format.proofs.File.{parse-short}
+use Rattle.bsii_format.proofs.Positions.{moved, moved-on}
+use Rattle.bsii_format.proofs.File.{parse-short, parse-ok}
+use Rattle.bsii_prototype.proofs.Names.{number-front}
 use Rattle.bsii_string.specs.Answers.{faultIs, refusedAt}
 use Rattle.bsii_string.specs.declared.answers.Refusal.{Refusal}
 use Rattle.bsii_parse.specs.Walks.{blockCount, recordsAt, Growing, Walks, done, stopped, read, unread, ReadTree, ReadFile}
@@ -29,26 +31,29 @@ use Rattle.bsii_parse.proofs.Tables.{bare-all, kept-ordered}
 
 -- ---- in front of the records
 
-pub file-long : (s t : List ℕ) → lengthLimit < length s → ReadTree s t (Stopped (refusedAt inputLong 0)) t
+pub long-refused : (words : ℕ) (s : List ℕ) → lengthLimit < length s → parse words s ≡ faultAt inputLong 0
 unfolding parse
-file-long s t h =
+long-refused words s h =
     let l : T (leb (length s) lengthLimit) → ⊥ = λ k. let z : length s ≤ lengthLimit = leb→le (length s) lengthLimit k in omega arith in
-    let e : parse (length t) s ≡ faultAt inputLong 0 = rw (is-false (leb (length s) lengthLimit) l) in
-    unread e refl
+    rw (is-false (leb (length s) lengthLimit) l)
+
+pub file-long : (s t : List ℕ) → lengthLimit < length s → ReadTree s t (Stopped (refusedAt inputLong 0)) t
+file-long s t h = unread (long-refused (length t) s h) refl
 
 header-empty : headerParser 0 [] ≡ faultAt invalidHeader 0
 unfolding headerParser _>>=_ after tag same
 header-empty = refl
 
 module _ (s t : List ℕ) (short : length s ≤ lengthLimit) where
-  pub header-fault : {f : Refusal} → headerParser 0 s ≡ fault (faultIs f) → ReadTree s t (Stopped f) t
+  pub header-refused : {f : Fault} → headerParser 0 s ≡ fault f → parse (length t) s ≡ fault f
   unfolding bsiiParser _>>=_ after consumed
-  header-fault {f} e =
-      let z : parse (length t) s ≡ fault (faultIs f) = parse-short (length t) s short ∙ rw e in
-      unread z refl
+  header-refused e = parse-short (length t) s short ∙ rw e
+
+  pub header-fault : {f : Refusal} → headerParser 0 s ≡ fault (faultIs f) → ReadTree s t (Stopped f) t
+  header-fault e = unread (header-refused e) refl
 
   module _ {v : ℕ} (h : headerParser 0 s ≡ ok v 8 (drop 8 s)) where
-    header : Consumed ℕ
+    unfoldable pub header : Consumed ℕ
     header = with v (take 8 s)
 
     parse-is : parse (length t) s ≡ after (recordsAt v (length t / 3) [] 8 s) (λ l. success (bsiiFile header l))
@@ -58,16 +63,59 @@ module _ (s t : List ℕ) (short : length s ≤ lengthLimit) where
     pub header-long : 8 ≤ length s
     header-long = moved-on header-exact header-empty s 0 h .1
 
+    pub records-refused : {f : Fault} → recordsAt v (length t / 3) [] 8 s ≡ fault f → parse (length t) s ≡ fault f
+    unfolding after
+    records-refused e = parse-is ∙ rw e
+
+    pub records-read : (q : Records) {n : ℕ} → recordsAt v (length t / 3) [] 8 s ≡ ok q n (drop n s) → parse (length t) s ≡ ok (bsiiFile header q) n (drop n s)
+    unfolding after success
+    records-read q e = parse-is ∙ rw e
+
     -- the walk from the first record on is the file
     pub file-walked : {r : Walked} {t′ : List ℕ} → Walks v s 8 t r t′ → ReadTree s t r t′
-    unfolding after success bsiiFile header placedRecords
+    unfolding bsiiFile header placedRecords
     file-walked {t′ = t′} (done q {rows = rows} {n = n} e k l) =
-        let is : parse (length t) s ≡ ok (bsiiFile header q) n (drop n s) = parse-is ∙ rw e in
         let start : 8 ≡ length (take 8 s) = sym (length-take-le 8 s header-long) in
-        read (bsiiFile header q) is (subst (λ m. Growing s t′ rows (prototypesIn (placed (λ r. length (recordBytes r)) m (q .records)) [])) start k) l
-    file-walked (stopped {f = f} e l) =
-        let z : parse (length t) s ≡ fault (faultIs f) = parse-is ∙ rw e in
-        unread z l
+        read (bsiiFile header q) (records-read q e) (subst (λ m. Growing s t′ rows (prototypesIn (placed (λ r. length (recordBytes r)) m (q .records)) [])) start k) l
+    file-walked (stopped e l) = unread (records-refused e) l
+
+-- ---- the parts of a file that was read
+
+-- the header has 8 bytes
+header-size : (s : List ℕ) {v n : ℕ} {r : List ℕ} → headerParser 0 s ≡ ok v n r → n ≡ 8
+unfolding headerParser _>>=_ tag
+header-size s e =
+    let w = after-ok (tag (ascii "BSII") invalidHeader 0 s) _ e in
+    let c = cond-ok (same (take 4 s) (ascii "BSII")) _ _ (w .3) in
+    let i : w .1 ≡ 4 = sym (ok-at (c .1)) in
+    number-front 4 (w .1) (w .2) (w .4) .1 .next ∙ ap (λ (k : ℕ). k + 4) i
+
+pub record FileParts (words : ℕ) (s : List ℕ) (f : BsiiFile) (n : ℕ) : Type 0 where
+  pub short : length s ≤ lengthLimit
+  pub header : length (f .header .raw) ≡ 8
+  pub inside : 8 ≤ length s
+  pub reads : recordsAt (f .header .value) (words / 3) [] 8 s ≡ ok (record { records = f .records; end = f .end }) n (drop n s)
+
+pub file-parts : (words : ℕ) (s : List ℕ) {f : BsiiFile} {n : ℕ} → parse words s ≡ ok f n (drop n s) → FileParts words s f n
+unfolding bsiiParser _>>=_ bsiiFile recordsParser
+file-parts words s {f} {n} e =
+    let k = parse-ok words s e in
+    let w = after-ok (consumed headerParser 0 s) (λ h. bsiiFile h <$> recordsParser (h .value) (words / 3)) (k .1) in
+    let x = consumed-took header-exact 0 s (w .0) (w .1) (w .2) (w .3) in
+    let h : headerParser 0 s ≡ ok (w .0 .value) (w .1) (w .2) =
+    ap (headerParser 0) (x .front) ∙ x .fit .reads 0 (w .2) ∙ ap (λ (i : ℕ). ok (w .0 .value) i (w .2)) (sym (x .place)) in
+    let i : w .1 ≡ 8 = header-size s h in
+    let y = moved header-exact s 0 h in
+    let m = map-ok (bsiiFile (w .0)) (recordsParser (w .0 .value) (words / 3)) (w .1) (w .2) (w .4) in
+    let r : w .2 ≡ drop 8 s = y .rest ∙ ap (λ (j : ℕ). drop j s) i in
+    let z : length s ≡ length s = refl in
+    subst (λ (f : BsiiFile). FileParts words s f n) (m .1)
+    (record {
+      short = k .0;
+      header = omega (arith, x .place, i);
+      inside = omega (arith, i, y .inside (omega arith));
+      reads = ap₂ (λ (j : ℕ) (l : List ℕ). recordsFrom (w .0 .value) (words / 3) (length l) [] j l) (sym i) (sym r) ∙ m .2;
+    })
 
 -- ---- the answer
 

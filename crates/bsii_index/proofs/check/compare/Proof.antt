@@ -1,0 +1,65 @@
+-- The definition of a file asks in the same order: the length limit, the header, the records from 8 on.
+use mathlib.Core.Path.{sym, ap, _∙_}
+use denote.Ref.{now}
+use native.Mathlib.Omega.{arith}
+use Rattle.bsii_prototype.specs.Answers.{headerIs}
+use Rattle.bsii_parse.proofs.Whole.{header-long}
+use Rattle.bsii_index.proofs.Comparing.{compares-long, compares-headless, compares-file}
+use borrow.Author.Needs.{needs}
+use Rattle.bsii_index.proofs.check.compare.Statement.{statement}
+use Rattle.bsii_index.proofs.check.compare.Tie as tie
+
+refused-requires : tie.Need-refused-requires
+refused-requires c κs = search needs
+
+returns : tie.Need-returns
+returns c =
+    let a = c .before .before .before .before .before .args in
+    rw (c .refused .ensures) (compares-long (now (a .file)) (now (a .table)) (now (a .index)) (a .width) (c .before .if1 .taken))
+
+header-parser-requires : tie.Need-header-parser-requires
+header-parser-requires c κs = search needs
+
+enum-known-header : tie.Need-enum-known-header
+enum-known-header c = search needs
+
+returns-2 : tie.Need-returns-2
+returns-2 c =
+    let a = c .before .before .before .before .before .before .before .before .args in
+    compares-headless (now (a .file)) (now (a .table)) (now (a .index)) (a .width) (omega (arith, c .before .before .before .before .if1 .left)) (sym (c .before .before .before .header-parser .ensures) ∙ ap (headerIs (now (a .file))) (c .before .header .given .1))
+
+enum-known-header-2 : tie.Need-enum-known-header-2
+enum-known-header-2 c = search needs
+
+compare-walk-requires : tie.Need-compare-walk-requires
+compare-walk-requires c κs =
+    let b = c .before .before .before .before .before .before .before .before .before in
+    let a = b .args in
+    let short = c .before .before .before .before .before .if1 .left in (
+      omega (arith, short),
+      header-long (now (a .file)) (now (a .table)) (omega (arith, short)) (sym (c .before .before .before .before .header-parser .ensures) ∙ ap (headerIs (now (a .file))) (c .before .before .header2 .given .1)),
+      b .pre,
+    )
+
+same-length : tie.Need-same-length
+same-length c = search needs
+
+returns-3 : tie.Need-returns-3
+returns-3 c =
+    let a = c .before .before .before .before .before .before .before .before .before .before .before .before .args in
+    compares-file (now (a .file)) (now (a .table)) (now (a .index)) (a .width) (omega (arith, c .before .before .before .before .before .before .before .before .if1 .left))
+    (sym (c .before .before .before .before .before .before .before .header-parser .ensures) ∙ ap (headerIs (now (a .file))) (c .before .before .before .before .before .header2 .given .1)) (c .before .before .compare-walk .ensures)
+
+pub compare-spec : {M : Type 1} → statement M
+compare-spec =
+    tie.close
+    (tie.spec
+    refused-requires
+    returns
+    header-parser-requires
+    enum-known-header
+    returns-2
+    enum-known-header-2
+    compare-walk-requires
+    same-length
+    returns-3)

@@ -1,0 +1,133 @@
+-- Invariant: the records from `start` on are those passed so far and those from here on; `agreed` is how many of the index records of those passed
+-- stand at the front of the index, and the blocks passed are as many as these. Measure: what is left of the file, since a record has a byte at least.
+use denote.Ref.{now}
+use borrow.Author.Needs.{needs}
+use native.Mathlib.Omega.{arith}
+use Prim.Native.Nat.{_-_}
+use lib.ListN.{length}
+use Rattle.bsii_parse.proofs.Along.{defsFrom, along-ready, along-prototype, along-block}
+use Rattle.bsii_index.proofs.Comparing.{Comparing, comparing-start, comparing-few, comparing-prototype, comparing-block, comparing-end, comparing-stop}
+use Rattle.bsii_index.proofs.check.compare_walk.Statement.{statement}
+use Rattle.bsii_index.proofs.check.compare_walk.Tie as tie
+
+abbrev Inv-loop : tie.InvT-loop
+Inv-loop s version start table₀ index width p₀ agreed₀ table p agreed = Comparing version s start table₀ index width p table agreed
+
+abbrev μ-loop : tie.MeasureT-loop
+μ-loop s version start table₀ index width p₀ agreed₀ table p agreed = length s - p .at
+
+loop-holds : tie.Need-loop-holds Inv-loop μ-loop
+loop-holds c = let b = c .before .before .before in comparing-start (now (b .args .s)) (b .args .start) (now (b .args .table)) (now (b .args .index)) (b .args .width) (b .pre .1)
+
+record-step-requires : tie.Need-record-step-requires Inv-loop μ-loop
+record-step-requires c κs = let l = c .before in let b = l .before .before .before .before in along-ready (b .pre .0) (l .loop .inv .along)
+
+enum-told : tie.Need-enum-told Inv-loop μ-loop
+enum-told c = search needs
+
+same-length : tie.Need-same-length Inv-loop μ-loop
+same-length c = search needs
+
+returns : tie.Need-returns Inv-loop μ-loop
+returns c =
+    let l = c .before .before .before .before .before .before in
+    let b = l .before .before .before .before in
+    let i = l .loop .inv in
+    let r = c .before .before .before .before .record-step in
+    let m = r .ensures .steps (defsFrom (b .args .start) (i .along .so)) (i .along .kept) tt in
+    comparing-end i m (b .pre .0) (c .enum-told .given .1)
+
+enum-known-step : tie.Need-enum-known-step Inv-loop μ-loop
+enum-known-step c = search needs
+
+same-length-2 : tie.Need-same-length-2 Inv-loop μ-loop
+same-length-2 c = search needs
+
+returns-2 : tie.Need-returns-2 Inv-loop μ-loop
+returns-2 c =
+    let l = c .before .before .before .before .before .before .before in
+    let b = l .before .before .before .before in
+    let i = l .loop .inv in
+    let r = c .before .before .before .before .before .record-step in
+    let m = r .ensures .steps (defsFrom (b .args .start) (i .along .so)) (i .along .kept) tt in
+    comparing-stop i m (c .before .step .given .1)
+
+enum-known-step-2 : tie.Need-enum-known-step-2 Inv-loop μ-loop
+enum-known-step-2 c = search needs
+
+loop-less : tie.Need-loop-less Inv-loop μ-loop
+loop-less c =
+    let l = c .before .before .before .before .before .before .before in
+    let b = l .before .before .before .before in
+    let i = l .loop .inv in
+    let r = c .before .before .before .before .before .record-step in
+    let m = r .ensures .steps (defsFrom (b .args .start) (i .along .so)) (i .along .kept) tt in
+    let f = along-prototype (i .along) m (c .before .step2 .given .1) in
+    omega (arith, f .on, f .along .inside)
+
+loop-again : tie.Need-loop-again Inv-loop μ-loop
+loop-again c =
+    let l = c .before .before .before .before .before .before .before in
+    let b = l .before .before .before .before in
+    let i = l .loop .inv in
+    let r = c .before .before .before .before .before .record-step in
+    let m = r .ensures .steps (defsFrom (b .args .start) (i .along .so)) (i .along .kept) tt in
+    comparing-prototype i m (c .before .step2 .given .1)
+
+enum-known-step-3 : tie.Need-enum-known-step-3 Inv-loop μ-loop
+enum-known-step-3 c = search needs
+
+entry-of-requires : tie.Need-entry-of-requires Inv-loop μ-loop
+entry-of-requires c κs =
+    let l = c .before .before .before .before .before .before .before in
+    let b = l .before .before .before .before in
+    let i = l .loop .inv in
+    let r = c .before .before .before .before .before .record-step in
+    let m = r .ensures .steps (defsFrom (b .args .start) (i .along .so)) (i .along .kept) tt in
+    let f = along-block (i .along) m (c .before .step3 .given .1) in
+    omega (arith, f .on)
+
+agree-requires : tie.Need-agree-requires Inv-loop μ-loop
+agree-requires c κs = let l = c .before .before .before .before .before .before .before .before in let b = l .before .before .before .before in (b .pre .2, comparing-few (l .loop .inv) (b .pre .0))
+
+loop-less-2 : tie.Need-loop-less-2 Inv-loop μ-loop
+loop-less-2 c =
+    let l = c .before .before .before .before .before .before .before .before .before in
+    let b = l .before .before .before .before in
+    let i = l .loop .inv in
+    let r = c .before .before .before .before .before .before .before .record-step in
+    let m = r .ensures .steps (defsFrom (b .args .start) (i .along .so)) (i .along .kept) tt in
+    let f = along-block (i .along) m (c .before .before .before .step3 .given .1) in
+    omega (arith, f .on, f .along .inside)
+
+loop-again-2 : tie.Need-loop-again-2 Inv-loop μ-loop
+loop-again-2 c =
+    let l = c .before .before .before .before .before .before .before .before .before in
+    let b = l .before .before .before .before in
+    let i = l .loop .inv in
+    let r = c .before .before .before .before .before .before .before .record-step in
+    let m = r .ensures .steps (defsFrom (b .args .start) (i .along .so)) (i .along .kept) tt in
+    comparing-block i m (c .before .before .before .step3 .given .1) (c .before .entry-of .ensures) (c .agree .ensures)
+
+pub compare-walk-spec : {M : Type 1} → statement M
+compare-walk-spec =
+    tie.close
+    (tie.spec
+    Inv-loop
+    μ-loop
+    loop-holds
+    record-step-requires
+    enum-told
+    same-length
+    returns
+    enum-known-step
+    same-length-2
+    returns-2
+    enum-known-step-2
+    loop-less
+    loop-again
+    enum-known-step-3
+    entry-of-requires
+    agree-requires
+    loop-less-2
+    loop-again-2)
