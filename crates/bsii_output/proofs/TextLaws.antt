@@ -20,9 +20,10 @@ use Rattle.bsii_parse.specs.Walks.{DefinedAt, ReadFile}
 use Rattle.bsii_parse.specs.declared.walk.Totals.{Totals}
 use Rattle.bsii_parse.specs.declared.walk.Walked.{Walked}
 use Rattle.bsii_parse.specs.declared.walk.Walked.the-variants.{Done, Fault as Stopped}
+use Rattle.bsii_parse.proofs.Whole.{file-parts}
 use Rattle.bsii_walk.specs.Seek.{WalkAt, Readable}
 use Rattle.bsii_file.proofs.Lookups.{was-read, read-answers, unread-refuses}
-use Rattle.bsii_file.proofs.Rereading.{file-parts, walk-first}
+use Rattle.bsii_file.proofs.Rereading.{walk-first}
 use Rattle.bsii_length.proofs.Bounded.{text-bounded}
 use Rattle.bsii_window.specs.Window.{Wrote}
 use Rattle.bsii_window.proofs.Laws.{capped-less, written-in}
