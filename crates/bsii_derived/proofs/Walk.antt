@@ -1,13 +1,13 @@
 -- The index as a walk makes it, record by record: behind the records passed stands that of one more block; and how far any bytes agree with them.
 use mathlib.Core.Path.{_≡_, refl, sym, ap, _∙_, subst}
-use Prim.Native.Nat.{ℕ, zero, suc, _+_, _*_, _≤_, _<_}
+use Prim.Native.Nat.{ℕ, suc, _+_, _*_, _≤_, _<_}
 use native.Mathlib.Nat.{add-zero, zero-mul, suc-mul}
 use native.Mathlib.Omega.{arith}
 use mathlib.Core.Bool.{Bool, true, false, cond}
 use mathlib.Core.Option.{Option, none, some}
 use mathlib.Core.List.{List, [], _∷_, _++_, append-nil, append-assoc}
 use lib.ListN.{length, take, drop, length-append, length-drop, take-append-drop}
-use lib.Seq.{drop-drop, take-append-seam, take-at, drop-at}
+use lib.Seq.{drop-drop, take-at, drop-at}
 use lib.Dec.{T}
 use Rattle.bsii_format.specs.Reader.{same}
 use Rattle.bsii_format.specs.Prototypes.{Prototype}

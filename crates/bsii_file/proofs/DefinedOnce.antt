@@ -1,11 +1,11 @@
 -- The table has a row for each id, so there are as many rows as prototypes if and only if no id is defined twice.
 use mathlib.Core.Path.{_≡_, refl, sym, ap, _∙_}
-use Prim.Native.Nat.{ℕ, suc, _+_}
+use Prim.Native.Nat.{ℕ, _+_}
 use native.Mathlib.Omega.{arith}
-use mathlib.Core.Bool.{Bool, true, false, cond}
+use mathlib.Core.Bool.{Bool, true, false}
 use mathlib.Core.List.{List, [], _∷_}
 use lib.ListN.{length}
-use Rattle.bsii_format.specs.Replies.{gives, refuses}
+use Rattle.bsii_format.specs.Replies.{refuses}
 use Rattle.bsii_format.specs.Prototypes.{Prototype}
 use Rattle.bsii_format.specs.File.{Record, prototype, block, recordBytes, define, defineAll, distinctIds, prototypesOf}
 use Rattle.bsii_format.specs.Calls.{placedRecords, ofFile}
@@ -18,6 +18,7 @@ use Rattle.bsii_parse.specs.declared.walk.Totals.{Totals}
 use Rattle.bsii_parse.specs.declared.walk.Walked.{Walked}
 use Rattle.bsii_parse.specs.declared.walk.Walked.the-variants.{Done, Fault as Stopped}
 use Rattle.bsii_parse.proofs.Tables.{bare-all}
+use Rattle.bsii_parse.proofs.Whole.{done≢stopped}
 use Rattle.bsii_file.specs.Answers.{numberIs}
 use Rattle.bsii_file.specs.declared.blocks.NumberReply.the-variants.{Number, Refused}
 
@@ -30,9 +31,6 @@ defined-length (block b ∷ l) env = defined-length l env
 once-is : (env : List Prototype) (b : Bool) → once env ≡ b → (distinctIds env ≡ length env → b ≡ true) × ((distinctIds env ≡ length env → ⊥) → b ≡ false)
 once-is env true e = ((λ h. refl), (λ h. absurd (h (once-counts env e))))
 once-is env false e = ((λ h. sym e ∙ counts-once env h), (λ h. refl))
-
-done≢stopped : {P : Type 0} {a : Totals} {f : Refusal} → _≡_ {A = Walked} (Done a) (Stopped f) → P
-done≢stopped e = let z : _≡_ {A = ℕ} 0 1 = cc in let f : ⊥ = omega arith in absurd f
 
 -- what the totals say of the definitions
 rows-of : Walked → ℕ

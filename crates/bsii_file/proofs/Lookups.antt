@@ -26,12 +26,10 @@ use Rattle.bsii_parse.specs.declared.walk.Totals.{Totals}
 use Rattle.bsii_parse.specs.declared.walk.Walked.{Walked}
 use Rattle.bsii_parse.specs.declared.walk.Walked.the-variants.{Done, Fault as Stopped}
 use Rattle.bsii_parse.proofs.Tables.{bare-all}
+use Rattle.bsii_parse.proofs.Whole.{done≢stopped}
 use Rattle.bsii_file.specs.Lookups.{lastDefinition}
 
 -- ---- the file
-
-done≢stopped : {P : Type 0} {a : Totals} {f : Refusal} → _≡_ {A = Walked} (Done a) (Stopped f) → P
-done≢stopped e = let z : _≡_ {A = ℕ} 0 1 = cc in let f : ⊥ = omega arith in absurd f
 
 -- the file that was read, what was found of it, and the table that holds its definitions
 pub record WasRead (s t : List ℕ) (a : Totals) (t′ : List ℕ) : Type 0 where

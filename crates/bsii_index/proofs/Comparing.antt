@@ -1,22 +1,21 @@
 -- An index against the file while the file is walked: how many records agree so far, and what follows at the end.
 use mathlib.Core.Path.{_≡_, refl, sym, ap, _∙_, subst}
-use Prim.Native.Nat.{ℕ, suc, _+_, _*_, _-_, _/_, _≤_, _<_}
+use Prim.Native.Nat.{ℕ, _+_, _*_, _≤_, _<_}
 use native.Mathlib.Nat.{mul-le-mul}
 use native.Mathlib.Omega.{arith}
 use mathlib.Core.Bool.{Bool, true, false, cond}
-use mathlib.Core.Option.{some}
 use mathlib.Core.List.{List, [], _∷_, _++_}
 use lib.ListN.{length, take, drop, length-append}
 use Rattle.bsii_format.specs.Replies.{refuses, inputLong, misfit}
 use Rattle.bsii_format.specs.Reader.{ok, fault, same}
-use Rattle.bsii_format.specs.File.{headerParser, BsiiFile, bsiiFile, lengthLimit, parse}
+use Rattle.bsii_format.specs.File.{headerParser, bsiiFile, lengthLimit}
 use Rattle.bsii_format.specs.Calls.{placed, placedRecords, ofFile}
 use Rattle.bsii_string.specs.Answers.{faultIs, refusedAt}
 use Rattle.bsii_string.specs.declared.answers.Refusal.{Refusal}
 use Rattle.bsii_derived.specs.Index.{indexFrom, indexOf, indexRecordBytes, agreeing}
 use Rattle.bsii_derived.specs.IndexCalls.{checked, checkIndexCall}
 use Rattle.bsii_derived.proofs.Walk.{agreeing-few, agreeing-stays, agreeing-goes, same-all, differing}
-use Rattle.bsii_parse.specs.Walks.{StepMeets}
+use Rattle.bsii_parse.specs.Walks.{StepMeets, Stepped}
 use Rattle.bsii_parse.specs.declared.walk.Progress.{Progress}
 use Rattle.bsii_parse.specs.declared.walk.Under.{Under}
 use Rattle.bsii_parse.specs.declared.walk.ReadStep.{ReadStep}
@@ -106,33 +105,36 @@ module _ {version : ℕ} {s : List ℕ} {start : ℕ} {t₀ i : List ℕ} {w : �
   pub comparing-few : length s ≤ lengthLimit → p .blocks ≤ lengthLimit
   comparing-few h = omega (arith, c .along .counted, c .along .inside)
 
-  module _ {r : ReadStep} {t′ : List ℕ} (m : StepMeets version s p t (defsFrom start (c .along .so)) r t′) where
+  module _ {r : ReadStep} {t′ : List ℕ} (k : Stepped version s p t false r t′) where
+    pub comparing-meets : StepMeets version s p t (defsFrom start (c .along .so)) r t′
+    comparing-meets = k .steps (defsFrom start (c .along .so)) (c .along .kept) tt
+
     pub comparing-prototype : {q : Progress} → r ≡ WentPrototype q → Comparing version s start t₀ i w q t′ agreed
     comparing-prototype z =
-        let f = along-prototype (c .along) m z in
+        let f = along-prototype (c .along) comparing-meets z in
         let x = past-prototype (c .along) f z in
         record { along = f .along; agrees = c .agrees ∙ ap (λ l. agreeing w l i) (sym (x .0)); number = x .1 ∙ c .number ∙ ap length (sym (x .0)) }
 
     pub comparing-block : {q : Progress} {u : Under} {e : IndexRecord} {n : ℕ} → r ≡ WentBlock q u → e ≡ entryOf (p .at) (q .at) u
         → Agrees i w agreed (p .blocks) e n → Comparing version s start t₀ i w q t′ n
     comparing-block {q} {e = e} z y g =
-        let f = along-block (c .along) m z in
+        let f = along-block (c .along) comparing-meets z in
         let x = past-block (c .along) f z in
         let l = indexAt start (c .along .so) in
-        let k : indexAt start (f .along .so) ≡ l ++ (recordIs e ∷ []) = x .0 ∙ ap (λ b. l ++ (recordIs b ∷ [])) (sym y) in
+        let more : indexAt start (f .along .so) ≡ l ++ (recordIs e ∷ []) = x .0 ∙ ap (λ b. l ++ (recordIs b ∷ [])) (sym y) in
         let n : q .blocks ≡ length (l ++ (recordIs e ∷ [])) = x .1 ∙ rw length-append (omega (arith, c .number)) in
-        record { along = f .along; agrees = g .next l (c .agrees) (c .number) ∙ ap (λ b. agreeing w b i) (sym k); number = n ∙ ap length (sym k) }
+        record { along = f .along; agrees = g .next l (c .agrees) (c .number) ∙ ap (λ b. agreeing w b i) (sym more); number = n ∙ ap length (sym more) }
 
     pub comparing-end : length s ≤ lengthLimit → {n : ℕ} → r ≡ End n → Compares version s start t₀ i w (Agreeing (record { records = agreed; blocks = p .blocks })) t′
     comparing-end h z =
-        let x = along-all (c .along) m z in
+        let x = along-all (c .along) comparing-meets z in
         let l = indexAt start (c .along .so) in
         subst (λ k. Compares version s start t₀ i w (Agreeing (record { records = k; blocks = p .blocks })) t′) (sym (c .agrees))
         (subst (λ k. Compares version s start t₀ i w (Agreeing (record { records = agreeing w l i; blocks = k })) t′) (sym (c .number))
         (walked (record { records = c .along .so; end = x .end }) (x .all) (omega (arith, c .number, comparing-few h)) (x .size)))
 
     pub comparing-stop : {f : Refusal} → r ≡ StepRefused f → Compares version s start t₀ i w (Stopped f) t′
-    comparing-stop z = let x = along-refused (c .along) m z in stopped (x .0) (x .1)
+    comparing-stop z = let x = along-refused (c .along) comparing-meets z in stopped (x .0) (x .1)
 
 -- ---- the whole file
 

@@ -1,23 +1,23 @@
 -- A record that the walk has passed, as a record of the index: a prototype gives none, a block gives the one that entry_of makes.
-use mathlib.Core.Path.{_≡_, refl, sym, ap, _∙_, subst}
-use Prim.Native.Nat.{ℕ, suc, _+_, _-_, _≤_, _<_}
+use mathlib.Core.Path.{_≡_, refl, sym, ap, _∙_}
+use Prim.Native.Nat.{ℕ, _+_, _-_, _≤_, _<_}
 use native.Mathlib.Omega.{arith}
 use mathlib.Core.Option.{some}
 use mathlib.Core.List.{List, [], _∷_, _++_}
 use lib.ListN.{length}
 use Rattle.bsii_format.specs.Prototypes.{Prototype}
 use Rattle.bsii_format.specs.Blocks.{DataBlock}
-use Rattle.bsii_format.specs.File.{Record, prototype, block, recordBytes, recordsBytes}
+use Rattle.bsii_format.specs.File.{Record, prototype, block, recordBytes}
 use Rattle.bsii_format.specs.Calls.{Placed}
 use Rattle.bsii_derived.specs.Index as index
-use Rattle.bsii_derived.specs.Index.{indexRecord, inForce, indexFrom}
+use Rattle.bsii_derived.specs.Index.{indexRecord, inForce}
 use Rattle.bsii_derived.proofs.Walk.{index-prototype, index-block}
-use Rattle.bsii_parse.specs.Walks.{blockCount, Goes, behind-prototype, behind-block}
+use Rattle.bsii_parse.specs.Walks.{blockCount, Goes, behind-prototype, behind-block, StepMeets}
 use Rattle.bsii_parse.specs.declared.walk.Progress.{Progress}
 use Rattle.bsii_parse.specs.declared.walk.Under.{Under}
 use Rattle.bsii_parse.specs.declared.walk.ReadStep.{ReadStep}
 use Rattle.bsii_parse.specs.declared.walk.ReadStep.the-variants.{Prototype as WentPrototype, Block as WentBlock}
-use Rattle.bsii_parse.proofs.Along.{defsFrom, Along, Further}
+use Rattle.bsii_parse.proofs.Along.{defsFrom, Along, Further, along-prototype, along-block}
 use Rattle.bsii_index_record.specs.Records.{recordIs}
 use Rattle.bsii_index_record.specs.declared.IndexRecord.{IndexRecord}
 use Rattle.bsii_index.specs.Indexes.{indexAt}
@@ -70,3 +70,16 @@ module _ {version : ℕ} {s : List ℕ} {start : ℕ} {t₀ : List ℕ} {p : Pro
 
       under-of : {env : List (Placed Prototype)} {i : Record} {v : Under} → OverBlock env i v → Under
       under-of x = record { offset = x .by .offset; fields = length (x .by .it .fields) }
+
+-- ---- a step moves on, so the loop ends
+
+module _ {version : ℕ} {s : List ℕ} {start : ℕ} {t₀ : List ℕ} {p : Progress} {t : List ℕ} (a : Along version s start t₀ p t)
+    {r : ReadStep} {t′ : List ℕ} (m : StepMeets version s p t (defsFrom start (a .so)) r t′) {q : Progress} where
+  pub prototype-less : r ≡ WentPrototype q → length s - q .at < length s - p .at
+  prototype-less z = let f = along-prototype a m z in omega (arith, f .on, f .along .inside)
+
+  pub block-less : {u : Under} → r ≡ WentBlock q u → length s - q .at < length s - p .at
+  block-less z = let f = along-block a m z in omega (arith, f .on, f .along .inside)
+
+  pub block-later : {u : Under} → r ≡ WentBlock q u → p .at ≤ q .at
+  block-later z = let f = along-block a m z in omega (arith, f .on)

@@ -1,27 +1,27 @@
 -- An index while it is written: its records so far stand at the front of the space, and the rest of the space is as it was.
 use mathlib.Core.Path.{_≡_, refl, sym, ap, _∙_, subst}
-use Prim.Native.Nat.{ℕ, suc, _+_, _*_, _-_, _/_, _≤_, _<_}
+use Prim.Native.Nat.{ℕ, suc, _+_, _*_, _/_, _≤_, _<_}
 use native.Mathlib.Nat.{zero-mul, suc-mul, mul-le-mul-right}
 use native.Mathlib.Omega.{arith}
-use mathlib.Core.Bool.{Bool, true, false, cond}
+use mathlib.Core.Bool.{true}
 use mathlib.Core.List.{List, [], _∷_, _++_, append-nil, append-assoc}
 use lib.ListN.{length, take, drop, length-append, length-drop}
 use lib.Seq.{take-at, drop-append-add, drop-drop}
 use lib.Dec.{leb, leb→le, le→leb}
 use Rattle.bsii_format.specs.Replies.{gives, outputShort}
 use Rattle.bsii_format.specs.Reader.{ok, fault}
-use Rattle.bsii_format.specs.File.{Record, prototype, block, valuesBytes, recordBytes, recordsBytes, Records, BsiiFile, lengthLimit, parse, fileBytes}
+use Rattle.bsii_format.specs.File.{Record, prototype, block, recordBytes, recordsBytes, Records, BsiiFile, lengthLimit, parse, fileBytes}
 use Rattle.bsii_format.specs.Calls.{placed, placedRecords, blocksOf, ofFile, textAnswer}
 use Rattle.bsii_format.proofs.Readers.{fault≢ok, ok-val, is-true, is-false}
 use Rattle.bsii_format.proofs.Records.{GoodRecords, nil, cons, head-takes}
-use Rattle.bsii_string.specs.Answers.{faultIs, refusedAt}
+use Rattle.bsii_string.specs.Answers.{refusedAt}
 use Rattle.bsii_string.specs.declared.answers.Refusal.{Refusal}
 use Rattle.bsii_derived.specs.Index.{indexFrom, indexOf, indexRecordBytes, indexBytes}
 use Rattle.bsii_derived.specs.IndexCalls.{writeIndexCall}
 use Rattle.bsii_derived.proofs.Bytes.{record-length, index-length}
 use Rattle.bsii_derived.proofs.Claims.{was-read, index-blocks}
 use Rattle.bsii_derived.proofs.Walk.{index-append, bytes-append}
-use Rattle.bsii_parse.specs.Walks.{blockCount, recordsAt, StepMeets, totalsOf, read, unread, ReadTree}
+use Rattle.bsii_parse.specs.Walks.{blockCount, recordsAt, StepMeets, Stepped, read, unread, ReadTree}
 use Rattle.bsii_parse.specs.declared.walk.Progress.{Progress}
 use Rattle.bsii_parse.specs.declared.walk.Under.{Under}
 use Rattle.bsii_parse.specs.declared.walk.ReadStep.{ReadStep}
@@ -29,8 +29,8 @@ use Rattle.bsii_parse.specs.declared.walk.ReadStep.the-variants.{Prototype as W
 use Rattle.bsii_parse.specs.declared.walk.Totals.{Totals}
 use Rattle.bsii_parse.specs.declared.walk.Walked.{Walked}
 use Rattle.bsii_parse.specs.declared.walk.Walked.the-variants.{Done, Fault as Stopped}
-use Rattle.bsii_parse.proofs.Along.{defsFrom, Along, along-start, along-none, along-prototype, along-block, along-all, along-refused, along-within}
-use Rattle.bsii_parse.proofs.Whole.{blocks-counted, file-parts}
+use Rattle.bsii_parse.proofs.Along.{defsFrom, Along, along-start, along-none, along-prototype, along-block, along-all, along-refused, along-accepted, along-within}
+use Rattle.bsii_parse.proofs.Whole.{blocks-counted, done≢stopped, file-parts}
 use Rattle.bsii_index_record.specs.Records.{Width, recordIs}
 use Rattle.bsii_index_record.specs.declared.IndexRecord.{IndexRecord}
 use Rattle.bsii_index.specs.Answers.{lengthIs}
@@ -68,10 +68,13 @@ put w l b d to e k =
 
 module _ {version : ℕ} {s : List ℕ} {start : ℕ} {t₀ space₀ : List ℕ} {w : ℕ} (v : Writable version s start t₀ space₀ w)
     {p : Progress} {t space : List ℕ} {to : ℕ} (c : Writing version s start t₀ space₀ w p t space to) where
-  module _ {r : ReadStep} {t′ : List ℕ} (m : StepMeets version s p t (defsFrom start (c .along .so)) r t′) where
+  module _ {r : ReadStep} {t′ : List ℕ} (k : Stepped version s p t true r t′) where
+    pub writing-meets : StepMeets version s p t (defsFrom start (c .along .so)) r t′
+    writing-meets = k .steps (defsFrom start (c .along .so)) (c .along .kept) (along-accepted (c .along) (v .reads))
+
     pub writing-prototype : {q : Progress} → r ≡ WentPrototype q → Writing version s start t₀ space₀ w q t′ space to
     writing-prototype z =
-        let f = along-prototype (c .along) m z in
+        let f = along-prototype (c .along) writing-meets z in
         let x = past-prototype (c .along) f z .0 in
         record {
           along = f .along;
@@ -83,7 +86,7 @@ module _ {version : ℕ} {s : List ℕ} {start : ℕ} {t₀ space₀ : List ℕ}
     -- the whole index has room, so this record has
     pub writing-room : {q : Progress} {u : Under} → r ≡ WentBlock q u → to + 4 * w ≤ length space₀
     writing-room z =
-        let f = along-block (c .along) m z in
+        let f = along-block (c .along) writing-meets z in
         let x = past-block (c .along) f z .0 in
         let y = along-within (f .along) (v .reads) in
         let l = indexAt start (c .along .so) in
@@ -97,16 +100,16 @@ module _ {version : ℕ} {s : List ℕ} {start : ℕ} {t₀ space₀ : List ℕ}
         → space′ ≡ take to space ++ (indexRecordBytes w (recordIs e) ++ drop (to + 4 * w) space) → Writing version s start t₀ space₀ w q t′ space′ (to + 4 * w)
     unfolding indexBytes
     writing-block {e = e} {space′} z y g =
-        let f = along-block (c .along) m z in
+        let f = along-block (c .along) writing-meets z in
         let l = indexAt start (c .along .so) in
         let b = indexRecordBytes w (recordIs e) in
-        let k : indexAt start (f .along .so) ≡ l ++ (recordIs e ∷ []) = past-block (c .along) f z .0 ∙ ap (λ x. l ++ (recordIs x ∷ [])) (sym y) in
+        let all : indexAt start (f .along .so) ≡ l ++ (recordIs e ∷ []) = past-block (c .along) f z .0 ∙ ap (λ x. l ++ (recordIs x ∷ [])) (sym y) in
         let bytes : indexBytes w (indexAt start (f .along .so)) ≡ indexBytes w l ++ b =
-        ap (indexBytes w) k ∙ bytes-append w l (recordIs e ∷ []) ∙ ap (λ x. indexBytes w l ++ x) (append-nil b) in
+        ap (indexBytes w) all ∙ bytes-append w l (recordIs e ∷ []) ∙ ap (λ x. indexBytes w l ++ x) (append-nil b) in
         let long : length (indexBytes w l) ≡ to = index-length w l ∙ sym (c .place) in
         let is : space′ ≡ (indexBytes w l ++ b) ++ drop (to + 4 * w) space₀ =
         g ∙ ap (λ x. take to x ++ (b ++ drop (to + 4 * w) x)) (c .written) ∙ put w (indexBytes w l) b space₀ to long (record-length w (recordIs e)) in
-        let n : length (indexAt start (f .along .so)) ≡ suc (length l) = ap length k ∙ rw length-append (omega arith) in
+        let n : length (indexAt start (f .along .so)) ≡ suc (length l) = ap length all ∙ rw length-append (omega arith) in
         record {
           along = f .along;
           place = omega (arith, c .place, suc-mul (length l) (4 * w), ap (λ x. x * (4 * w)) n);
@@ -116,7 +119,7 @@ module _ {version : ℕ} {s : List ℕ} {start : ℕ} {t₀ space₀ : List ℕ}
 
     pub writing-end : {n : ℕ} → r ≡ End n → RecordsWritten version s start t₀ space₀ w t′ space
     writing-end z =
-        let x = along-all (c .along) m z in
+        let x = along-all (c .along) writing-meets z in
         record {
           written = λ q k e.
               let so : c .along .so ≡ q .records = ap (λ (y : Records). y .records) (ok-val (sym (x .all) ∙ e)) in
@@ -126,7 +129,7 @@ module _ {version : ℕ} {s : List ℕ} {start : ℕ} {t₀ space₀ : List ℕ}
         }
 
     pub writing-refused : {P : Type 0} {f : Refusal} → r ≡ StepRefused f → P
-    writing-refused z = fault≢ok (sym (along-refused (c .along) m z .0) ∙ v .reads)
+    writing-refused z = fault≢ok (sym (along-refused (c .along) writing-meets z .0) ∙ v .reads)
 
 -- ---- the answer for a file that was read
 
@@ -178,9 +181,6 @@ unfolding blockCount recordsBytes recordBytes
 blocks-few nil = omega arith
 blocks-few (cons {i = prototype p} g gs) = rw length-append (omega (arith, blocks-few gs))
 blocks-few (cons {i = block b} g gs) = rw (length-append, length-append) (omega (arith, blocks-few gs, head-takes (g .head)))
-
-done≢stopped : {P : Type 0} {a : Totals} {f : Refusal} → _≡_ {A = Walked} (Done a) (Stopped f) → P
-done≢stopped e = let z : _≡_ {A = ℕ} 0 1 = cc in let f : ⊥ = omega arith in absurd f
 
 index-at : (words : ℕ) (s : List ℕ) {f : BsiiFile} {n : ℕ} → parse words s ≡ ok f n (drop n s) → indexOf f ≡ indexAt 8 (f .records)
 unfolding indexOf placedRecords

@@ -37,8 +37,9 @@ abbrev pub agreedOf : ℕ → List index.IndexRecord → List ℕ → Agreed
 agreedOf w l i = record { records = agreeing w l i; blocks = length l }
 
 pub data Compares (version : ℕ) (s : List ℕ) (start : ℕ) (t i : List ℕ) (w : ℕ) : Compared → List ℕ → Type 0 where
-  walked : (q : Records) {n : ℕ} {t′ : List ℕ} → recordsAt version (length t / 3) [] start s ≡ ok q n (drop n s) → length (indexAt start (q .records)) ≤ lengthLimit
-      → length t′ ≡ length t → Compares version s start t i w (Agreeing (agreedOf w (indexAt start (q .records)) i)) t′
+  walked : (q : Records) {n : ℕ} {t′ : List ℕ} → recordsAt version (length t / 3) [] start s ≡ ok q n (drop n s)
+      → length (indexAt start (q .records)) ≤ lengthLimit → length t′ ≡ length t
+      → Compares version s start t i w (Agreeing (agreedOf w (indexAt start (q .records)) i)) t′
   stopped : {f : Refusal} {t′ : List ℕ} → recordsAt version (length t / 3) [] start s ≡ fault (faultIs f) → length t′ ≡ length t
       → Compares version s start t i w (Stopped f) t′
 
@@ -80,5 +81,6 @@ pub record Readable (version : ℕ) (s t : List ℕ) (w blocks : ℕ) : Type 0 w
   pub few : blocks ≤ lengthLimit
 
 pub record ReadWritten (version : ℕ) (s t space : List ℕ) (w : ℕ) (r : LengthReply) (t′ space′ : List ℕ) : Type 0 where
-  pub answers : (q : Records) (n : ℕ) → recordsAt version (length t / 3) [] 8 s ≡ ok q n (drop n s) → lengthIs r space′ ≡ textAnswer space (gives (indexBytes w (indexAt 8 (q .records))))
+  pub answers : (q : Records) (n : ℕ) → recordsAt version (length t / 3) [] 8 s ≡ ok q n (drop n s)
+      → lengthIs r space′ ≡ textAnswer space (gives (indexBytes w (indexAt 8 (q .records))))
   pub size : length t′ ≡ length t

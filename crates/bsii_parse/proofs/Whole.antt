@@ -149,7 +149,7 @@ read-size (unread e l) = l
 
 -- ---- in the order of the ids
 
-done≢stopped : {P : Type 0} {w : Totals} {f : Refusal} → _≡_ {A = Walked} (Done w) (Stopped f) → P
+pub done≢stopped : {P : Type 0} {w : Totals} {f : Refusal} → _≡_ {A = Walked} (Done w) (Stopped f) → P
 done≢stopped e = let z : _≡_ {A = ℕ} 0 1 = cc in absurd (omega arith)
 
 module _ {s t : List ℕ} where

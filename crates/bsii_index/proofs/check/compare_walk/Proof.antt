@@ -2,11 +2,11 @@
 -- stand at the front of the index, and the blocks passed are as many as these. Measure: what is left of the file, since a record has a byte at least.
 use denote.Ref.{now}
 use borrow.Author.Needs.{needs}
-use native.Mathlib.Omega.{arith}
 use Prim.Native.Nat.{_-_}
 use lib.ListN.{length}
-use Rattle.bsii_parse.proofs.Along.{defsFrom, along-ready, along-prototype, along-block}
-use Rattle.bsii_index.proofs.Comparing.{Comparing, comparing-start, comparing-few, comparing-prototype, comparing-block, comparing-end, comparing-stop}
+use Rattle.bsii_parse.proofs.Along.{along-ready}
+use Rattle.bsii_index.proofs.Passed.{prototype-less, block-less, block-later}
+use Rattle.bsii_index.proofs.Comparing.{Comparing, comparing-start, comparing-few, comparing-meets, comparing-prototype, comparing-block, comparing-end, comparing-stop}
 use Rattle.bsii_index.proofs.check.compare_walk.Statement.{statement}
 use Rattle.bsii_index.proofs.check.compare_walk.Tie as tie
 
@@ -31,11 +31,8 @@ same-length c = search needs
 returns : tie.Need-returns Inv-loop μ-loop
 returns c =
     let l = c .before .before .before .before .before .before in
-    let b = l .before .before .before .before in
-    let i = l .loop .inv in
-    let r = c .before .before .before .before .record-step in
-    let m = r .ensures .steps (defsFrom (b .args .start) (i .along .so)) (i .along .kept) tt in
-    comparing-end i m (b .pre .0) (c .enum-told .given .1)
+    let k = c .before .before .before .before .record-step .ensures in
+    comparing-end (l .loop .inv) k (l .before .before .before .before .pre .0) (c .enum-told .given .1)
 
 enum-known-step : tie.Need-enum-known-step Inv-loop μ-loop
 enum-known-step c = search needs
@@ -46,11 +43,8 @@ same-length-2 c = search needs
 returns-2 : tie.Need-returns-2 Inv-loop μ-loop
 returns-2 c =
     let l = c .before .before .before .before .before .before .before in
-    let b = l .before .before .before .before in
-    let i = l .loop .inv in
-    let r = c .before .before .before .before .before .record-step in
-    let m = r .ensures .steps (defsFrom (b .args .start) (i .along .so)) (i .along .kept) tt in
-    comparing-stop i m (c .before .step .given .1)
+    let k = c .before .before .before .before .before .record-step .ensures in
+    comparing-stop (l .loop .inv) k (c .before .step .given .1)
 
 enum-known-step-2 : tie.Need-enum-known-step-2 Inv-loop μ-loop
 enum-known-step-2 c = search needs
@@ -58,21 +52,14 @@ enum-known-step-2 c = search needs
 loop-less : tie.Need-loop-less Inv-loop μ-loop
 loop-less c =
     let l = c .before .before .before .before .before .before .before in
-    let b = l .before .before .before .before in
-    let i = l .loop .inv in
-    let r = c .before .before .before .before .before .record-step in
-    let m = r .ensures .steps (defsFrom (b .args .start) (i .along .so)) (i .along .kept) tt in
-    let f = along-prototype (i .along) m (c .before .step2 .given .1) in
-    omega (arith, f .on, f .along .inside)
+    let k = c .before .before .before .before .before .record-step .ensures in
+    prototype-less (l .loop .inv .along) (comparing-meets (l .loop .inv) k) (c .before .step2 .given .1)
 
 loop-again : tie.Need-loop-again Inv-loop μ-loop
 loop-again c =
     let l = c .before .before .before .before .before .before .before in
-    let b = l .before .before .before .before in
-    let i = l .loop .inv in
-    let r = c .before .before .before .before .before .record-step in
-    let m = r .ensures .steps (defsFrom (b .args .start) (i .along .so)) (i .along .kept) tt in
-    comparing-prototype i m (c .before .step2 .given .1)
+    let k = c .before .before .before .before .before .record-step .ensures in
+    comparing-prototype (l .loop .inv) k (c .before .step2 .given .1)
 
 enum-known-step-3 : tie.Need-enum-known-step-3 Inv-loop μ-loop
 enum-known-step-3 c = search needs
@@ -80,34 +67,26 @@ enum-known-step-3 c = search needs
 entry-of-requires : tie.Need-entry-of-requires Inv-loop μ-loop
 entry-of-requires c κs =
     let l = c .before .before .before .before .before .before .before in
-    let b = l .before .before .before .before in
-    let i = l .loop .inv in
-    let r = c .before .before .before .before .before .record-step in
-    let m = r .ensures .steps (defsFrom (b .args .start) (i .along .so)) (i .along .kept) tt in
-    let f = along-block (i .along) m (c .before .step3 .given .1) in
-    omega (arith, f .on)
+    let k = c .before .before .before .before .before .record-step .ensures in
+    block-later (l .loop .inv .along) (comparing-meets (l .loop .inv) k) (c .before .step3 .given .1)
 
 agree-requires : tie.Need-agree-requires Inv-loop μ-loop
-agree-requires c κs = let l = c .before .before .before .before .before .before .before .before in let b = l .before .before .before .before in (b .pre .2, comparing-few (l .loop .inv) (b .pre .0))
+agree-requires c κs =
+    let l = c .before .before .before .before .before .before .before .before in
+    let b = l .before .before .before .before in
+    (b .pre .2, comparing-few (l .loop .inv) (b .pre .0))
 
 loop-less-2 : tie.Need-loop-less-2 Inv-loop μ-loop
 loop-less-2 c =
     let l = c .before .before .before .before .before .before .before .before .before in
-    let b = l .before .before .before .before in
-    let i = l .loop .inv in
-    let r = c .before .before .before .before .before .before .before .record-step in
-    let m = r .ensures .steps (defsFrom (b .args .start) (i .along .so)) (i .along .kept) tt in
-    let f = along-block (i .along) m (c .before .before .before .step3 .given .1) in
-    omega (arith, f .on, f .along .inside)
+    let k = c .before .before .before .before .before .before .before .record-step .ensures in
+    block-less (l .loop .inv .along) (comparing-meets (l .loop .inv) k) (c .before .before .before .step3 .given .1)
 
 loop-again-2 : tie.Need-loop-again-2 Inv-loop μ-loop
 loop-again-2 c =
     let l = c .before .before .before .before .before .before .before .before .before in
-    let b = l .before .before .before .before in
-    let i = l .loop .inv in
-    let r = c .before .before .before .before .before .before .before .record-step in
-    let m = r .ensures .steps (defsFrom (b .args .start) (i .along .so)) (i .along .kept) tt in
-    comparing-block i m (c .before .before .before .step3 .given .1) (c .before .entry-of .ensures) (c .agree .ensures)
+    let k = c .before .before .before .before .before .before .before .record-step .ensures in
+    comparing-block (l .loop .inv) k (c .before .before .before .step3 .given .1) (c .before .entry-of .ensures) (c .agree .ensures)
 
 pub compare-walk-spec : {M : Type 1} → statement M
 compare-walk-spec =

@@ -1,6 +1,5 @@
 use mathlib.Core.Logic.{⊎-elim}
 use borrow.Author.Tests.{eqb-true, eqb-false}
-use mathlib.Core.Path.{sym, _∙_}
 use native.Mathlib.Omega.{arith}
 use Rattle.bsii_index.proofs.Comparing.{fits-all, fits-not, few-bytes}
 use borrow.Author.Needs.{needs}

@@ -6,8 +6,9 @@ use borrow.Author.Needs.{needs}
 use native.Mathlib.Omega.{arith}
 use Prim.Native.Nat.{_-_}
 use lib.ListN.{length}
-use Rattle.bsii_parse.proofs.Along.{defsFrom, along-ready, along-prototype, along-block, along-accepted}
-use Rattle.bsii_index.proofs.Writing.{Writing, writing-start, writing-prototype, writing-room, writing-block, writing-end, writing-refused}
+use Rattle.bsii_parse.proofs.Along.{along-ready}
+use Rattle.bsii_index.proofs.Passed.{prototype-less, block-less, block-later}
+use Rattle.bsii_index.proofs.Writing.{Writing, writing-start, writing-meets, writing-prototype, writing-room, writing-block, writing-end, writing-refused}
 use Rattle.bsii_index.proofs.write.write_records.Statement.{statement}
 use Rattle.bsii_index.proofs.write.write_records.Tie as tie
 
@@ -35,11 +36,9 @@ same-length-2 c = search needs
 returns : tie.Need-returns Inv-loop μ-loop
 returns c =
     let l = c .before .before .before .before .before .before in
-    let b = l .before .before .before .before in
-    let i = l .loop .inv in
-    let r = c .before .before .before .before .record-step in
-    let m = r .ensures .steps (defsFrom (b .args .start) (i .along .so)) (i .along .kept) (along-accepted (i .along) (b .pre .reads)) in
-    writing-end (b .pre) i m (c .enum-told .given .1)
+    let v = l .before .before .before .before .pre in
+    let k = c .before .before .before .before .record-step .ensures in
+    writing-end v (l .loop .inv) k (c .enum-told .given .1)
 
 enum-told-2 : tie.Need-enum-told-2 Inv-loop μ-loop
 enum-told-2 c = search needs
@@ -53,11 +52,9 @@ same-length-4 c = search needs
 returns-2 : tie.Need-returns-2 Inv-loop μ-loop
 returns-2 c =
     let l = c .before .before .before .before .before .before in
-    let b = l .before .before .before .before in
-    let i = l .loop .inv in
-    let r = c .before .before .before .before .record-step in
-    let m = r .ensures .steps (defsFrom (b .args .start) (i .along .so)) (i .along .kept) (along-accepted (i .along) (b .pre .reads)) in
-    writing-refused (b .pre) i m (c .enum-told2 .given .1)
+    let v = l .before .before .before .before .pre in
+    let k = c .before .before .before .before .record-step .ensures in
+    writing-refused v (l .loop .inv) k (c .enum-told2 .given .1)
 
 enum-known-step : tie.Need-enum-known-step Inv-loop μ-loop
 enum-known-step c = search needs
@@ -65,21 +62,16 @@ enum-known-step c = search needs
 loop-less : tie.Need-loop-less Inv-loop μ-loop
 loop-less c =
     let l = c .before .before .before .before .before .before .before in
-    let b = l .before .before .before .before in
-    let i = l .loop .inv in
-    let r = c .before .before .before .before .before .record-step in
-    let m = r .ensures .steps (defsFrom (b .args .start) (i .along .so)) (i .along .kept) (along-accepted (i .along) (b .pre .reads)) in
-    let f = along-prototype (i .along) m (c .before .step .given .1) in
-    omega (arith, f .on, f .along .inside)
+    let v = l .before .before .before .before .pre in
+    let k = c .before .before .before .before .before .record-step .ensures in
+    prototype-less (l .loop .inv .along) (writing-meets v (l .loop .inv) k) (c .before .step .given .1)
 
 loop-again : tie.Need-loop-again Inv-loop μ-loop
 loop-again c =
     let l = c .before .before .before .before .before .before .before in
-    let b = l .before .before .before .before in
-    let i = l .loop .inv in
-    let r = c .before .before .before .before .before .record-step in
-    let m = r .ensures .steps (defsFrom (b .args .start) (i .along .so)) (i .along .kept) (along-accepted (i .along) (b .pre .reads)) in
-    writing-prototype (b .pre) i m (c .before .step .given .1)
+    let v = l .before .before .before .before .pre in
+    let k = c .before .before .before .before .before .record-step .ensures in
+    writing-prototype v (l .loop .inv) k (c .before .step .given .1)
 
 enum-known-step-2 : tie.Need-enum-known-step-2 Inv-loop μ-loop
 enum-known-step-2 c = search needs
@@ -87,52 +79,40 @@ enum-known-step-2 c = search needs
 entry-of-requires : tie.Need-entry-of-requires Inv-loop μ-loop
 entry-of-requires c κs =
     let l = c .before .before .before .before .before .before .before in
-    let b = l .before .before .before .before in
-    let i = l .loop .inv in
-    let r = c .before .before .before .before .before .record-step in
-    let m = r .ensures .steps (defsFrom (b .args .start) (i .along .so)) (i .along .kept) (along-accepted (i .along) (b .pre .reads)) in
-    let f = along-block (i .along) m (c .before .step2 .given .1) in
-    omega (arith, f .on)
+    let v = l .before .before .before .before .pre in
+    let k = c .before .before .before .before .before .record-step .ensures in
+    block-later (l .loop .inv .along) (writing-meets v (l .loop .inv) k) (c .before .step2 .given .1)
 
 put-record-requires : tie.Need-put-record-requires Inv-loop μ-loop
 put-record-requires c κs =
     let l = c .before .before .before .before .before .before .before .before .before in
-    let b = l .before .before .before .before in
-    let i = l .loop .inv in
-    let r = c .before .before .before .before .before .before .before .record-step in
-    let m = r .ensures .steps (defsFrom (b .args .start) (i .along .so)) (i .along .kept) (along-accepted (i .along) (b .pre .reads)) in
-    (b .pre .width, omega (arith, writing-room (b .pre) i m (c .before .before .before .step2 .given .1), i .size))
+    let v = l .before .before .before .before .pre in
+    let k = c .before .before .before .before .before .before .before .record-step .ensures in
+    (v .width, omega (arith, writing-room v (l .loop .inv) k (c .before .before .before .step2 .given .1), l .loop .inv .size))
 
 mul-to : tie.Need-mul-to Inv-loop μ-loop
-mul-to c = let b = c .before .before .before .before .before .before .before .before .before .before .before .before .before .before .before .before in omega (arith, b .pre .width .1)
+mul-to c = omega (arith, c .before .before .before .before .before .before .before .before .before .before .before .before .before .before .before .before .pre .width .1)
 
 add-to : tie.Need-add-to Inv-loop μ-loop
 add-to c =
     let l = c .before .before .before .before .before .before .before .before .before .before .before .before in
-    let b = l .before .before .before .before in
-    let i = l .loop .inv in
-    let r = c .before .before .before .before .before .before .before .before .before .before .record-step in
-    let m = r .ensures .steps (defsFrom (b .args .start) (i .along .so)) (i .along .kept) (along-accepted (i .along) (b .pre .reads)) in
-    omega (arith, writing-room (b .pre) i m (c .before .before .before .before .before .before .step2 .given .1), i .size)
+    let v = l .before .before .before .before .pre in
+    let k = c .before .before .before .before .before .before .before .before .before .before .record-step .ensures in
+    omega (arith, writing-room v (l .loop .inv) k (c .before .before .before .before .before .before .step2 .given .1), l .loop .inv .size)
 
 loop-less-2 : tie.Need-loop-less-2 Inv-loop μ-loop
 loop-less-2 c =
     let l = c .before .before .before .before .before .before .before .before .before .before .before .before in
-    let b = l .before .before .before .before in
-    let i = l .loop .inv in
-    let r = c .before .before .before .before .before .before .before .before .before .before .record-step in
-    let m = r .ensures .steps (defsFrom (b .args .start) (i .along .so)) (i .along .kept) (along-accepted (i .along) (b .pre .reads)) in
-    let f = along-block (i .along) m (c .before .before .before .before .before .before .step2 .given .1) in
-    omega (arith, f .on, f .along .inside)
+    let v = l .before .before .before .before .pre in
+    let k = c .before .before .before .before .before .before .before .before .before .before .record-step .ensures in
+    block-less (l .loop .inv .along) (writing-meets v (l .loop .inv) k) (c .before .before .before .before .before .before .step2 .given .1)
 
 loop-again-2 : tie.Need-loop-again-2 Inv-loop μ-loop
 loop-again-2 c =
     let l = c .before .before .before .before .before .before .before .before .before .before .before .before in
-    let b = l .before .before .before .before in
-    let i = l .loop .inv in
-    let r = c .before .before .before .before .before .before .before .before .before .before .record-step in
-    let m = r .ensures .steps (defsFrom (b .args .start) (i .along .so)) (i .along .kept) (along-accepted (i .along) (b .pre .reads)) in
-    writing-block (b .pre) i m (c .before .before .before .before .before .before .step2 .given .1) (c .before .before .before .before .entry-of .ensures) (c .before .before .put-record .ensures)
+    let v = l .before .before .before .before .pre in
+    let k = c .before .before .before .before .before .before .before .before .before .before .record-step .ensures in
+    writing-block v (l .loop .inv) k (c .before .before .before .before .before .before .step2 .given .1) (c .before .before .before .before .entry-of .ensures) (c .before .before .put-record .ensures)
 
 pub write-records-spec : {M : Type 1} → statement M
 write-records-spec =
