@@ -5,7 +5,7 @@ use lib.ListN.{take, drop, set, replicate}
 use Rattle.bsii_format.specs.Ascii.{ascii}
 use Rattle.bsii_format.specs.Replies.{Reply, gives, refusal, notUtf8, zeroDigit, undefinedPrototype, unlistedType, tableFull, outputShort, absent, misfit, badMark}
 use Rattle.bsii_format.specs.Worked.{le, u32, u64, workedFile, Fact, _says_}
-use Rattle.bsii_format.specs.WorkedCalls.{string, definition, prototypeRecord, fileOf, fileWith, redefinedFile, recountedFile, twinFile, sevenPart, sevenFile, lacks, carries, written, unwritten}
+use Rattle.bsii_format.specs.WorkedCalls.{string, definition, prototypeRecord, fileOf, fileWith, redefinedFile, recountedFile, twinFile, sevenPart, sevenFile, twiceFile, lacks, carries, written, unwritten}
 use Rattle.bsii_format.specs.Calls.{FieldAnswer, partOf, TextAnswer}
 use Rattle.bsii_derived.specs.Index.{indexWidth}
 use Rattle.bsii_derived.specs.IndexCalls.{writeIndexCall, checkIndexCall, indexFieldCall, definesOnceCall}
@@ -51,6 +51,7 @@ writes =
     writeIndexCall 4 3 saveA (replicate 32 1) says written (le 4 35 ++ le 4 7 ++ le 4 8 ++ le 4 1 ++ le 4 42 ++ le 4 15 ++ le 4 8 ++ le 4 1) [] ∷
     writeIndexCall 3 3 redefinedFile (replicate 12 1) says written (entry 35 9 8 1) [] ∷
     writeIndexCall 3 3 recountedFile (replicate 12 1) says written (entry 44 10 8 2) [] ∷
+    writeIndexCall 3 3 (twiceFile [] []) (replicate 24 1) says written (entry 35 9 8 1 ++ entry 71 9 44 1) [] ∷
     writeIndexCall 3 0 (fileWith []) [] says written [] [] ∷
     writeIndexCall 3 2 saveA [] says unwritten tableFull 8 0 [] ∷
     writeIndexCall 3 3 (take 61 saveA) (1 ∷ []) says record { reply = lacks 61 1; needed = 0; output = 1 ∷ [] } ∷ []
@@ -65,6 +66,7 @@ checks =
     checkIndexCall 3 3 saveA (indexA ++ le 2 0) says refusal misfit 24 ∷
     checkIndexCall 3 3 saveA (indexA ++ indexA) says refusal misfit 24 ∷
     checkIndexCall 3 3 saveA [] says refusal misfit 0 ∷
+    checkIndexCall 3 3 saveA (drop 12 indexA ++ indexA) says refusal misfit 0 ∷
     checkIndexCall 3 3 saveA (drop 12 indexA ++ take 12 indexA) says refusal misfit 0 ∷
     checkIndexCall 3 3 saveA (set indexA 3 8) says refusal misfit 0 ∷
     checkIndexCall 3 3 saveA (set indexA 18 9) says refusal misfit 12 ∷
@@ -80,6 +82,8 @@ unfoldable pub looks : List (Fact (Reply FieldAnswer))
 looks =
     indexFieldCall indexWidth saveA indexA 1 (ascii "n") says carries 0x2b 55 (le 2 7) ∷
     indexFieldCall 3 saveA indexA 0 (ascii "n") says carries 0x2b 40 (le 2 5) ∷
+    indexFieldCall 3 (fileWith (u32 3 ++ le 1 0 ++ le 2 5 ++ prototypeRecord 3 (ascii "t") nField)) (offsets 8 15) 0 (ascii "n") says carries 0x2b 13 (le 2 5) ∷
+    indexFieldCall 3 (prototypeRecord 3 (ascii "t") nField ++ u32 3 ++ le 1 0 ++ le 2 5) (offsets 27 0) 0 (ascii "n") says carries 0x2b 32 (le 2 5) ∷
     indexFieldCall 3 saveA indexA 2 (ascii "n") says refusal absent 0 ∷
     indexFieldCall 3 saveA (take 23 indexA) 1 (ascii "n") says refusal absent 0 ∷
     indexFieldCall 3 saveA indexA 1 (ascii "zz") says refusal absent 0 ∷
