@@ -141,7 +141,7 @@ module _ {s t : List ℕ} {k : ℕ} {name : List ℕ} {r : Walked} {t′ : List 
 -- ---- the part
 
 -- of any call that answers with a field
-module _ {s : List ℕ} {r : FieldReply} {q : Reply FieldAnswer} (h : fieldIs s r ≡ q) where
+module _ (s : List ℕ) (r : FieldReply) {q : Reply FieldAnswer} (h : fieldIs s r ≡ q) where
   pub part-none : {f : Refusal} → r ≡ Refused f → [] ≡ partOf q
   unfolding partOf
   part-none z = ap (λ v. partOf (fieldIs s v)) (sym z) ∙ ap partOf h

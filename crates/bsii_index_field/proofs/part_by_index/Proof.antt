@@ -21,7 +21,7 @@ part-result-end : tie.Need-part-result-end
 part-result-end c = search needs
 
 returns : tie.Need-returns
-returns c = part-none (c .before .before .before .look-up .ensures .reply) (c .before .enum-told .given .1)
+returns c = part-none _ _ (c .before .before .before .look-up .ensures .reply) (c .before .enum-told .given .1)
 
 enum-known-reply : tie.Need-enum-known-reply
 enum-known-reply c = search needs
@@ -39,7 +39,7 @@ part-result-end-2 : tie.Need-part-result-end-2
 part-result-end-2 c = let i = c .before .before .before .look-up .ensures .inside _ _ _ (c .before .reply .given .1) in omega (arith, i)
 
 returns-2 : tie.Need-returns-2
-returns-2 c = part-is (c .before .before .before .before .look-up .ensures .reply) (c .before .before .reply .given .1) refl
+returns-2 c = part-is _ _ (c .before .before .before .before .look-up .ensures .reply) (c .before .before .reply .given .1) refl
 
 pub part-by-index-spec : {M : Type 1} → statement M
 part-by-index-spec =

@@ -31,7 +31,7 @@ same-length : tie.Need-same-length
 same-length c = search needs
 
 returns : tie.Need-returns
-returns c = let k = c .before .before .before in let a = k .before .before .before .before .before .before .before .before .before .before .before .args in let l : length (k .before .before .before .before .before .before .read-field .last .1 .0) ≡ length (now (a .table)) = search needs in (part-none (k .before .before .before .before .before .before .read-field .ensures .reply) (c .before .enum-told .given .1), k .before .before .clear .ensures ∙ ap (λ n. replicate n 0) l)
+returns c = let k = c .before .before .before in let a = k .before .before .before .before .before .before .before .before .before .before .before .args in let l : length (k .before .before .before .before .before .before .read-field .last .1 .0) ≡ length (now (a .table)) = search needs in (part-none _ _ (k .before .before .before .before .before .before .read-field .ensures .reply) (c .before .enum-told .given .1), k .before .before .clear .ensures ∙ ap (λ n. replicate n 0) l)
 
 enum-known-reply : tie.Need-enum-known-reply
 enum-known-reply c = search needs
@@ -52,7 +52,7 @@ same-length-2 : tie.Need-same-length-2
 same-length-2 c = search needs
 
 returns-2 : tie.Need-returns-2
-returns-2 c = let k = c .before .before .before .before in let a = k .before .before .before .before .before .before .before .before .before .before .before .args in let l : length (k .before .before .before .before .before .before .read-field .last .1 .0) ≡ length (now (a .table)) = search needs in (part-is (k .before .before .before .before .before .before .read-field .ensures .reply) (c .before .before .reply .given .1) refl, k .before .before .clear .ensures ∙ ap (λ n. replicate n 0) l)
+returns-2 c = let k = c .before .before .before .before in let a = k .before .before .before .before .before .before .before .before .before .before .before .args in let l : length (k .before .before .before .before .before .before .read-field .last .1 .0) ≡ length (now (a .table)) = search needs in (part-is _ _ (k .before .before .before .before .before .before .read-field .ensures .reply) (c .before .before .reply .given .1) refl, k .before .before .clear .ensures ∙ ap (λ n. replicate n 0) l)
 
 pub field-part-spec : {M : Type 1} → statement M
 field-part-spec =
