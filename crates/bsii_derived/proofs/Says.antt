@@ -6,10 +6,15 @@ use lib.ListN.{length}
 use Rattle.bsii_format.specs.Replies.{Fault, gives, refuses}
 use Rattle.bsii_format.specs.Reader.{ok}
 use Rattle.bsii_format.specs.File.{BsiiFile, lengthLimit, parse}
-use Rattle.bsii_format.specs.Calls.{Reading, readingCall, FieldAnswer, fieldCall}
+use Rattle.bsii_format.specs.Calls.{blocksOf, Reading, readingCall, FieldAnswer, fieldCall}
 use Rattle.bsii_derived.specs.Index.{indexBytes, indexOf}
 use Rattle.bsii_derived.specs.IndexCalls.{checkIndexCall, indexFieldCall, definesOnceCall}
-use Rattle.bsii_derived.specs.IndexClaims.{ChecksExactly, AnswersAsWalk}
+use Rattle.bsii_derived.specs.IndexClaims.{OnePerBlock, ChecksExactly, AnswersAsWalk}
+
+-- a record for each block, also where there is none
+pub a-record-each : OnePerBlock → (w words : ℕ) (s : List ℕ) (f : BsiiFile) (at : ℕ) (r : List ℕ) → parse words s ≡ ok f at r
+    → length (indexBytes w (indexOf f)) ≡ length (blocksOf f) * (4 * w)
+a-record-each claim w words s f at r e = claim w words s f at r e
 
 -- what fits is what is written, and what is written fits
 pub only-the-written : ChecksExactly → (w words : ℕ) (s i : List ℕ) → checkIndexCall w words s i ≡ gives tt

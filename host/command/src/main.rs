@@ -86,7 +86,10 @@ fn run(words: Vec<OsString>, message: &mut Vec<u8>) -> Result<u8, Failure> {
     };
     let (question, output) = (asked.question.as_ref(), asked.output.as_deref());
     if let (Some(Question::Index), Some(output)) = (question, output) {
-        output::not_the_save(output, &asked.save)?;
+        output::not_what_was_read(output, &asked.save, "save")?;
+    }
+    if let (Some(index), Some(output)) = (&asked.index, output) {
+        output::not_what_was_read(output, index, "index")?;
     }
     let done = match question {
         None => text(&content, output),

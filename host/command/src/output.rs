@@ -123,15 +123,15 @@ fn same_file(a: &Metadata, b: &Metadata) -> bool {
     (a.dev(), a.ino()) == (b.dev(), b.ino())
 }
 
-/// Fails if the path leads to the save, which would be lost.
-pub fn not_the_save(path: &Path, save: &OsStr) -> Result<(), Failure> {
-    let read = match save == "-" {
+/// Fails if the path leads to what was read, the save or an index, which would be lost.
+pub fn not_what_was_read(path: &Path, input: &OsStr, what: &str) -> Result<(), Failure> {
+    let read = match input == "-" {
         true => input_metadata(),
-        false => fs::metadata(save),
+        false => fs::metadata(input),
     };
     match (fs::metadata(path), read) {
         (Ok(there), Ok(read)) if same_file(&there, &read) => {
-            let error = io::Error::other("it is the save itself, and stays as it is");
+            let error = io::Error::other(format!("it is the {what} itself, and stays as it is"));
             Err(Failure::Io(show::path(path.as_os_str()), error))
         }
         _ => Ok(()),
