@@ -73,7 +73,7 @@ fn one(save: &OsStr, target: &Path) -> Result<(), (Failure, Vec<u8>)> {
     };
     let content = input::read(save).map_err(told)?;
     // Of a folder of saves none may be lost: game.sii may be BSII as well.
-    output::not_the_save(target, save).map_err(told)?;
+    output::not_what_was_read(target, save, "save").map_err(told)?;
     let text = match sii_decode::to_siin(&content) {
         Ok(text) => text,
         Err(refusal) => {
