@@ -163,33 +163,44 @@ pub fn record_step(s: &[u8], version: u32, p: Progress, table: &mut [u32], known
     }
 }
 
-// The records of a version from `start` on, with an empty table.
+// The records of a version from `start` on, with an empty table. The parts of the progress are kept apart: a struct that is copied whole right behind the
+// stores of its parts makes the processor wait for them.
 pub fn walk(s: &[u8], version: u32, start: usize, table: &mut [u32]) -> Walked
     requires { ⌜ (length (now s) ≤ lengthLimit) × (start ≤ length (now s)) ⌝ }
     ensures { λ r. ⌜ Walks version (now (s .entry)) start (now (table .entry)) r (now (table .exit)) ⌝ }
 {
-    let mut p = Progress {
-        at: start,
-        rows: 0,
-        blocks: 0,
-        prototypes: 0,
-    };
+    let mut at = start;
+    let mut rows: usize = 0;
+    let mut blocks: usize = 0;
+    let mut prototypes: usize = 0;
     loop {
+        let p = Progress {
+            at,
+            rows,
+            blocks,
+            prototypes,
+        };
         let step = record_step(s, version, p, table, false);
         match step {
             ReadStep::End(next) => return Walked::Done(Totals {
                 version,
-                rows: p.rows,
-                blocks: p.blocks,
-                prototypes: p.prototypes,
+                rows,
+                blocks,
+                prototypes,
                 next,
             }),
             ReadStep::Refused(f) => return Walked::Fault(f),
             ReadStep::Prototype(further) => {
-                p = further;
+                at = further.at;
+                rows = further.rows;
+                blocks = further.blocks;
+                prototypes = further.prototypes;
             }
             ReadStep::Block(further, _) => {
-                p = further;
+                at = further.at;
+                rows = further.rows;
+                blocks = further.blocks;
+                prototypes = further.prototypes;
             }
         }
     }

@@ -10,10 +10,11 @@ use Rattle.bsii_parse.proofs.walk.walk.Statement.{statement}
 use Rattle.bsii_parse.proofs.walk.walk.Tie as tie
 
 abbrev Inv-loop : tie.InvT-loop
-Inv-loop s version start table₀ p₀ table p = Along version s start table₀ p table
+Inv-loop s version start table₀ at₀ rows₀ blocks₀ prototypes₀ table at rows blocks prototypes =
+    Along version s start table₀ (record { at = at; rows = rows; blocks = blocks; prototypes = prototypes }) table
 
 abbrev μ-loop : tie.MeasureT-loop
-μ-loop s version start table₀ p₀ table p = length s - p .at
+μ-loop s version start table₀ at₀ rows₀ blocks₀ prototypes₀ table at rows blocks prototypes = length s - at
 
 loop-holds : tie.Need-loop-holds Inv-loop μ-loop
 loop-holds c = let b = c .before .before in along-start (now (b .args .s)) (b .args .start) (now (b .args .table)) (b .pre .1)
