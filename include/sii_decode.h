@@ -18,7 +18,7 @@
  * run at the same time.
  *
  * What the library needs. x86-64 and the System V calling convention. Of libc memcpy and memset, and nothing else. 4096 bytes of stack for
- * each call: tests/c/stack.c runs each call on a stack filled with a pattern and measures at most 3496, those two functions included; a dynamic
+ * each call: tests/c/stack.c runs each call on a stack filled with a pattern and measures at most 3448, those two functions included; a dynamic
  * linker that binds them at their first call (without -z now) takes some kilobytes more at that time. Its code is position independent.
  *
  * The file is read only. It may be any bytes, also none; with more than SII_LENGTH_LIMIT it is refused. Its version is the uint32_t at byte 4,
