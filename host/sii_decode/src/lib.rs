@@ -12,9 +12,9 @@
 //! # The index
 //!
 //! A [`BsiiFile`] finds blocks and fields by an index, of 12 bytes for each block, so that a loop over
-//! all blocks reads the save a fixed number of times. The index may be kept beside the save, and lent
-//! when the save is opened again. One of a save that has changed since would find wrong values, so it
-//! is checked then, and refused with 14:
+//! all blocks reads the save a fixed number of times, and then each block with its prototype. The
+//! index may be kept beside the save, and lent when the save is opened again. One of a save that has
+//! changed since would find wrong values, so it is checked then, and refused with 14:
 //!
 //! ```
 //! use sii_decode::BsiiFile;
