@@ -7,8 +7,9 @@ ghost use lib.ListN.{length, take, drop};
 ghost use lib.Seq.{sets};
 ghost use Rattle.bsii_format.specs.Reader.{same};
 ghost use Rattle.bsii_format.specs.Numbers.{littleEndian, le};
+ghost use Rattle.bsii_format.specs.File.{lengthLimit};
 ghost use Rattle.bsii_derived.specs.Index.{indexRecordBytes, recordAt};
-ghost use Rattle.bsii_index_record.specs.Records.{Width, recordIs, foundIs};
+ghost use Rattle.bsii_index_record.specs.Records.{Width, recordIs, foundIs, Agrees};
 
 // How many bytes a number of an index has.
 pub const WIDTH: usize = 3;
@@ -95,6 +96,20 @@ pub fn record_is(index: &[u8], at: usize, width: usize, entry: IndexRecord) -> b
         return false;
     }
     number_is(index, at + 3 * width, width, entry.fields)
+}
+
+// One record more of a file. Of the `number` records in front of it, the first `agreed` stand at the front of the index.
+pub fn agree(index: &[u8], width: usize, agreed: usize, number: usize, entry: IndexRecord) -> usize
+    requires { ⌜ Width width × (number ≤ lengthLimit) ⌝ }
+    ensures { λ r. ⌜ Agrees (now (index .entry)) width agreed number entry r ⌝ }
+{
+    if agreed != number {
+        return agreed;
+    }
+    if record_is(index, agreed * (4 * width), width, entry) {
+        return agreed + 1;
+    }
+    agreed
 }
 
 fn put_number(out: &mut [u8], at: usize, width: usize, n: usize)
