@@ -15,13 +15,11 @@ use Rattle.bsii_format.specs.Calls.{Placed, placed, consPrototype, prototypesIn
 use Rattle.bsii_format.proofs.Readers.{fault≢ok, ok-val, ok-move}
 use Rattle.bsii_string.specs.Answers.{faultIs}
 use Rattle.bsii_string.specs.declared.answers.Refusal.{Refusal}
-use Rattle.bsii_parse.specs.Walks.{Assured, blockCount, prototypeCount, behind, recordsAt, bare, Growing, Ready, Goes, behind-prototype, behind-block, StepMeets, passed, ended, refused, Walks, done, stopped}
+use Rattle.bsii_parse.specs.Walks.{Assured, blockCount, prototypeCount, behind, recordsAt, bare, Growing, Ready, Goes, behind-prototype, behind-block, StepMeets, passed, ended, refused}
 use Rattle.bsii_parse.specs.declared.walk.Progress.{Progress}
 use Rattle.bsii_parse.specs.declared.walk.ReadStep.{ReadStep}
 use Rattle.bsii_parse.specs.declared.walk.Under.{Under}
 use Rattle.bsii_parse.specs.declared.walk.ReadStep.the-variants.{Prototype as WentPrototype, Block as WentBlock, End, Refused}
-use Rattle.bsii_parse.specs.declared.walk.Totals.{Totals}
-use Rattle.bsii_parse.specs.declared.walk.Walked.the-variants.{Done, Fault as Stopped}
 use Rattle.bsii_parse.proofs.Records.{behind-behind, blockCount-append, prototypeCount-append}
 use Rattle.bsii_parse.proofs.Tables.{growing-none, bare-cons}
 
@@ -218,23 +216,12 @@ module _ {version : ℕ} {s : List ℕ} {start : ℕ} {t₀ : List ℕ} {p : Pro
       last : (l : List ℕ) (m : ℕ) → behind (a .so) (ok (record { records = []; end = l }) m (drop m s)) ≡ ok (record { records = a .so; end = l }) m (drop m s)
       last l m = unfold behind in ap (λ w. ok (record { records = w; end = l }) m (drop m s)) (append-nil (a .so))
 
-  pub along-end : {r : ReadStep} {t′ : List ℕ} → StepMeets version s p t (defsFrom start (a .so)) r t′ → {n : ℕ} → r ≡ End n
-      → Walks version s start t₀ (Done (record { version = version; rows = p .rows; blocks = p .blocks; prototypes = p .prototypes; next = n })) t′
-  along-end {t′ = t′} m {n} z =
-      let x = along-all m z in
-      subst (λ k. Walks version s start t₀ (Done (record { version = version; rows = p .rows; blocks = k; prototypes = p .prototypes; next = n })) t′) (sym (a .blocks))
-      (subst (λ k. Walks version s start t₀ (Done (record { version = version; rows = p .rows; blocks = blockCount (a .so); prototypes = k; next = n })) t′) (sym (a .prototypes))
-      (done (record { records = a .so; end = x .end }) (x .all) (x .kept) (x .size)))
-
   pub along-refused : {r : ReadStep} {t′ : List ℕ} → StepMeets version s p t (defsFrom start (a .so)) r t′ → {f : Refusal} → r ≡ Refused f
       → (recordsAt version (length t₀ / 3) [] start s ≡ fault (faultIs f)) × (length t′ ≡ length t₀)
   unfolding behind
   along-refused (passed i e on inside place kept size goes) z = goes≢refused goes z
   along-refused (ended e) z = end≢refused z
   along-refused (refused {f = x} e l) {f} z = let same : x ≡ f = cc in (from-here e ∙ ap (λ w. fault (faultIs w)) same, l ∙ a .size)
-
-  pub along-stop : {r : ReadStep} {t′ : List ℕ} → StepMeets version s p t (defsFrom start (a .so)) r t′ → {f : Refusal} → r ≡ Refused f → Walks version s start t₀ (Stopped f) t′
-  along-stop m z = let x = along-refused m z in stopped (x .0) (x .1)
 
   -- where the whole is accepted, what is left is, and stands behind what was passed
   pub along-accepted : {q : Records} {n : ℕ} {u : List ℕ} → recordsAt version (length t₀ / 3) [] start s ≡ ok q n u

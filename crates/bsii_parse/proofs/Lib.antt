@@ -1,8 +1,10 @@
 pub mod Records
 pub mod RecordSteps
 pub mod Tables
-pub mod Passing
-pub mod Along
-pub mod Whole
 pub mod Values
 pub mod Skipped
+pub mod Passing
+pub mod Along
+pub mod Passed
+pub mod Comparing
+pub mod Whole

@@ -18,7 +18,7 @@ use Rattle.bsii_format.proofs.Readers.{Exact, bind-exact, fault≢ok}
 use Rattle.bsii_format.proofs.Parsers.{id-exact}
 use Rattle.bsii_format.proofs.Records.{stepBytes, record-good, fields-good, fields-fits, values-good, values-fits, record-exact, record-empty}
 use Rattle.bsii_format.proofs.Positions.{moved, moved-on}
-use Rattle.bsii_string.specs.Answers.{faultIs, refusalIs, refusedAt}
+use Rattle.bsii_string.specs.Answers.{faultIs, refusalIs, refusedAt, uncheckedStr}
 use Rattle.bsii_string.specs.declared.answers.Refusal.{Refusal}
 use Rattle.bsii_string.specs.declared.answers.Parsed.{Parsed}
 use Rattle.bsii_string.specs.declared.answers.Parsed.the-variants.{Next, Fault}
@@ -31,12 +31,14 @@ use Rattle.bsii_tree.specs.Table.{lookupTree, Defines}
 use Rattle.bsii_tree.specs.declared.Defined.{Defined}
 use Rattle.bsii_tree.specs.declared.Defined.the-variants.{Rows, Full}
 use Rattle.bsii_tree.proofs.Relation.{is-put, is-full, define-grows, define-room, define-full}
+use Rattle.bsii_prototype.specs.Entries.{fieldsWith}
 use Rattle.bsii_prototype.specs.Answers.{countOf, headIs}
+use Rattle.bsii_prototype.proofs.Turns.{fields-again}
 use Rattle.bsii_prototype.specs.declared.answers.Counted.{Counted}
 use Rattle.bsii_prototype.specs.declared.answers.Counted.the-variants.{Fields as Counted-Fields, Fault as Counted-Fault}
 use Rattle.bsii_prototype.specs.declared.answers.Head.{Head as HeadAnswer}
 use Rattle.bsii_prototype.specs.declared.answers.Head.the-variants.{End as HeadEnd, Prototype as HeadPrototype, Block as HeadBlock, BadHead}
-use Rattle.bsii_parse.specs.Walks.{DefinedAt, countedEnd, Assured, KnownEnd, blockCount, prototypeCount, behind, recordsAt, bare, Growing, Goes, behind-prototype, behind-block, StepMeets, passed, ended as atEnd, refused, Stepped, Defining, Carrying}
+use Rattle.bsii_parse.specs.Walks.{DefinedAt, countedEnd, Assured, blockCount, prototypeCount, behind, recordsAt, bare, Growing, Goes, behind-prototype, behind-block, StepMeets, passed, ended as atEnd, refused, Stepped, Defining, Carrying}
 use Rattle.bsii_parse.specs.declared.walk.Progress.{Progress}
 use Rattle.bsii_parse.specs.declared.walk.ReadStep.{ReadStep}
 use Rattle.bsii_parse.specs.declared.walk.ReadStep.the-variants.{Prototype as WentPrototype, Block as WentBlock, End, Refused}
@@ -44,6 +46,7 @@ use Rattle.bsii_parse.specs.declared.walk.Under.{Under}
 use Rattle.bsii_parse.proofs.Records.{records-fault, records-end, records-full, records-more}
 use Rattle.bsii_parse.proofs.RecordSteps.{record-fault, record-end, prototypeOf, record-prototype, record-fields-fault, record-undefined, record-block-fault, block-accepted, record-block}
 use Rattle.bsii_parse.proofs.Tables.{offsets-put, bare-cons, placed-at}
+use Rattle.bsii_parse.proofs.Skipped.{KnownEnd}
 
 -- ---- the list of definitions is exact
 
@@ -87,6 +90,16 @@ assured-body version rooms env at s {n = n} {p = p} h k true y = go (recordParse
         → Assured true ((idParser >>= (λ i. dataValuesParser version (p .fields))) n (drop n s))
     go (ok z m t) e = let x = block-accepted version env at (drop at s) h k e in (x .0, m, t, x .1)
     go (fault f) e = fault≢ok (sym (records-fault version rooms env at s e) ∙ y .3)
+
+-- and so are the definitions of the prototype here
+assured-fields : (version rooms : ℕ) (env : List Prototype) (at : ℕ) (s : List ℕ) {id n : ℕ} {name : List ℕ} → headParser at (drop at s) ≡ ok (defining id name) n (drop n s)
+    → (known : Bool) → Assured known (recordsAt version rooms env at s) → Assured known (fieldsParser n (drop n s))
+assured-fields version rooms env at s h false y = tt
+assured-fields version rooms env at s {n = n} h true y = go (fieldsParser n (drop n s)) refl
+  where
+    go : (q : Result Fields) → fieldsParser n (drop n s) ≡ q → Assured true (fieldsParser n (drop n s))
+    go (ok l m t) e = (l, m, t, e)
+    go (fault f) e = fault≢ok (sym (records-fault version rooms env at s (record-fields-fault version env at (drop at s) h e)) ∙ y .3)
 
 -- what a counted end says of the end
 ended-next : {k c n : ℕ} (e : Parsed) → Counted-Fields c n ≡ countedEnd k e → (c ≡ k) × (Next n ≡ e)
@@ -195,19 +208,40 @@ counted-is s fields {c} {n} e = go (fieldsParser fields (drop fields s)) refl e
     go (ok l m r) h z = let i : n ≡ m = cc in (l, rw (i, ← moved fields-exact s fields h .rest))
     go (fault f) h z = let y : _≡_ {A = ℕ} 0 1 = cc in let x : ⊥ = omega arith in absurd x
 
-module _ {s : List ℕ} {p : Progress} {t : List ℕ} {id fields : ℕ} where
-  pub defining-fault : {f : Refusal} → Counted-Fault f ≡ countOf (fieldsParser fields (drop fields s)) → Defining s p t id fields (Refused f) t
-  defining-fault e = record { steps = λ version env k name h. prototype-fault h (counted-fault (fieldsParser fields (drop fields s)) e) }
+-- a list of definitions, with or without tests
+pub record KnownList (s : List ℕ) (fields : ℕ) (known : Bool) (r : Counted) : Type 0 where
+  pub counts : Assured known (fieldsParser fields (drop fields s)) → r ≡ countOf (fieldsParser fields (drop fields s))
 
-  module _ {c n : ℕ} (e : Counted-Fields c n ≡ countOf (fieldsParser fields (drop fields s))) {o : ℕ} (w : o ≡ p .at) {d : Defined} {t′ : List ℕ} (x : Defines s t (p .rows) id o d t′) where
-    pub defining-full : d ≡ Full → Defining s p t id fields (Refused (refusedAt tableFull (p .at))) t′
+pub list-parsed : {s : List ℕ} {fields : ℕ} {r : Counted} → r ≡ countOf (fieldsParser fields (drop fields s)) → KnownList s fields false r
+list-parsed e = record { counts = λ a. e }
+
+pub list-skipped : {s : List ℕ} {fields : ℕ} {r : Counted} → r ≡ countOf (fieldsWith uncheckedStr fields (drop fields s)) → KnownList s fields true r
+list-skipped {s} {fields} e = record { counts = λ a. e ∙ fields-again fields (drop fields s) (a .3) }
+
+counted : {s : List ℕ} {fields : ℕ} {known : Bool} {q : Counted} → KnownList s fields known q → (version rooms : ℕ) (env : List Prototype) (at : ℕ) {id : ℕ} {name : List ℕ}
+    → headParser at (drop at s) ≡ ok (defining id name) fields (drop fields s) → Assured known (recordsAt version rooms env at s)
+    → q ≡ countOf (fieldsParser fields (drop fields s))
+counted {s} {known = known} g version rooms env at h y = g .counts (assured-fields version rooms env at s h known y)
+
+module _ {s : List ℕ} {p : Progress} {t : List ℕ} {known : Bool} {id fields : ℕ} {q : Counted} (g : KnownList s fields known q) where
+  pub defining-fault : {f : Refusal} → q ≡ Counted-Fault f → Defining s p t known id fields (Refused f) t
+  defining-fault z = record {
+    steps = λ version env k y name h. prototype-fault h (counted-fault (fieldsParser fields (drop fields s)) (sym z ∙ counted g version (length t / 3) (bare env) (p .at) h y));
+  }
+
+  module _ {c n : ℕ} (e : q ≡ Counted-Fields c n) {o : ℕ} (w : o ≡ p .at) {d : Defined} {t′ : List ℕ} (x : Defines s t (p .rows) id o d t′) where
+    pub defining-full : d ≡ Full → Defining s p t known id fields (Refused (refusedAt tableFull (p .at))) t′
     defining-full f = record {
-      steps = λ version env k name h. prototype-full h (counted-is s fields e .1) k f (subst (λ z. Defines s t (p .rows) id z d t′) w x);
+      steps = λ version env k y name h.
+          prototype-full h (counted-is s fields (sym e ∙ counted g version (length t / 3) (bare env) (p .at) h y) .1) k f (subst (λ z. Defines s t (p .rows) id z d t′) w x);
     }
 
     pub defining-passed : {rows : ℕ} → d ≡ Rows rows
-        → Defining s p t id fields (WentPrototype (behindPrototype p n rows)) t′
-    defining-passed f = record { steps = λ version env k name h. prototype-passed h (counted-is s fields e .1) k f (subst (λ z. Defines s t (p .rows) id z d t′) w x) }
+        → Defining s p t known id fields (WentPrototype (behindPrototype p n rows)) t′
+    defining-passed f = record {
+      steps = λ version env k y name h.
+          prototype-passed h (counted-is s fields (sym e ∙ counted g version (length t / 3) (bare env) (p .at) h y) .1) k f (subst (λ z. Defines s t (p .rows) id z d t′) w x);
+    }
 
 module _ {version : ℕ} {s : List ℕ} {p : Progress} {t : List ℕ} {id at : ℕ} {known : Bool} {r : FoundRow} (f : foundRow r ≡ lookupTree s t (p .rows) id) where
   pub carrying-undefined : r ≡ Nothing → Carrying version s p t known id at (Refused (refusedAt undefinedPrototype (p .at)))
@@ -230,9 +264,9 @@ module _ {version : ℕ} {s : List ℕ} {p : Progress} {t : List ℕ} {known : B
   pub stepped-bad : {f : Refusal} → h ≡ BadHead f → Stepped version s p t known (Refused f) t
   stepped-bad z = record { steps = λ env k y. step-head-fault (sym e ∙ ap (headIs s) z) }
 
-  pub stepped-defining : {id name next : ℕ} {r : ReadStep} {t′ : List ℕ} → h ≡ HeadPrototype id name next → Defining s p t id next r t′
+  pub stepped-defining : {id name next : ℕ} {r : ReadStep} {t′ : List ℕ} → h ≡ HeadPrototype id name next → Defining s p t known id next r t′
       → Stepped version s p t known r t′
-  stepped-defining z d = record { steps = λ env k y. d .steps version env k _ (sym e ∙ ap (headIs s) z) }
+  stepped-defining z d = record { steps = λ env k y. d .steps version env k y _ (sym e ∙ ap (headIs s) z) }
 
   pub stepped-carrying : {id next : ℕ} {r : ReadStep} → h ≡ HeadBlock id next → Carrying version s p t known id next r → Stepped version s p t known r t
   stepped-carrying z d = record { steps = λ env k y. d .steps env k y (sym e ∙ ap (headIs s) z) }

@@ -27,7 +27,7 @@ use Rattle.bsii_prototype.proofs.Beginnings.{head-next}
 use Rattle.bsii_skip.specs.Unchecked.{uncheckedId, uncheckedValue}
 use Rattle.bsii_skip.proofs.Values.{id-same}
 use Rattle.bsii_skip.proofs.Blocks.{turn, done}
-use Rattle.bsii_parse.specs.Walks.{DefinedAt, countedEnd, DefinedEnd, ValuesSkipped, BlockSkipped, Assured, KnownEnd}
+use Rattle.bsii_parse.specs.Walks.{DefinedAt, countedEnd, DefinedEnd, ValuesSkipped, BlockSkipped, Assured}
 
 -- ---- the loop over definitions and values in step
 
@@ -130,12 +130,16 @@ module _ (version : ℕ) (s : List ℕ) (o at : ℕ) {r : Parsed} (e : r ≡ end
 
 -- ---- a block, with or without tests
 
-pub known-skipped : {version : ℕ} {s : List ℕ} {o at : ℕ} {known : Bool} {r : Counted} → known ≡ true → BlockSkipped version s o at r
-    → KnownEnd version s o at known r
-unfolding endOf
-known-skipped {version} {s} {o} {at} {known} {r} e b = subst (λ k. KnownEnd version s o at k r) (sym e) (record {
-  ends = λ p h a. b .ends p h (a .0) (a .1) (a .2) (a .3) ∙ ap (λ q. countedEnd (length (p .fields)) (endOf q)) (sym (a .3));
-})
+-- a block under a prototype that stands at an offset, with or without tests
+pub record KnownEnd (version : ℕ) (s : List ℕ) (o at : ℕ) (known : Bool) (r : Counted) : Type 0 where
+  pub ends : (p : Prototype) → DefinedAt s o p → Assured known ((idParser >>= (λ i. dataValuesParser version (p .fields))) at (drop at s))
+      → r ≡ countedEnd (length (p .fields)) (endOf ((idParser >>= (λ i. dataValuesParser version (p .fields))) at (drop at s)))
 
-pub known-parsed : {version : ℕ} {s : List ℕ} {o at : ℕ} {known : Bool} {r : Counted} → DefinedEnd version s o at r → KnownEnd version s o at known r
+pub known-skipped : {version : ℕ} {s : List ℕ} {o at : ℕ} {r : Counted} → BlockSkipped version s o at r → KnownEnd version s o at true r
+unfolding endOf
+known-skipped b = record {
+  ends = λ p h a. b .ends p h (a .0) (a .1) (a .2) (a .3) ∙ ap (λ q. countedEnd (length (p .fields)) (endOf q)) (sym (a .3));
+}
+
+pub known-parsed : {version : ℕ} {s : List ℕ} {o at : ℕ} {r : Counted} → DefinedEnd version s o at r → KnownEnd version s o at false r
 known-parsed d = record { ends = λ p h a. d .ends p h }

@@ -15,14 +15,17 @@ use Rattle.bsii_format.proofs.Readers.{is-false, ok-at, after-ok, cond-ok, map-
 use Rattle.bsii_format.proofs.Parsers.{header-exact}
 use Rattle.bsii_format.proofs.Positions.{moved, moved-on}
 use Rattle.bsii_format.proofs.File.{parse-short, parse-ok}
+use Rattle.bsii_derived.specs.Index.{indexOf, agreeing}
 use Rattle.bsii_prototype.proofs.Names.{number-front}
 use Rattle.bsii_string.specs.Answers.{faultIs, refusedAt}
 use Rattle.bsii_string.specs.declared.answers.Refusal.{Refusal}
-use Rattle.bsii_parse.specs.Walks.{blockCount, recordsAt, Growing, Walks, done, stopped, read, unread, ReadTree, ReadFile}
+use Rattle.bsii_parse.specs.Walks.{blockCount, recordsAt, Growing, totalsOf, indexAt, Compares, walked, stopped, ComparesFile, compared, uncompared, read, unread, ReadTree, ReadFile}
 use Rattle.bsii_tree.specs.Table.{Linked}
 use Rattle.bsii_order.specs.Ordered.{Ordered}
 use Rattle.bsii_parse.specs.Answers.{readingIs}
 use Rattle.bsii_parse.specs.declared.walk.Totals.{Totals}
+use Rattle.bsii_parse.specs.declared.walk.Compared.{Compared}
+use Rattle.bsii_parse.specs.declared.walk.Compared.the-variants.{Read as ReadCompared, Refused as NotCompared}
 use Rattle.bsii_parse.specs.declared.walk.Walked.{Walked}
 use Rattle.bsii_parse.specs.declared.walk.Walked.the-variants.{Done, Fault as Stopped}
 use Rattle.bsii_parse.specs.declared.reading.Reading.{Reading}
@@ -37,8 +40,8 @@ long-refused words s h =
     let l : T (leb (length s) lengthLimit) → ⊥ = λ k. let z : length s ≤ lengthLimit = leb→le (length s) lengthLimit k in omega arith in
     rw (is-false (leb (length s) lengthLimit) l)
 
-pub file-long : (s t : List ℕ) → lengthLimit < length s → ReadTree s t (Stopped (refusedAt inputLong 0)) t
-file-long s t h = unread (long-refused (length t) s h) refl
+pub file-long : (s t i : List ℕ) (w : ℕ) → lengthLimit < length s → ComparesFile s t i w (NotCompared (refusedAt inputLong 0)) t
+file-long s t i w h = uncompared (long-refused (length t) s h) refl
 
 header-empty : headerParser 0 [] ≡ faultAt invalidHeader 0
 unfolding headerParser _>>=_ after tag same
@@ -49,8 +52,8 @@ module _ (s t : List ℕ) (short : length s ≤ lengthLimit) where
   unfolding bsiiParser _>>=_ after consumed
   header-refused e = parse-short (length t) s short ∙ rw e
 
-  pub header-fault : {f : Refusal} → headerParser 0 s ≡ fault (faultIs f) → ReadTree s t (Stopped f) t
-  header-fault e = unread (header-refused e) refl
+  pub header-fault : (i : List ℕ) (w : ℕ) {f : Refusal} → headerParser 0 s ≡ fault (faultIs f) → ComparesFile s t i w (NotCompared f) t
+  header-fault i w e = uncompared (header-refused e) refl
 
   module _ {v : ℕ} (h : headerParser 0 s ≡ ok v 8 (drop 8 s)) where
     unfoldable pub header : Consumed ℕ
@@ -72,12 +75,13 @@ module _ (s t : List ℕ) (short : length s ≤ lengthLimit) where
     records-read q e = parse-is ∙ rw e
 
     -- the walk from the first record on is the file
-    pub file-walked : {r : Walked} {t′ : List ℕ} → Walks v s 8 t r t′ → ReadTree s t r t′
-    unfolding bsiiFile header placedRecords
-    file-walked {t′ = t′} (done q {rows = rows} {n = n} e k l) =
+    pub file-walked : (i : List ℕ) (w : ℕ) {r : Compared} {t′ : List ℕ} → Compares v s 8 t i w r t′ → ComparesFile s t i w r t′
+    unfolding bsiiFile header placedRecords indexOf
+    file-walked i w {t′ = t′} (walked q {rows = rows} {n = n} e k l) =
         let start : 8 ≡ length (take 8 s) = sym (length-take-le 8 s header-long) in
-        read (bsiiFile header q) (records-read q e) (subst (λ m. Growing s t′ rows (prototypesIn (placed (λ r. length (recordBytes r)) m (q .records)) [])) start k) l
-    file-walked (stopped e l) = unread (records-refused e) l
+        subst (λ x. ComparesFile s t i w (ReadCompared (totalsOf v rows (q .records) n) (agreeing w x i)) t′) (sym (ap (λ m. indexAt m (q .records)) start))
+        (compared (bsiiFile header q) (records-read q e) (subst (λ m. Growing s t′ rows (prototypesIn (placed (λ r. length (recordBytes r)) m (q .records)) [])) start k) l)
+    file-walked i w (stopped e l) = uncompared (records-refused e) l
 
 -- ---- the parts of a file that was read
 
@@ -146,6 +150,21 @@ read-answer (unread e l) = rw e
 pub read-size : {s t : List ℕ} {r : Walked} {t′ : List ℕ} → ReadTree s t r t′ → length t′ ≡ length t
 read-size (read f e k l) = l
 read-size (unread e l) = l
+
+-- ---- without an index
+
+read≢refused : {P : Type 0} {a : Totals} {n : ℕ} {f : Refusal} → _≡_ {A = Compared} (ReadCompared a n) (NotCompared f) → P
+read≢refused e = let z : _≡_ {A = ℕ} 0 1 = cc in absurd (omega arith)
+
+module _ {s t i : List ℕ} {w : ℕ} where
+  pub tree-read : {r : Compared} {t′ : List ℕ} → ComparesFile s t i w r t′ → {a : Totals} {n : ℕ} → r ≡ ReadCompared a n → ReadTree s t (Done a) t′
+  tree-read {t′ = t′} (compared f {rows = rows} {n = n} e k l) {a} z =
+      let x : totalsOf (f .header .value) rows (f .records) n ≡ a = cc in subst (λ b. ReadTree s t (Done b) t′) x (read f e k l)
+  tree-read (uncompared e l) z = read≢refused (sym z)
+
+  pub tree-unread : {r : Compared} {t′ : List ℕ} → ComparesFile s t i w r t′ → {f : Refusal} → r ≡ NotCompared f → ReadTree s t (Stopped f) t′
+  tree-unread (compared f e k l) z = read≢refused z
+  tree-unread {t′ = t′} (uncompared {f = x} e l) {f} z = let y : x ≡ f = cc in subst (λ g. ReadTree s t (Stopped g) t′) y (unread e l)
 
 -- ---- in the order of the ids
 

@@ -11,6 +11,7 @@ use Rattle.bsii_format.specs.Prototypes.{Prototype, Fields, fieldsParser}
 use Rattle.bsii_format.specs.Blocks.{DataValue, DataBlock, dataValuesParser, findBy}
 use Rattle.bsii_format.specs.File.{Record, prototype, block, defining, carrying, headParser, recordBytes, Records, recordsFrom, BsiiFile, lengthLimit, parse}
 use Rattle.bsii_format.specs.Calls.{Placed, placed, placedRecords, consPrototype, prototypesIn}
+use Rattle.bsii_derived.specs.Index.{IndexRecord, indexFrom, indexOf, agreeing}
 use Rattle.bsii_string.specs.Answers.{faultIs, endOf}
 use Rattle.bsii_string.specs.declared.answers.Refusal.{Refusal}
 use Rattle.bsii_string.specs.declared.answers.Parsed.{Parsed}
@@ -26,6 +27,8 @@ use Rattle.bsii_parse.specs.declared.walk.ReadStep.the-variants.{Prototy
 use Rattle.bsii_parse.specs.declared.walk.Totals.{Totals}
 use Rattle.bsii_parse.specs.declared.walk.Walked.{Walked}
 use Rattle.bsii_parse.specs.declared.walk.Walked.the-variants.{Done, Fault as Stopped}
+use Rattle.bsii_parse.specs.declared.walk.Compared.{Compared}
+use Rattle.bsii_parse.specs.declared.walk.Compared.the-variants.{Read as ReadCompared, Refused as NotCompared}
 
 -- ---- prototypes and blocks at an offset
 
@@ -68,11 +71,6 @@ pub record BlockSkipped (version : ℕ) (s : List ℕ) (o at : ℕ) (r : Counted
 abbrev pub Assured : {A : Type 0} → Bool → Result A → Type 0
 Assured false q = Unit {0}
 Assured {A} true q = (a : A) × (n : ℕ) × (r : List ℕ) × (q ≡ ok a n r)
-
--- a block under a prototype that stands at an offset, with or without tests
-pub record KnownEnd (version : ℕ) (s : List ℕ) (o at : ℕ) (known : Bool) (r : Counted) : Type 0 where
-  pub ends : (p : Prototype) → DefinedAt s o p → Assured known ((idParser >>= (λ i. dataValuesParser version (p .fields))) at (drop at s))
-      → r ≡ countedEnd (length (p .fields)) (endOf ((idParser >>= (λ i. dataValuesParser version (p .fields))) at (drop at s)))
 
 -- ---- the reading walk
 
@@ -149,9 +147,9 @@ pub record Stepped (version : ℕ) (s : List ℕ) (p : Progress) (t : List ℕ) 
   pub steps : (env : List (Placed Prototype)) → Growing s t (p .rows) env → Assured known (recordsAt version (length t / 3) (bare env) (p .at) s) → StepMeets version s p t env r t′
 
 -- the same where the head is read already: a prototype's definitions start at `fields`, in every version, a block's id at `at`
-pub record Defining (s : List ℕ) (p : Progress) (t : List ℕ) (id fields : ℕ) (r : ReadStep) (t′ : List ℕ) : Type 0 where
-  pub steps : (version : ℕ) (env : List (Placed Prototype)) → Growing s t (p .rows) env → (name : List ℕ) → headParser (p .at) (drop (p .at) s) ≡ ok (defining id name) fields (drop fields s)
-      → StepMeets version s p t env r t′
+pub record Defining (s : List ℕ) (p : Progress) (t : List ℕ) (known : Bool) (id fields : ℕ) (r : ReadStep) (t′ : List ℕ) : Type 0 where
+  pub steps : (version : ℕ) (env : List (Placed Prototype)) → Growing s t (p .rows) env → Assured known (recordsAt version (length t / 3) (bare env) (p .at) s)
+      → (name : List ℕ) → headParser (p .at) (drop (p .at) s) ≡ ok (defining id name) fields (drop fields s) → StepMeets version s p t env r t′
 
 pub record Carrying (version : ℕ) (s : List ℕ) (p : Progress) (t : List ℕ) (known : Bool) (id at : ℕ) (r : ReadStep) : Type 0 where
   pub steps : (env : List (Placed Prototype)) → Growing s t (p .rows) env → Assured known (recordsAt version (length t / 3) (bare env) (p .at) s)
@@ -163,12 +161,22 @@ pub record Carrying (version : ℕ) (s : List ℕ) (p : Progress) (t : List ℕ)
 abbrev pub totalsOf : ℕ → ℕ → List Record → ℕ → Totals
 totalsOf version rows l n = record { version = version; rows = rows; blocks = blockCount l; prototypes = prototypeCount l; next = n }
 
-pub data Walks (version : ℕ) (s : List ℕ) (start : ℕ) (t : List ℕ) : Walked → List ℕ → Type 0 where
-  done : (q : Records) {rows n : ℕ} {t′ : List ℕ} → recordsAt version (length t / 3) [] start s ≡ ok q n (drop n s)
+-- the index records of records that stand from an offset on
+abbrev pub indexAt : ℕ → List Record → List IndexRecord
+indexAt start l = indexFrom [] (placed (λ r. length (recordBytes r)) start l)
+
+-- with an index of the bytes i, in numbers of w bytes, held against the blocks
+pub data Compares (version : ℕ) (s : List ℕ) (start : ℕ) (t i : List ℕ) (w : ℕ) : Compared → List ℕ → Type 0 where
+  walked : (q : Records) {rows n : ℕ} {t′ : List ℕ} → recordsAt version (length t / 3) [] start s ≡ ok q n (drop n s)
       → Growing s t′ rows (prototypesIn (placed (λ r. length (recordBytes r)) start (q .records)) []) → length t′ ≡ length t
-      → Walks version s start t (Done (totalsOf version rows (q .records) n)) t′
+      → Compares version s start t i w (ReadCompared (totalsOf version rows (q .records) n) (agreeing w (indexAt start (q .records)) i)) t′
   stopped : {f : Refusal} {t′ : List ℕ} → recordsAt version (length t / 3) [] start s ≡ fault (faultIs f) → length t′ ≡ length t
-      → Walks version s start t (Stopped f) t′
+      → Compares version s start t i w (NotCompared f) t′
+
+pub data ComparesFile (s t i : List ℕ) (w : ℕ) : Compared → List ℕ → Type 0 where
+  compared : (f : BsiiFile) {rows n : ℕ} {t′ : List ℕ} → parse (length t) s ≡ ok f n (drop n s) → Growing s t′ rows (prototypesIn (placedRecords f) [])
+      → length t′ ≡ length t → ComparesFile s t i w (ReadCompared (totalsOf (f .header .value) rows (f .records) n) (agreeing w (indexOf f) i)) t′
+  uncompared : {f : Refusal} {t′ : List ℕ} → parse (length t) s ≡ fault (faultIs f) → length t′ ≡ length t → ComparesFile s t i w (NotCompared f) t′
 
 -- `Table t′ rows env` is what the table holds then
 pub data ReadAs (Table : List ℕ → ℕ → List (Placed Prototype) → Type 0) (s : List ℕ) (t : List ℕ) : Walked → List ℕ → Type 0 where

@@ -1,6 +1,8 @@
 // The reading call: the whole file, its header and its records.
+use crate::walk::Compared;
 use crate::walk::Walked;
 use crate::walk::walk;
+use bsii_index_record::WIDTH;
 use bsii_order::order;
 use bsii_prototype::answers::Header;
 use bsii_prototype::heads::header_parser;
@@ -12,7 +14,8 @@ use bsii_table::clear;
 ghost use mathlib.Core.Path.{_≡_};
 ghost use lib.ListN.{length};
 ghost use Rattle.bsii_format.specs.Calls.{readingCall, tableAfter};
-ghost use Rattle.bsii_parse.specs.Walks.{ReadFile, ReadTree};
+ghost use Rattle.bsii_index_record.specs.Records.{Width};
+ghost use Rattle.bsii_parse.specs.Walks.{ComparesFile, ReadFile, ReadTree};
 ghost use Rattle.bsii_parse.specs.Answers.{readingIs};
 
 // What the reading call answers: how many distinct prototype ids and how many blocks there are, and the offset after the end record.
@@ -25,17 +28,29 @@ pub enum Reading {
     Refused(Refusal),
 }
 
+// The file, held against an index of numbers of `width` bytes, with the tree of its ids left in the table: the caller clears it.
+pub fn compare(file: &[u8], table: &mut [u32], index: &[u8], width: usize) -> Compared
+    requires { ⌜ Width width ⌝ }
+    ensures { λ r. ⌜ ComparesFile (now (file .entry)) (now (table .entry)) (now (index .entry)) width r (now (table .exit)) ⌝ }
+{
+    if LENGTH_LIMIT < file.len() {
+        return Compared::Refused(refused(INPUT_LONG, 0));
+    }
+    let header = header_parser(file);
+    match header {
+        Header::BadHeader(f) => return Compared::Refused(f),
+        Header::Version(version) => return walk(file, version, 8, table, index, width),
+    }
+}
+
 // The file, with the tree of its ids left in the table: the caller clears it.
 pub fn tree_parser(file: &[u8], table: &mut [u32]) -> Walked
     ensures { λ r. ⌜ ReadTree (now (file .entry)) (now (table .entry)) r (now (table .exit)) ⌝ }
 {
-    if LENGTH_LIMIT < file.len() {
-        return Walked::Fault(refused(INPUT_LONG, 0));
-    }
-    let header = header_parser(file);
-    match header {
-        Header::BadHeader(f) => return Walked::Fault(f),
-        Header::Version(version) => return walk(file, version, 8, table),
+    let compared = compare(file, table, &file[0..0], WIDTH);
+    match compared {
+        Compared::Read { totals, agreed: _ } => return Walked::Done(totals),
+        Compared::Refused(f) => return Walked::Fault(f),
     }
 }
 

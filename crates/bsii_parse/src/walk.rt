@@ -1,6 +1,7 @@
 // The reading walk over the records, up to the end record.
 use crate::blocks::data_block_parser;
-use crate::blocks::skip_block;
+use bsii_index_record::IndexRecord;
+use bsii_index_record::agree;
 use bsii_prototype::answers::Counted;
 use bsii_prototype::answers::Head;
 use bsii_prototype::fields::fields_parser;
@@ -17,13 +18,15 @@ use bsii_table::word;
 use bsii_tree::Defined;
 use bsii_tree::define;
 use bsii_tree::find;
-ghost use Prim.Native.Nat.{_≤_};
+ghost use Prim.Native.Nat.{_-_, _≤_};
+ghost use mathlib.Core.Bool.{false};
 ghost use lib.ListN.{length};
 ghost use mathlib.Core.Path.{_≡_};
 ghost use lib.ListN.{drop};
 ghost use Rattle.bsii_format.specs.File.{lengthLimit};
 ghost use Rattle.bsii_tree.specs.Table.{Named};
-ghost use Rattle.bsii_parse.specs.Walks.{Ready, Defining, Carrying, Stepped, Walks, DefinedEnd, KnownEnd};
+ghost use Rattle.bsii_index_record.specs.Records.{Width};
+ghost use Rattle.bsii_parse.specs.Walks.{Ready, Defining, Carrying, Stepped, Compares, DefinedEnd};
 
 // How far the walk is: the next record's offset, the table's rows, and the blocks and the prototypes so far.
 pub struct Progress {
@@ -61,10 +64,16 @@ pub enum Walked {
     Fault(Refusal),
 }
 
+// The same, and how many index records of the blocks stand at the front of an index.
+pub enum Compared {
+    Read { totals: Totals, agreed: usize },
+    Refused(Refusal),
+}
+
 // A prototype of this id, whose definitions start at `fields`. A new id without room is refused once the prototype is read whole.
 fn prototype_step(s: &[u8], p: Progress, table: &mut [u32], id: u32, fields: usize) -> ReadStep
     requires { ⌜ Ready (now s) p (now table) × Named (now s) (p .rows) id (p .at) ⌝ }
-    ensures { λ r. ⌜ Defining (now (s .entry)) p (now (table .entry)) id fields r (now (table .exit)) ⌝ }
+    ensures { λ r. ⌜ Defining (now (s .entry)) p (now (table .entry)) false id fields r (now (table .exit)) ⌝ }
 {
     let at = p.at;
     let rows = p.rows;
@@ -99,28 +108,17 @@ pub fn block_parser(s: &[u8], version: u32, prototype: usize, at: usize) -> Coun
     }
 }
 
-// The block whose own id starts at `at`, under the prototype at the offset `prototype`; where the file is known to be accepted, nothing is checked again.
-fn block_end(s: &[u8], version: u32, prototype: usize, at: usize, known: bool) -> Counted
-    ensures { λ r. ⌜ KnownEnd version (now (s .entry)) prototype at known r ⌝ }
-{
-    if known {
-        return skip_block(s, version, prototype, at);
-    }
-    block_parser(s, version, prototype, at)
-}
-
 // A block of this id, whose own id starts at `id_at`, under the definition in force.
 fn block_step(
     s: &[u8],
     version: u32,
     p: Progress,
     table: &[u32],
-    known: bool,
     id: u32,
     id_at: usize,
 ) -> ReadStep
     requires { ⌜ Ready (now s) p (now table) ⌝ }
-    ensures { λ r. ⌜ Carrying version (now (s .entry)) p (now (table .entry)) known id «id_at» r ⌝ }
+    ensures { λ r. ⌜ Carrying version (now (s .entry)) p (now (table .entry)) false id «id_at» r ⌝ }
 {
     let at = p.at;
     let rows = p.rows;
@@ -129,7 +127,7 @@ fn block_step(
         FoundRow::Nothing => return ReadStep::Refused(refused(UNDEFINED_PROTOTYPE, at)),
         FoundRow::At { in_force, last: _ } => {
             let offset = size(in_force);
-            let end = block_end(s, version, offset, id_at, known);
+            let end = block_parser(s, version, offset, id_at);
             match end {
                 Counted::Fault(fault) => return ReadStep::Refused(fault),
                 Counted::Fields { count, next } => return ReadStep::Block(
@@ -149,30 +147,52 @@ fn block_step(
     }
 }
 
-// The record at p. Where the file is known to be accepted, a block is passed without a test.
-pub fn record_step(s: &[u8], version: u32, p: Progress, table: &mut [u32], known: bool) -> ReadStep
+// The record at p.
+fn record_step(s: &[u8], version: u32, p: Progress, table: &mut [u32]) -> ReadStep
     requires { ⌜ Ready (now s) p (now table) ⌝ }
-    ensures { λ r. ⌜ Stepped version (now (s .entry)) p (now (table .entry)) known r (now (table .exit)) ⌝ }
+    ensures { λ r. ⌜ Stepped version (now (s .entry)) p (now (table .entry)) false r (now (table .exit)) ⌝ }
 {
     let head = head_parser(s, p.at);
     match head {
         Head::End(next) => return ReadStep::End(next),
         Head::BadHead(f) => return ReadStep::Refused(f),
         Head::Prototype { id, name: _, next } => return prototype_step(s, p, table, id, next),
-        Head::Block { id, next } => return block_step(s, version, p, table, known, id, next),
+        Head::Block { id, next } => return block_step(s, version, p, table, id, next),
     }
 }
 
-// The records of a version from `start` on, with an empty table. The parts of the progress are kept apart: a struct that is copied whole right behind the
-// stores of its parts makes the processor wait for them.
-pub fn walk(s: &[u8], version: u32, start: usize, table: &mut [u32]) -> Walked
-    requires { ⌜ (length (now s) ≤ lengthLimit) × (start ≤ length (now s)) ⌝ }
-    ensures { λ r. ⌜ Walks version (now (s .entry)) start (now (table .entry)) r (now (table .exit)) ⌝ }
+// The block from `at` to `next` as a record of an index, under its definition in force.
+pub fn entry_of(at: usize, next: usize, under: Under) -> IndexRecord
+    requires { ⌜ at ≤ next ⌝ }
+    ensures { λ r. ⌜ r ≡ record { offset = at; size = next - at; prototype = under .offset; fields = under .fields } ⌝ }
+{
+    IndexRecord {
+        offset: at,
+        size: next - at,
+        prototype: under.offset,
+        fields: under.fields,
+    }
+}
+
+// The records of a version from `start` on, with an empty table, held against an index, an empty one where none is asked about: so there is one loop, and
+// what it calls for each record is compiled into it. The parts of the progress are kept apart: a struct that is copied whole right behind the stores of its
+// parts makes the processor wait for them.
+pub fn walk(
+    s: &[u8],
+    version: u32,
+    start: usize,
+    table: &mut [u32],
+    index: &[u8],
+    width: usize,
+) -> Compared
+    requires { ⌜ (length (now s) ≤ lengthLimit) × (start ≤ length (now s)) × Width width ⌝ }
+    ensures { λ r. ⌜ Compares version (now (s .entry)) start (now (table .entry)) (now (index .entry)) width r (now (table .exit)) ⌝ }
 {
     let mut at = start;
     let mut rows: usize = 0;
     let mut blocks: usize = 0;
     let mut prototypes: usize = 0;
+    let mut agreed: usize = 0;
     loop {
         let p = Progress {
             at,
@@ -180,23 +200,28 @@ pub fn walk(s: &[u8], version: u32, start: usize, table: &mut [u32]) -> Walked
             blocks,
             prototypes,
         };
-        let step = record_step(s, version, p, table, false);
+        let step = record_step(s, version, p, table);
         match step {
-            ReadStep::End(next) => return Walked::Done(Totals {
-                version,
-                rows,
-                blocks,
-                prototypes,
-                next,
-            }),
-            ReadStep::Refused(f) => return Walked::Fault(f),
+            ReadStep::End(next) => return Compared::Read {
+                totals: Totals {
+                    version,
+                    rows,
+                    blocks,
+                    prototypes,
+                    next,
+                },
+                agreed,
+            },
+            ReadStep::Refused(f) => return Compared::Refused(f),
             ReadStep::Prototype(further) => {
                 at = further.at;
                 rows = further.rows;
                 blocks = further.blocks;
                 prototypes = further.prototypes;
             }
-            ReadStep::Block(further, _) => {
+            ReadStep::Block(further, under) => {
+                let entry = entry_of(at, further.at, under);
+                agreed = agree(index, width, agreed, blocks, entry);
                 at = further.at;
                 rows = further.rows;
                 blocks = further.blocks;

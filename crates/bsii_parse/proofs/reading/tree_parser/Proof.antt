@@ -1,51 +1,50 @@
--- The definition of a file asks in the same order: the length limit, the header, the records from 8 on. A header that was accepted has 8 bytes, so
--- the walk starts inside the file, and what it finds behind the header is the file.
-use mathlib.Core.Path.{sym, ap, _∙_}
-use denote.Ref.{now}
-use native.Mathlib.Omega.{arith}
-use Rattle.bsii_prototype.specs.Answers.{headerIs}
-use Rattle.bsii_parse.proofs.Whole.{file-long, header-fault, header-long, file-walked}
+-- The walk beside an empty index is the reading: how far that agrees is not asked.
+use Rattle.bsii_parse.proofs.Whole.{tree-read, tree-unread}
 use borrow.Author.Needs.{needs}
 use Rattle.bsii_parse.proofs.reading.tree_parser.Statement.{statement}
 use Rattle.bsii_parse.proofs.reading.tree_parser.Tie as tie
 
-refused-requires : tie.Need-refused-requires
-refused-requires c κs = search needs
+sub-compare : tie.Need-sub-compare
+sub-compare c = search needs
 
-returns : tie.Need-returns
-returns c = let a = c .before .before .before .before .args in rw (c .refused .ensures) (file-long (now (a .file)) (now (a .table)) (c .before .if1 .taken))
+part-compare-start : tie.Need-part-compare-start
+part-compare-start c = search needs
 
-header-parser-requires : tie.Need-header-parser-requires
-header-parser-requires c κs = search needs
+part-compare-end : tie.Need-part-compare-end
+part-compare-end c = search needs
 
-enum-known-header : tie.Need-enum-known-header
-enum-known-header c = search needs
+compare-requires : tie.Need-compare-requires
+compare-requires c κs = search needs
 
-returns-2 : tie.Need-returns-2
-returns-2 c = let a = c .before .before .before .before .before .before .before .args in header-fault (now (a .file)) (now (a .table)) (omega (arith, c .before .before .before .before .if1 .left)) (sym (c .before .before .before .header-parser .ensures) ∙ ap (headerIs (now (a .file))) (c .before .header .given .1))
-
-enum-known-header-2 : tie.Need-enum-known-header-2
-enum-known-header-2 c = search needs
-
-walk-requires : tie.Need-walk-requires
-walk-requires c κs = let a = c .before .before .before .before .before .before .before .before .args in (omega (arith, c .before .before .before .before .before .if1 .left), header-long (now (a .file)) (now (a .table)) (omega (arith, c .before .before .before .before .before .if1 .left)) (sym (c .before .before .before .before .header-parser .ensures) ∙ ap (headerIs (now (a .file))) (c .before .before .header2 .given .1)))
+enum-known-compared : tie.Need-enum-known-compared
+enum-known-compared c = search needs
 
 same-length : tie.Need-same-length
 same-length c = search needs
 
-returns-3 : tie.Need-returns-3
-returns-3 c = let a = c .before .before .before .before .before .before .before .before .before .before .before .args in file-walked (now (a .file)) (now (a .table)) (omega (arith, c .before .before .before .before .before .before .before .before .if1 .left)) (sym (c .before .before .before .before .before .before .before .header-parser .ensures) ∙ ap (headerIs (now (a .file))) (c .before .before .before .before .before .header2 .given .1)) (c .before .before .walk .ensures)
+returns : tie.Need-returns
+returns c = tree-read (c .before .before .before .before .before .compare .ensures) (c .before .compared .given .1)
+
+enum-known-compared-2 : tie.Need-enum-known-compared-2
+enum-known-compared-2 c = search needs
+
+same-length-2 : tie.Need-same-length-2
+same-length-2 c = search needs
+
+returns-2 : tie.Need-returns-2
+returns-2 c = tree-unread (c .before .before .before .before .before .compare .ensures) (c .before .compared2 .given .1)
 
 pub tree-parser-spec : {M : Type 1} → statement M
 tree-parser-spec =
     tie.close
     (tie.spec
-    refused-requires
-    returns
-    header-parser-requires
-    enum-known-header
-    returns-2
-    enum-known-header-2
-    walk-requires
+    sub-compare
+    part-compare-start
+    part-compare-end
+    compare-requires
+    enum-known-compared
     same-length
-    returns-3)
+    returns
+    enum-known-compared-2
+    same-length-2
+    returns-2)

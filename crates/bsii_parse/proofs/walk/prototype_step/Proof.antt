@@ -1,7 +1,6 @@
 -- With its head read, the record is the prototype whose fields fields_parser passes: `define` puts its offset in the id's row, so the table holds it in
 -- front of the definitions so far; or the id is new and has no room, and then the records are refused too.
-use mathlib.Core.Path.{sym, _∙_}
-use Rattle.bsii_parse.proofs.Passing.{defining-fault, defining-full, defining-passed}
+use Rattle.bsii_parse.proofs.Passing.{list-parsed, defining-fault, defining-full, defining-passed}
 use borrow.Author.Needs.{needs}
 use Rattle.bsii_parse.proofs.walk.prototype_step.Statement.{statement}
 use Rattle.bsii_parse.proofs.walk.prototype_step.Tie as tie
@@ -13,7 +12,7 @@ enum-known-list : tie.Need-enum-known-list
 enum-known-list c = search needs
 
 returns : tie.Need-returns
-returns c = defining-fault (sym (c .before .list .given .1) ∙ c .before .before .before .fields-parser .ensures)
+returns c = defining-fault (list-parsed (c .before .before .before .fields-parser .ensures)) (c .before .list .given .1)
 
 enum-known-list-2 : tie.Need-enum-known-list-2
 enum-known-list-2 c = search needs
@@ -37,7 +36,7 @@ same-length c = search needs
 
 returns-2 : tie.Need-returns-2
 returns-2 c =
-    rw (c .refused .ensures) (defining-full (sym (c .before .before .before .before .before .before .before .before .before .list2 .given .1) ∙ c .before .before .before .before .before .before .before .before .before .before .before .fields-parser .ensures) (c .before .before .before .before .before .before .word .ensures) (c .before .before .before .before .before .define .ensures) (c .before .enum-told .given .1))
+    rw (c .refused .ensures) (defining-full (list-parsed (c .before .before .before .before .before .before .before .before .before .before .before .fields-parser .ensures)) (c .before .before .before .before .before .before .before .before .before .list2 .given .1) (c .before .before .before .before .before .before .word .ensures) (c .before .before .before .before .before .define .ensures) (c .before .enum-told .given .1))
 
 enum-known-defined : tie.Need-enum-known-defined
 enum-known-defined c = search needs
@@ -49,7 +48,7 @@ same-length-2 : tie.Need-same-length-2
 same-length-2 c = search needs
 
 returns-3 : tie.Need-returns-3
-returns-3 c = defining-passed (sym (c .before .before .before .before .before .before .before .before .before .list2 .given .1) ∙ c .before .before .before .before .before .before .before .before .before .before .before .fields-parser .ensures) (c .before .before .before .before .before .before .word .ensures) (c .before .before .before .before .before .define .ensures) (c .before .defined .given .1)
+returns-3 c = defining-passed (list-parsed (c .before .before .before .before .before .before .before .before .before .before .before .fields-parser .ensures)) (c .before .before .before .before .before .before .before .before .before .list2 .given .1) (c .before .before .before .before .before .before .word .ensures) (c .before .before .before .before .before .define .ensures) (c .before .defined .given .1)
 
 pub prototype-step-spec : {M : Type 1} → statement M
 prototype-step-spec =
