@@ -1,4 +1,4 @@
 -- Laws of the index calls.
-pub mod Passed
-pub mod Comparing
+pub mod Counting
+pub mod Checking
 pub mod Writing

@@ -10,18 +10,16 @@ use lib.Seq.{take-at, drop-append-add, drop-drop}
 use lib.Dec.{leb, leb→le, le→leb}
 use Rattle.bsii_format.specs.Replies.{gives, outputShort}
 use Rattle.bsii_format.specs.Reader.{ok, fault}
-use Rattle.bsii_format.specs.File.{Record, prototype, block, recordBytes, recordsBytes, Records, BsiiFile, lengthLimit, parse, fileBytes}
-use Rattle.bsii_format.specs.Calls.{placed, placedRecords, blocksOf, ofFile, textAnswer}
+use Rattle.bsii_format.specs.File.{Records, BsiiFile, parse}
+use Rattle.bsii_format.specs.Calls.{placed, placedRecords, ofFile, textAnswer}
 use Rattle.bsii_format.proofs.Readers.{fault≢ok, ok-val, is-true, is-false}
-use Rattle.bsii_format.proofs.Records.{GoodRecords, nil, cons, head-takes}
 use Rattle.bsii_string.specs.Answers.{refusedAt}
 use Rattle.bsii_string.specs.declared.answers.Refusal.{Refusal}
 use Rattle.bsii_derived.specs.Index.{indexFrom, indexOf, indexRecordBytes, indexBytes}
 use Rattle.bsii_derived.specs.IndexCalls.{writeIndexCall}
 use Rattle.bsii_derived.proofs.Bytes.{record-length, index-length}
-use Rattle.bsii_derived.proofs.Claims.{was-read, index-blocks}
 use Rattle.bsii_derived.proofs.Walk.{index-append, bytes-append}
-use Rattle.bsii_parse.specs.Walks.{blockCount, recordsAt, StepMeets, Stepped, read, unread, ReadTree}
+use Rattle.bsii_parse.specs.Walks.{recordsAt, indexAt, StepMeets, Stepped, read, unread, ReadTree}
 use Rattle.bsii_parse.specs.declared.walk.Progress.{Progress}
 use Rattle.bsii_parse.specs.declared.walk.Under.{Under}
 use Rattle.bsii_parse.specs.declared.walk.ReadStep.{ReadStep}
@@ -30,14 +28,15 @@ use Rattle.bsii_parse.specs.declared.walk.Totals.{Totals}
 use Rattle.bsii_parse.specs.declared.walk.Walked.{Walked}
 use Rattle.bsii_parse.specs.declared.walk.Walked.the-variants.{Done, Fault as Stopped}
 use Rattle.bsii_parse.proofs.Along.{defsFrom, Along, along-start, along-none, along-prototype, along-block, along-all, along-refused, along-accepted, along-within}
-use Rattle.bsii_parse.proofs.Whole.{blocks-counted, done≢stopped, file-parts}
+use Rattle.bsii_parse.proofs.Passed.{entryOf, past-prototype, past-block}
+use Rattle.bsii_parse.proofs.Whole.{done≢stopped, file-parts}
 use Rattle.bsii_index_record.specs.Records.{Width, recordIs}
 use Rattle.bsii_index_record.specs.declared.IndexRecord.{IndexRecord}
 use Rattle.bsii_index.specs.Answers.{lengthIs}
-use Rattle.bsii_index.specs.Indexes.{indexAt, Writable, RecordsWritten, Readable, ReadWritten}
+use Rattle.bsii_index.specs.Indexes.{Writable, RecordsWritten, Readable, ReadWritten}
 use Rattle.bsii_index.specs.declared.write.LengthReply.{LengthReply}
 use Rattle.bsii_index.specs.declared.write.LengthReply.the-variants.{Length, Refused}
-use Rattle.bsii_index.proofs.Passed.{entryOf, past-prototype, past-block}
+use Rattle.bsii_index.proofs.Counting.{blocks-indexed, blocks-limited}
 
 -- ---- the walk
 
@@ -175,29 +174,14 @@ module _ {version : ℕ} {s t : List ℕ} {w blocks : ℕ} (d : Readable version
 
 -- ---- the whole file
 
--- a block has a byte at least
-blocks-few : {version : ℕ} {l : List Record} {env : List _} → GoodRecords version env l → blockCount l ≤ length (recordsBytes l)
-unfolding blockCount recordsBytes recordBytes
-blocks-few nil = omega arith
-blocks-few (cons {i = prototype p} g gs) = rw length-append (omega (arith, blocks-few gs))
-blocks-few (cons {i = block b} g gs) = rw (length-append, length-append) (omega (arith, blocks-few gs, head-takes (g .head)))
-
 index-at : (words : ℕ) (s : List ℕ) {f : BsiiFile} {n : ℕ} → parse words s ≡ ok f n (drop n s) → indexOf f ≡ indexAt 8 (f .records)
 unfolding indexOf placedRecords
 index-at words s {f} e = ap (λ m. indexAt m (f .records)) (file-parts words s e .header)
 
 module _ {s t : List ℕ} where
   pub tree-readable : {w : ℕ} → Width w → {r : Walked} {t′ : List ℕ} → ReadTree s t r t′ → {a : Totals} → r ≡ Done a → Readable (a .version) s t′ w (a .blocks)
-  unfolding blocksOf placedRecords fileBytes
   tree-readable {w} h {t′ = t′} (read f {rows = rows} {n = n} e k l) z =
       let x = file-parts (length t) s e in
-      let d = was-read (length t) s e in
-      let counted : blockCount (f .records) ≡ length (indexAt 8 (f .records)) =
-      sym (ap length (sym (index-at (length t) s e)) ∙ index-blocks d ∙ blocks-counted (λ r. length (recordBytes r)) (length (f .header .raw)) (f .records)) in
-      let front = ap length (d .taken .front) ∙ length-append (fileBytes f) (drop n s) in
-      let parts = length-append (f .header .raw) (recordsBytes (f .records) ++ f .end) in
-      let few : blockCount (f .records) ≤ lengthLimit =
-      omega (arith, x .short, front, parts, length-append (recordsBytes (f .records)) (f .end), blocks-few (d .taken .good .records)) in
       subst (λ (b : Totals). Readable (b .version) s t′ w (b .blocks)) (totals z)
       (record {
         short = x .short;
@@ -206,8 +190,8 @@ module _ {s t : List ℕ} where
         records = record { records = f .records; end = f .end };
         n = n;
         reads = ap (λ m. recordsAt (f .header .value) (m / 3) [] 8 s) l ∙ x .reads;
-        counted = counted;
-        few = few;
+        counted = blocks-indexed (length t) s e ∙ ap length (index-at (length t) s e);
+        few = blocks-limited (length t) s e;
       })
     where
       totals : {a b : Totals} → _≡_ {A = Walked} (Done a) (Done b) → a ≡ b

@@ -1,4 +1,4 @@
-// The index of a file: checked and written, each by the reading walk's own steps.
+// The index of a file: checked by the reading walk, and written by that and a second one.
 pub mod check;
-pub mod entries;
+pub mod known;
 pub mod write;

@@ -1,12 +1,12 @@
 // An index is written. A refusal leaves the space as it was, so the blocks are counted first, by the reading walk; the second walk checks nothing again.
-use crate::entries::entry_of;
+use crate::known::known_step;
 use bsii_index_record::WIDTH;
 use bsii_index_record::put_record;
 use bsii_parse::reading::tree_parser;
 use bsii_parse::walk::Progress;
 use bsii_parse::walk::ReadStep;
 use bsii_parse::walk::Walked;
-use bsii_parse::walk::record_step;
+use bsii_parse::walk::entry_of;
 use bsii_string::answers::OUTPUT_SHORT;
 use bsii_string::answers::Refusal;
 use bsii_string::answers::refused;
@@ -46,7 +46,7 @@ fn write_records(
     };
     let mut to: usize = 0;
     loop {
-        let step = record_step(s, version, p, table, true);
+        let step = known_step(s, version, p, table);
         match step {
             ReadStep::End(_) => return,
             ReadStep::Refused(_) => return,

@@ -153,7 +153,7 @@ read-size (unread e l) = l
 
 -- ---- without an index
 
-read≢refused : {P : Type 0} {a : Totals} {n : ℕ} {f : Refusal} → _≡_ {A = Compared} (ReadCompared a n) (NotCompared f) → P
+pub read≢refused : {P : Type 0} {a : Totals} {n : ℕ} {f : Refusal} → _≡_ {A = Compared} (ReadCompared a n) (NotCompared f) → P
 read≢refused e = let z : _≡_ {A = ℕ} 0 1 = cc in absurd (omega arith)
 
 module _ {s t i : List ℕ} {w : ℕ} where

@@ -1,7 +1,7 @@
 use mathlib.Core.Path.{ap, _∙_}
 use native.Mathlib.Omega.{arith}
 use lib.ListN.{replicate}
-use Rattle.bsii_index.proofs.Comparing.{compared-size, compared-few, compared-fits, compared-refused}
+use Rattle.bsii_index.proofs.Checking.{compared-size, compared-few, compared-fits, compared-refused}
 use borrow.Author.Needs.{needs}
 use Rattle.bsii_index.proofs.check.check_index.Statement.{statement}
 use Rattle.bsii_index.proofs.check.check_index.Tie as tie

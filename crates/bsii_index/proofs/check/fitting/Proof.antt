@@ -1,7 +1,8 @@
 use mathlib.Core.Logic.{⊎-elim}
 use borrow.Author.Tests.{eqb-true, eqb-false}
 use native.Mathlib.Omega.{arith}
-use Rattle.bsii_index.proofs.Comparing.{fits-all, fits-not, few-bytes}
+use Rattle.bsii_index_record.proofs.Agreeing.{few-bytes}
+use Rattle.bsii_index.proofs.Checking.{fits-all, fits-not}
 use borrow.Author.Needs.{needs}
 use Rattle.bsii_index.proofs.check.fitting.Statement.{statement}
 use Rattle.bsii_index.proofs.check.fitting.Tie as tie
@@ -10,7 +11,7 @@ mul-end : tie.Need-mul-end
 mul-end c = search needs
 
 mul-end-2 : tie.Need-mul-end-2
-mul-end-2 c = let a = c .before .before in omega (arith, few-bytes (a .args .agreed .records) (a .args .width) (a .pre .1) (a .pre .0 .1))
+mul-end-2 c = let a = c .before in omega (arith, few-bytes (a .args .agreed) (a .args .width) (a .pre .1) (a .pre .0 .1))
 
 returns : tie.Need-returns
 returns c = fits-all (c .before .if1 .taken) (eqb-true _ _ (c .if2 .taken))

@@ -1,6 +1,6 @@
 use denote.Ref.{now}
 use native.Mathlib.Omega.{arith}
-use Rattle.bsii_index.proofs.Comparing.{few-bytes}
+use Rattle.bsii_index_record.proofs.Agreeing.{few-bytes}
 use Rattle.bsii_index.proofs.Writing.{readable-short, readable-room, readable-written}
 use borrow.Author.Needs.{needs}
 use Rattle.bsii_index.proofs.write.write_read.Statement.{statement}

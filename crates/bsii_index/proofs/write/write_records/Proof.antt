@@ -7,7 +7,7 @@ use native.Mathlib.Omega.{arith}
 use Prim.Native.Nat.{_-_}
 use lib.ListN.{length}
 use Rattle.bsii_parse.proofs.Along.{along-ready}
-use Rattle.bsii_index.proofs.Passed.{prototype-less, block-less, block-later}
+use Rattle.bsii_parse.proofs.Passed.{prototype-less, block-less, block-later}
 use Rattle.bsii_index.proofs.Writing.{Writing, writing-start, writing-meets, writing-prototype, writing-room, writing-block, writing-end, writing-refused}
 use Rattle.bsii_index.proofs.write.write_records.Statement.{statement}
 use Rattle.bsii_index.proofs.write.write_records.Tie as tie
@@ -21,8 +21,8 @@ abbrev μ-loop : tie.MeasureT-loop
 loop-holds : tie.Need-loop-holds Inv-loop μ-loop
 loop-holds c = let b = c .before .before .before in writing-start (now (b .args .s)) (b .args .start) (now (b .args .table)) (now (b .args .space)) (b .args .width) (b .pre .inside)
 
-record-step-requires : tie.Need-record-step-requires Inv-loop μ-loop
-record-step-requires c κs = let l = c .before in let b = l .before .before .before .before in along-ready (b .pre .short) (l .loop .inv .along)
+known-step-requires : tie.Need-known-step-requires Inv-loop μ-loop
+known-step-requires c κs = let l = c .before in let b = l .before .before .before .before in along-ready (b .pre .short) (l .loop .inv .along)
 
 enum-told : tie.Need-enum-told Inv-loop μ-loop
 enum-told c = search needs
@@ -37,7 +37,7 @@ returns : tie.Need-returns Inv-loop μ-loop
 returns c =
     let l = c .before .before .before .before .before .before in
     let v = l .before .before .before .before .pre in
-    let k = c .before .before .before .before .record-step .ensures in
+    let k = c .before .before .before .before .known-step .ensures in
     writing-end v (l .loop .inv) k (c .enum-told .given .1)
 
 enum-told-2 : tie.Need-enum-told-2 Inv-loop μ-loop
@@ -53,7 +53,7 @@ returns-2 : tie.Need-returns-2 Inv-loop μ-loop
 returns-2 c =
     let l = c .before .before .before .before .before .before in
     let v = l .before .before .before .before .pre in
-    let k = c .before .before .before .before .record-step .ensures in
+    let k = c .before .before .before .before .known-step .ensures in
     writing-refused v (l .loop .inv) k (c .enum-told2 .given .1)
 
 enum-known-step : tie.Need-enum-known-step Inv-loop μ-loop
@@ -63,14 +63,14 @@ loop-less : tie.Need-loop-less Inv-loop μ-loop
 loop-less c =
     let l = c .before .before .before .before .before .before .before in
     let v = l .before .before .before .before .pre in
-    let k = c .before .before .before .before .before .record-step .ensures in
+    let k = c .before .before .before .before .before .known-step .ensures in
     prototype-less (l .loop .inv .along) (writing-meets v (l .loop .inv) k) (c .before .step .given .1)
 
 loop-again : tie.Need-loop-again Inv-loop μ-loop
 loop-again c =
     let l = c .before .before .before .before .before .before .before in
     let v = l .before .before .before .before .pre in
-    let k = c .before .before .before .before .before .record-step .ensures in
+    let k = c .before .before .before .before .before .known-step .ensures in
     writing-prototype v (l .loop .inv) k (c .before .step .given .1)
 
 enum-known-step-2 : tie.Need-enum-known-step-2 Inv-loop μ-loop
@@ -80,14 +80,14 @@ entry-of-requires : tie.Need-entry-of-requires Inv-loop μ-loop
 entry-of-requires c κs =
     let l = c .before .before .before .before .before .before .before in
     let v = l .before .before .before .before .pre in
-    let k = c .before .before .before .before .before .record-step .ensures in
+    let k = c .before .before .before .before .before .known-step .ensures in
     block-later (l .loop .inv .along) (writing-meets v (l .loop .inv) k) (c .before .step2 .given .1)
 
 put-record-requires : tie.Need-put-record-requires Inv-loop μ-loop
 put-record-requires c κs =
     let l = c .before .before .before .before .before .before .before .before .before in
     let v = l .before .before .before .before .pre in
-    let k = c .before .before .before .before .before .before .before .record-step .ensures in
+    let k = c .before .before .before .before .before .before .before .known-step .ensures in
     (v .width, omega (arith, writing-room v (l .loop .inv) k (c .before .before .before .step2 .given .1), l .loop .inv .size))
 
 mul-to : tie.Need-mul-to Inv-loop μ-loop
@@ -97,21 +97,21 @@ add-to : tie.Need-add-to Inv-loop μ-loop
 add-to c =
     let l = c .before .before .before .before .before .before .before .before .before .before .before .before in
     let v = l .before .before .before .before .pre in
-    let k = c .before .before .before .before .before .before .before .before .before .before .record-step .ensures in
+    let k = c .before .before .before .before .before .before .before .before .before .before .known-step .ensures in
     omega (arith, writing-room v (l .loop .inv) k (c .before .before .before .before .before .before .step2 .given .1), l .loop .inv .size)
 
 loop-less-2 : tie.Need-loop-less-2 Inv-loop μ-loop
 loop-less-2 c =
     let l = c .before .before .before .before .before .before .before .before .before .before .before .before in
     let v = l .before .before .before .before .pre in
-    let k = c .before .before .before .before .before .before .before .before .before .before .record-step .ensures in
+    let k = c .before .before .before .before .before .before .before .before .before .before .known-step .ensures in
     block-less (l .loop .inv .along) (writing-meets v (l .loop .inv) k) (c .before .before .before .before .before .before .step2 .given .1)
 
 loop-again-2 : tie.Need-loop-again-2 Inv-loop μ-loop
 loop-again-2 c =
     let l = c .before .before .before .before .before .before .before .before .before .before .before .before in
     let v = l .before .before .before .before .pre in
-    let k = c .before .before .before .before .before .before .before .before .before .before .record-step .ensures in
+    let k = c .before .before .before .before .before .before .before .before .before .before .known-step .ensures in
     writing-block v (l .loop .inv) k (c .before .before .before .before .before .before .step2 .given .1) (c .before .before .before .before .entry-of .ensures) (c .before .before .put-record .ensures)
 
 pub write-records-spec : {M : Type 1} → statement M
@@ -121,7 +121,7 @@ write-records-spec =
     Inv-loop
     μ-loop
     loop-holds
-    record-step-requires
+    known-step-requires
     enum-told
     same-length
     same-length-2
