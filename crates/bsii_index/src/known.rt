@@ -3,18 +3,17 @@
 use bsii_parse::blocks::skip_block;
 use bsii_parse::walk::Progress;
 use bsii_parse::walk::ReadStep;
-use bsii_parse::walk::Under;
+use bsii_parse::walk::behind_block;
+use bsii_parse::walk::behind_prototype;
 use bsii_prototype::answers::Counted;
 use bsii_prototype::answers::Head;
 use bsii_prototype::heads::head_parser;
 use bsii_prototype::skip::skip_fields;
-use bsii_string::answers::TABLE_FULL;
 use bsii_string::answers::UNDEFINED_PROTOTYPE;
 use bsii_string::answers::refused;
 use bsii_string::numbers::size;
 use bsii_table::FoundRow;
 use bsii_table::word;
-use bsii_tree::Defined;
 use bsii_tree::define;
 use bsii_tree::find;
 ghost use mathlib.Core.Bool.{true};
@@ -26,24 +25,12 @@ fn known_prototype(s: &[u8], p: Progress, table: &mut [u32], id: u32, fields: us
     requires { ⌜ Ready (now s) p (now table) × Named (now s) (p .rows) id (p .at) ⌝ }
     ensures { λ r. ⌜ Defining (now (s .entry)) p (now (table .entry)) true id fields r (now (table .exit)) ⌝ }
 {
-    let at = p.at;
-    let rows = p.rows;
-    let blocks = p.blocks;
-    let prototypes = p.prototypes;
     let list = skip_fields(s, fields);
     match list {
         Counted::Fault(f) => return ReadStep::Refused(f),
         Counted::Fields { count: _, next } => {
-            let defined = define(s, table, rows, id, word(at));
-            match defined {
-                Defined::Full => return ReadStep::Refused(refused(TABLE_FULL, at)),
-                Defined::Rows(held) => return ReadStep::Prototype(Progress {
-                    at: next,
-                    rows: held,
-                    blocks,
-                    prototypes: prototypes + 1,
-                }),
-            }
+            let defined = define(s, table, p.rows, id, word(p.at));
+            return behind_prototype(p, next, defined);
         }
     }
 }
@@ -60,29 +47,13 @@ fn known_block(
     requires { ⌜ Ready (now s) p (now table) ⌝ }
     ensures { λ r. ⌜ Carrying version (now (s .entry)) p (now (table .entry)) true id «id_at» r ⌝ }
 {
-    let at = p.at;
-    let rows = p.rows;
-    let found = find(s, table, rows, id);
+    let found = find(s, table, p.rows, id);
     match found {
-        FoundRow::Nothing => return ReadStep::Refused(refused(UNDEFINED_PROTOTYPE, at)),
+        FoundRow::Nothing => return ReadStep::Refused(refused(UNDEFINED_PROTOTYPE, p.at)),
         FoundRow::At { in_force, last: _ } => {
-            let offset = size(in_force);
-            let end = skip_block(s, version, offset, id_at);
-            match end {
-                Counted::Fault(fault) => return ReadStep::Refused(fault),
-                Counted::Fields { count, next } => return ReadStep::Block(
-                    Progress {
-                        at: next,
-                        rows,
-                        blocks: p.blocks + 1,
-                        prototypes: p.prototypes,
-                    },
-                    Under {
-                        offset,
-                        fields: count,
-                    },
-                ),
-            }
+            let prototype = size(in_force);
+            let end = skip_block(s, version, prototype, id_at);
+            return behind_block(p, prototype, end);
         }
     }
 }

@@ -38,7 +38,7 @@ use Rattle.bsii_prototype.specs.declared.answers.Counted.{Counted}
 use Rattle.bsii_prototype.specs.declared.answers.Counted.the-variants.{Fields as Counted-Fields, Fault as Counted-Fault}
 use Rattle.bsii_prototype.specs.declared.answers.Head.{Head as HeadAnswer}
 use Rattle.bsii_prototype.specs.declared.answers.Head.the-variants.{End as HeadEnd, Prototype as HeadPrototype, Block as HeadBlock, BadHead}
-use Rattle.bsii_parse.specs.Walks.{DefinedAt, countedEnd, Assured, blockCount, prototypeCount, behind, recordsAt, bare, Growing, Goes, behind-prototype, behind-block, StepMeets, passed, ended as atEnd, refused, Stepped, Defining, Carrying}
+use Rattle.bsii_parse.specs.Walks.{DefinedAt, countedEnd, Assured, blockCount, prototypeCount, behind, recordsAt, bare, Growing, overPrototype, overBlock, Goes, behind-prototype, behind-block, StepMeets, passed, ended as atEnd, refused, Stepped, Defining, Carrying}
 use Rattle.bsii_parse.specs.declared.walk.Progress.{Progress}
 use Rattle.bsii_parse.specs.declared.walk.ReadStep.{ReadStep}
 use Rattle.bsii_parse.specs.declared.walk.ReadStep.the-variants.{Prototype as WentPrototype, Block as WentBlock, End, Refused}
@@ -69,12 +69,9 @@ values-exact version fs = record {
 block-exact : (version : ℕ) (fs : List (Consumed ValuePrototype)) → Exact (List DataValue) (idParser >>= (λ i. dataValuesParser version fs))
 block-exact version fs = bind-exact _ id-exact (λ i. values-exact version fs)
 
--- how far the walk is behind a prototype, and behind a block
+-- how far the walk is behind a prototype
 abbrev behindPrototype : Progress → ℕ → ℕ → Progress
 behindPrototype p n rows = record { at = n; rows = rows; blocks = p .blocks; prototypes = p .prototypes + 1 }
-
-abbrev behindBlock : Progress → ℕ → Progress
-behindBlock p n = record { at = n; rows = p .rows; blocks = p .blocks + 1; prototypes = p .prototypes }
 
 abbrev underOf : ℕ → ℕ → Under
 underOf o n = record { offset = o; fields = n }
@@ -170,21 +167,17 @@ module _ {version : ℕ} {s : List ℕ} {p : Progress} {t : List ℕ} {env : Lis
     pub block-undefined : {r : FoundRow} → r ≡ Nothing → foundRow r ≡ lookupTree s t (p .rows) id → StepMeets version s p t env (Refused (refusedAt undefinedPrototype (p .at))) t
     block-undefined e f = step-fault (record-undefined version (bare env) (p .at) (drop (p .at) s) h (found-nothing (DefinedAt s) (k .holds) id e f)) refl
 
-    module _ {r : FoundRow} {a b : ℕ} (e : r ≡ At a b) (f : foundRow r ≡ lookupTree s t (p .rows) id) {known : Bool} {q : Counted}
-        (w : KnownEnd version s a at known q) (y : Assured known (recordsAt version (length t / 3) (bare env) (p .at) s)) where
-      pub block-fault : {x : Refusal} → q ≡ Counted-Fault x → StepMeets version s p t env (Refused x) t
-      block-fault z =
-          let x = found-at (DefinedAt s) (k .holds) id e f in
-          let v = w .ends (x .0) (x .2) (assured-body version (length t / 3) (bare env) (p .at) s h (x .1) known y) in
-          step-fault (record-block-fault version (bare env) (p .at) (drop (p .at) s) h (x .1)
-          (fault-ended _ (ended-fault (length (x .0 .fields)) _ (sym z ∙ v)))) refl
-
-      pub block-passed : {c n : ℕ} → q ≡ Counted-Fields c n
-          → StepMeets version s p t env (WentBlock (behindBlock p n) (underOf a c)) t
+    module _ {r : FoundRow} {a b : ℕ} (e : r ≡ At a b) (f : foundRow r ≡ lookupTree s t (p .rows) id) {known : Bool} where
+      pub block-over : {q : Counted} → KnownEnd version s a at known q → Assured known (recordsAt version (length t / 3) (bare env) (p .at) s)
+          → StepMeets version s p t env (overBlock p a q) t
       unfolding blockCount prototypeCount consPrototype hasRoom
-      block-passed {c} {n} z =
+      block-over {q = Counted-Fault x} w y =
+          let d = found-at (DefinedAt s) (k .holds) id e f in
+          let v = w .ends (d .0) (d .2) (assured-body version (length t / 3) (bare env) (p .at) s h (d .1) known y) in
+          step-fault (record-block-fault version (bare env) (p .at) (drop (p .at) s) h (d .1) (fault-ended _ (ended-fault (length (d .0 .fields)) _ v))) refl
+      block-over {q = Counted-Fields c n} w y =
           let x = found-at (DefinedAt s) (k .holds) id e f in
-          let v = ended-next _ (sym z ∙ w .ends (x .0) (x .2) (assured-body version (length t / 3) (bare env) (p .at) s h (x .1) known y)) in
+          let v = ended-next _ (w .ends (x .0) (x .2) (assured-body version (length t / 3) (bare env) (p .at) s h (x .1) known y)) in
           let b = record-block version (bare env) (p .at) (drop (p .at) s) h (x .1) (next-ended (block-exact version (x .0 .fields)) s at (v .1)) in
           let d = placed-at k id e f (x .1) in
           let many : length (d .0 .it .fields) ≡ c = ap (λ (q : Prototype). length (q .fields)) (d .3) ∙ sym (v .0) in
@@ -229,33 +222,25 @@ module _ {s : List ℕ} {p : Progress} {t : List ℕ} {known : Bool} {id fields 
     steps = λ version env k y name h. prototype-fault h (counted-fault (fieldsParser fields (drop fields s)) (sym z ∙ counted g version (length t / 3) (bare env) (p .at) h y));
   }
 
-  module _ {c n : ℕ} (e : q ≡ Counted-Fields c n) {o : ℕ} (w : o ≡ p .at) {d : Defined} {t′ : List ℕ} (x : Defines s t (p .rows) id o d t′) where
-    pub defining-full : d ≡ Full → Defining s p t known id fields (Refused (refusedAt tableFull (p .at))) t′
-    defining-full f = record {
-      steps = λ version env k y name h.
-          prototype-full h (counted-is s fields (sym e ∙ counted g version (length t / 3) (bare env) (p .at) h y) .1) k f (subst (λ z. Defines s t (p .rows) id z d t′) w x);
-    }
-
-    pub defining-passed : {rows : ℕ} → d ≡ Rows rows
-        → Defining s p t known id fields (WentPrototype (behindPrototype p n rows)) t′
-    defining-passed f = record {
-      steps = λ version env k y name h.
-          prototype-passed h (counted-is s fields (sym e ∙ counted g version (length t / 3) (bare env) (p .at) h y) .1) k f (subst (λ z. Defines s t (p .rows) id z d t′) w x);
-    }
+  pub defining-row : {c n : ℕ} → q ≡ Counted-Fields c n → {o : ℕ} → o ≡ p .at → {d : Defined} {t′ : List ℕ} → Defines s t (p .rows) id o d t′
+      → Defining s p t known id fields (overPrototype p n d) t′
+  defining-row e w {d = Rows rows} {t′} x = record {
+    steps = λ version env k y name h.
+        prototype-passed h (counted-is s fields (sym e ∙ counted g version (length t / 3) (bare env) (p .at) h y) .1) k refl (subst (λ z. Defines s t (p .rows) id z (Rows rows) t′) w x);
+  }
+  defining-row e w {d = Full} {t′} x = record {
+    steps = λ version env k y name h.
+        prototype-full h (counted-is s fields (sym e ∙ counted g version (length t / 3) (bare env) (p .at) h y) .1) k refl (subst (λ z. Defines s t (p .rows) id z Full t′) w x);
+  }
 
 module _ {version : ℕ} {s : List ℕ} {p : Progress} {t : List ℕ} {id at : ℕ} {known : Bool} {r : FoundRow} (f : foundRow r ≡ lookupTree s t (p .rows) id) where
   pub carrying-undefined : r ≡ Nothing → Carrying version s p t known id at (Refused (refusedAt undefinedPrototype (p .at)))
   carrying-undefined e = record { steps = λ env k y h. block-undefined h k e f }
 
-  module _ {a b : ℕ} (e : r ≡ At a b) {z : ℕ} (i : z ≡ a) {q : Counted} (w : KnownEnd version s z at known q) where
-    pub carrying-fault : {x : Refusal} → q ≡ Counted-Fault x → Carrying version s p t known id at (Refused x)
-    carrying-fault v = record { steps = λ env k y h. block-fault h k e f (subst (λ x. KnownEnd version s x at known q) i w) y v }
-
-    pub carrying-passed : {c n : ℕ} → q ≡ Counted-Fields c n
-        → Carrying version s p t known id at (WentBlock (behindBlock p n) (underOf z c))
-    carrying-passed {c} {n} v =
-        subst (λ o. Carrying version s p t known id at (WentBlock (behindBlock p n) (underOf o c))) (sym i)
-        (record { steps = λ env k y h. block-passed h k e f (subst (λ x. KnownEnd version s x at known q) i w) y v })
+  pub carrying-under : {a b : ℕ} → r ≡ At a b → {z : ℕ} → z ≡ a → {q : Counted} → KnownEnd version s z at known q → Carrying version s p t known id at (overBlock p z q)
+  carrying-under e i {q} w =
+      subst (λ o. Carrying version s p t known id at (overBlock p o q)) (sym i)
+      (record { steps = λ env k y h. block-over h k e f (subst (λ x. KnownEnd version s x at known q) i w) y })
 
 module _ {version : ℕ} {s : List ℕ} {p : Progress} {t : List ℕ} {known : Bool} {h : HeadAnswer} (e : headIs s h ≡ headParser (p .at) (drop (p .at) s)) where
   pub stepped-end : {n : ℕ} → h ≡ HeadEnd n → Stepped version s p t known (End n) t

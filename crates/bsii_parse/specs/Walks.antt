@@ -5,6 +5,7 @@ use mathlib.Core.Bool.{Bool, true, false}
 use mathlib.Core.Option.{Option, some, Option·map}
 use mathlib.Core.List.{List, [], _∷_, _++_, map}
 use lib.ListN.{length, drop}
+use Rattle.bsii_format.specs.Replies.{tableFull}
 use Rattle.bsii_format.specs.Reader.{Result, ok, fault, _>>=_}
 use Rattle.bsii_format.specs.Strings.{idParser}
 use Rattle.bsii_format.specs.Prototypes.{Prototype, Fields, fieldsParser}
@@ -12,7 +13,7 @@ use Rattle.bsii_format.specs.Blocks.{DataValue, DataBlock, dataValuesParser, fi
 use Rattle.bsii_format.specs.File.{Record, prototype, block, defining, carrying, headParser, recordBytes, Records, recordsFrom, BsiiFile, lengthLimit, parse}
 use Rattle.bsii_format.specs.Calls.{Placed, placed, placedRecords, consPrototype, prototypesIn}
 use Rattle.bsii_derived.specs.Index.{IndexRecord, indexFrom, indexOf, agreeing}
-use Rattle.bsii_string.specs.Answers.{faultIs, endOf}
+use Rattle.bsii_string.specs.Answers.{faultIs, refusedAt, endOf}
 use Rattle.bsii_string.specs.declared.answers.Refusal.{Refusal}
 use Rattle.bsii_string.specs.declared.answers.Parsed.{Parsed}
 use Rattle.bsii_string.specs.declared.answers.Parsed.the-variants.{Next, Fault}
@@ -21,6 +22,8 @@ use Rattle.bsii_prototype.specs.declared.answers.Counted.the-variants.{Fields a
 use Rattle.bsii_table.specs.Rows.{Row, lookup, Rows}
 use Rattle.bsii_table.specs.Relation.{Represents}
 use Rattle.bsii_tree.specs.Table.{Linked, lookupTree}
+use Rattle.bsii_tree.specs.declared.Defined.{Defined}
+use Rattle.bsii_tree.specs.declared.Defined.the-variants.{Rows as Held, Full}
 use Rattle.bsii_parse.specs.declared.walk.Progress.{Progress}
 use Rattle.bsii_parse.specs.declared.walk.ReadStep.{ReadStep}
 use Rattle.bsii_parse.specs.declared.walk.ReadStep.the-variants.{Prototype as WentPrototype, Block as WentBlock, End, Refused}
@@ -124,6 +127,15 @@ pub record Ready (s : List ℕ) (p : Progress) (t : List ℕ) : Type 0 where
   pub defined : p .prototypes ≤ p .at
   pub rows : Linked s t (p .rows)
   pub few : p .rows ≤ p .at
+
+-- where it is behind a prototype up to n, by what became of its row, and behind a block under the prototype at o, by its end
+abbrev pub overPrototype : Progress → ℕ → Defined → ReadStep
+overPrototype p n (Held rows) = WentPrototype (record { at = n; rows = rows; blocks = p .blocks; prototypes = p .prototypes + 1 })
+overPrototype p n Full = Refused (refusedAt tableFull (p .at))
+
+abbrev pub overBlock : Progress → ℕ → Counted → ReadStep
+overBlock p o (Many c n) = WentBlock (record { at = n; rows = p .rows; blocks = p .blocks + 1; prototypes = p .prototypes }) (record { offset = o; fields = c })
+overBlock p o (Bad f) = Refused f
 
 -- how the walk goes on behind the record i: behind a block with the definition that was in force for it
 pub data Goes (env : List (Placed Prototype)) (q : Progress) : Record → ReadStep → Type 0 where

@@ -26,7 +26,7 @@ ghost use lib.ListN.{drop};
 ghost use Rattle.bsii_format.specs.File.{lengthLimit};
 ghost use Rattle.bsii_tree.specs.Table.{Named};
 ghost use Rattle.bsii_index_record.specs.Records.{Width};
-ghost use Rattle.bsii_parse.specs.Walks.{Ready, Defining, Carrying, Stepped, Compares, DefinedEnd};
+ghost use Rattle.bsii_parse.specs.Walks.{overPrototype, overBlock, Ready, Defining, Carrying, Stepped, Compares, DefinedEnd};
 
 // How far the walk is: the next record's offset, the table's rows, and the blocks and the prototypes so far.
 pub struct Progress {
@@ -70,29 +70,55 @@ pub enum Compared {
     Refused(Refusal),
 }
 
+// Behind a prototype that ends at `next`, by what became of its row.
+pub fn behind_prototype(p: Progress, next: usize, defined: Defined) -> ReadStep
+    requires { ⌜ p .prototypes ≤ lengthLimit ⌝ }
+    ensures { λ r. ⌜ r ≡ overPrototype p next defined ⌝ }
+{
+    match defined {
+        Defined::Full => ReadStep::Refused(refused(TABLE_FULL, p.at)),
+        Defined::Rows(rows) => ReadStep::Prototype(Progress {
+            at: next,
+            rows,
+            blocks: p.blocks,
+            prototypes: p.prototypes + 1,
+        }),
+    }
+}
+
+// Behind a block under the prototype at the offset `prototype`, by its end.
+pub fn behind_block(p: Progress, prototype: usize, end: Counted) -> ReadStep
+    requires { ⌜ p .blocks ≤ lengthLimit ⌝ }
+    ensures { λ r. ⌜ r ≡ overBlock p prototype end ⌝ }
+{
+    match end {
+        Counted::Fault(f) => ReadStep::Refused(f),
+        Counted::Fields { count, next } => ReadStep::Block(
+            Progress {
+                at: next,
+                rows: p.rows,
+                blocks: p.blocks + 1,
+                prototypes: p.prototypes,
+            },
+            Under {
+                offset: prototype,
+                fields: count,
+            },
+        ),
+    }
+}
+
 // A prototype of this id, whose definitions start at `fields`. A new id without room is refused once the prototype is read whole.
 fn prototype_step(s: &[u8], p: Progress, table: &mut [u32], id: u32, fields: usize) -> ReadStep
     requires { ⌜ Ready (now s) p (now table) × Named (now s) (p .rows) id (p .at) ⌝ }
     ensures { λ r. ⌜ Defining (now (s .entry)) p (now (table .entry)) false id fields r (now (table .exit)) ⌝ }
 {
-    let at = p.at;
-    let rows = p.rows;
-    let blocks = p.blocks;
-    let prototypes = p.prototypes;
     let list = fields_parser(s, fields);
     match list {
         Counted::Fault(f) => return ReadStep::Refused(f),
         Counted::Fields { count: _, next } => {
-            let defined = define(s, table, rows, id, word(at));
-            match defined {
-                Defined::Full => return ReadStep::Refused(refused(TABLE_FULL, at)),
-                Defined::Rows(held) => return ReadStep::Prototype(Progress {
-                    at: next,
-                    rows: held,
-                    blocks,
-                    prototypes: prototypes + 1,
-                }),
-            }
+            let defined = define(s, table, p.rows, id, word(p.at));
+            return behind_prototype(p, next, defined);
         }
     }
 }
@@ -120,29 +146,13 @@ fn block_step(
     requires { ⌜ Ready (now s) p (now table) ⌝ }
     ensures { λ r. ⌜ Carrying version (now (s .entry)) p (now (table .entry)) false id «id_at» r ⌝ }
 {
-    let at = p.at;
-    let rows = p.rows;
-    let found = find(s, table, rows, id);
+    let found = find(s, table, p.rows, id);
     match found {
-        FoundRow::Nothing => return ReadStep::Refused(refused(UNDEFINED_PROTOTYPE, at)),
+        FoundRow::Nothing => return ReadStep::Refused(refused(UNDEFINED_PROTOTYPE, p.at)),
         FoundRow::At { in_force, last: _ } => {
-            let offset = size(in_force);
-            let end = block_parser(s, version, offset, id_at);
-            match end {
-                Counted::Fault(fault) => return ReadStep::Refused(fault),
-                Counted::Fields { count, next } => return ReadStep::Block(
-                    Progress {
-                        at: next,
-                        rows,
-                        blocks: p.blocks + 1,
-                        prototypes: p.prototypes,
-                    },
-                    Under {
-                        offset,
-                        fields: count,
-                    },
-                ),
-            }
+            let prototype = size(in_force);
+            let end = block_parser(s, version, prototype, id_at);
+            return behind_block(p, prototype, end);
         }
     }
 }

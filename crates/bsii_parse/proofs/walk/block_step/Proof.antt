@@ -1,7 +1,7 @@
 -- The tree holds the definitions so far: no row means that the id is undefined, and a row's definition in force stands at its offset, so
 -- block_parser ends where the block does under it, or has its fault. The table is the same, and one block more was passed.
 use Rattle.bsii_parse.proofs.Skipped.{known-parsed}
-use Rattle.bsii_parse.proofs.Passing.{carrying-undefined, carrying-fault, carrying-passed}
+use Rattle.bsii_parse.proofs.Passing.{carrying-undefined, carrying-under}
 use borrow.Author.Needs.{needs}
 use Rattle.bsii_parse.proofs.walk.block_step.Statement.{statement}
 use Rattle.bsii_parse.proofs.walk.block_step.Tie as tie
@@ -27,20 +27,13 @@ size-requires c κs = search needs
 block-parser-requires : tie.Need-block-parser-requires
 block-parser-requires c κs = search needs
 
-enum-known-end : tie.Need-enum-known-end
-enum-known-end c = search needs
+behind-block-requires : tie.Need-behind-block-requires
+behind-block-requires c κs = search needs
 
 returns-2 : tie.Need-returns-2
-returns-2 c = carrying-fault (c .before .before .before .before .before .before .before .before .find .ensures) (c .before .before .before .before .before .before .found .given .1) (c .before .before .before .before .size .ensures) (known-parsed (c .before .before .before .block-parser .ensures)) (c .before .end .given .1)
-
-enum-known-end-2 : tie.Need-enum-known-end-2
-enum-known-end-2 c = search needs
-
-add-t17 : tie.Need-add-t17
-add-t17 c = search needs
-
-returns-3 : tie.Need-returns-3
-returns-3 c = carrying-passed (c .before .before .before .before .before .before .before .before .before .find .ensures) (c .before .before .before .before .before .before .before .found .given .1) (c .before .before .before .before .before .size .ensures) (known-parsed (c .before .before .before .before .block-parser .ensures)) (c .before .before .end2 .given .1)
+returns-2 c =
+    let told = c .before .before .before .before in
+    rw (c .behind-block .ensures) (carrying-under (told .before .before .find .ensures) (told .found .given .1) (c .before .before .size .ensures) (known-parsed (c .before .block-parser .ensures)))
 
 pub block-step-spec : {M : Type 1} → statement M
 block-step-spec =
@@ -53,8 +46,5 @@ block-step-spec =
     enum-known-found
     size-requires
     block-parser-requires
-    enum-known-end
-    returns-2
-    enum-known-end-2
-    add-t17
-    returns-3)
+    behind-block-requires
+    returns-2)
