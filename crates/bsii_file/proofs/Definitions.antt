@@ -25,7 +25,8 @@ use Rattle.bsii_table.specs.Rows.{lookup}
 use Rattle.bsii_table.specs.Table.{foundRow}
 use Rattle.bsii_table.specs.declared.FoundRow.{FoundRow}
 use Rattle.bsii_table.specs.declared.FoundRow.the-variants.{At, Nothing}
-use Rattle.bsii_parse.specs.Walks.{DefinedAt, ReadFile}
+use Rattle.bsii_block.specs.Blocks.{DefinedAt}
+use Rattle.bsii_parse.specs.Walks.{ReadFile}
 use Rattle.bsii_parse.specs.declared.walk.Totals.{Totals}
 use Rattle.bsii_parse.specs.declared.walk.Walked.{Walked}
 use Rattle.bsii_parse.specs.declared.walk.Walked.the-variants.{Done, Fault as Stopped}

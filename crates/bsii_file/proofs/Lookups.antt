@@ -21,7 +21,8 @@ use Rattle.bsii_table.specs.Relation.{Holds}
 use Rattle.bsii_table.specs.declared.FoundRow.{FoundRow}
 use Rattle.bsii_table.specs.declared.FoundRow.the-variants.{At, Nothing}
 use Rattle.bsii_table.proofs.Relation.{found-at, found-nothing}
-use Rattle.bsii_parse.specs.Walks.{DefinedAt, totalsOf, bare, Kept, ReadFile, read, unread}
+use Rattle.bsii_block.specs.Blocks.{DefinedAt}
+use Rattle.bsii_parse.specs.Walks.{totalsOf, bare, Kept, ReadFile, read, unread}
 use Rattle.bsii_parse.specs.declared.walk.Totals.{Totals}
 use Rattle.bsii_parse.specs.declared.walk.Walked.{Walked}
 use Rattle.bsii_parse.specs.declared.walk.Walked.the-variants.{Done, Fault as Stopped}

@@ -6,7 +6,8 @@ use lib.ListN.{length}
 use Rattle.bsii_format.specs.File.{prototypesOf}
 use Rattle.bsii_format.specs.Calls.{placedRecords, blocksOf}
 use Rattle.bsii_table.proofs.Relation.{holds-entered}
-use Rattle.bsii_parse.specs.Walks.{DefinedAt, recordsAt}
+use Rattle.bsii_block.specs.Blocks.{DefinedAt}
+use Rattle.bsii_parse.specs.Walks.{recordsAt}
 use Rattle.bsii_parse.specs.declared.walk.Totals.{Totals}
 use Rattle.bsii_parse.proofs.Whole.{file-parts}
 use Rattle.bsii_walk.specs.Seek.{WalkAt, Readable, blocksFrom}

@@ -8,7 +8,8 @@ use Rattle.bsii_format.specs.Prototypes.{Prototype}
 use Rattle.bsii_format.specs.Replies.{gives}
 use Rattle.bsii_format.specs.Blocks.{DataBlock, findBy}
 use Rattle.bsii_format.specs.Calls.{Placed, prototypeAnswer, blockAnswer, orAbsent}
-use Rattle.bsii_parse.specs.Walks.{DefinedAt, Kept}
+use Rattle.bsii_block.specs.Blocks.{DefinedAt}
+use Rattle.bsii_parse.specs.Walks.{Kept}
 use Rattle.bsii_walk.specs.Seek.{BlockIs}
 use Rattle.bsii_walk.specs.declared.seek.Block.{Block}
 use Rattle.bsii_file.specs.Answers.{prototypeIs, blockIs}

@@ -1,6 +1,6 @@
 // A step of the walk over a file that was accepted: nothing is checked again. What the reading walk calls for each record is not shared with it, so that
 // the compiler puts it into that walk's loop.
-use bsii_parse::blocks::skip_block;
+use bsii_block::skip_block;
 use bsii_parse::walk::Progress;
 use bsii_parse::walk::ReadStep;
 use bsii_parse::walk::behind_block;

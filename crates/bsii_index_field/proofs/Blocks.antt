@@ -27,7 +27,7 @@ use Rattle.bsii_string.proofs.NumbersAt.{number-moves}
 use Rattle.bsii_prototype.specs.declared.answers.Counted.{Counted}
 use Rattle.bsii_prototype.specs.declared.answers.Counted.the-variants.{Fields as Many, Fault as Bad}
 use Rattle.bsii_prototype.proofs.Beginnings.{head-block}
-use Rattle.bsii_parse.specs.Walks.{DefinedAt, countedEnd, ValuesEnd}
+use Rattle.bsii_block.specs.Blocks.{DefinedAt, countedEnd, ValuesEnd}
 use Rattle.bsii_parse.proofs.Passing.{values-exact}
 use Rattle.bsii_walk.specs.Seek.{BlockIs}
 use Rattle.bsii_walk.specs.declared.seek.Block.{Block}

@@ -15,7 +15,7 @@ use Rattle.bsii_string.specs.Answers.{faultIs, refusalIs}
 use Rattle.bsii_string.specs.declared.answers.Refusal.{Refusal}
 use Rattle.bsii_prototype.specs.Answers.{countOf}
 use Rattle.bsii_prototype.specs.declared.answers.Counted.the-variants.{Fields as Many, Fault as Bad}
-use Rattle.bsii_parse.specs.Walks.{DefinedAt}
+use Rattle.bsii_block.specs.Blocks.{DefinedAt}
 use Rattle.bsii_parse.proofs.Passing.{counted-fault, counted-is}
 use Rattle.bsii_derived.specs.IndexCalls.{PrototypeHead, prototypeHead, prototypeWith, prototypeAt}
 use Rattle.bsii_index_field.specs.Looks.{headOf, PrototypeRead, read, unread}

@@ -14,7 +14,7 @@ use Rattle.bsii_format.specs.Calls.{orAbsent, fieldUnder, FieldAnswer, fieldAns
 use Rattle.bsii_string.specs.Answers.{faultIs, refusalIs, endOf}
 use Rattle.bsii_string.specs.declared.answers.Refusal.{Refusal}
 use Rattle.bsii_string.specs.declared.answers.Parsed.{Parsed}
-use Rattle.bsii_parse.specs.Walks.{DefinedAt}
+use Rattle.bsii_block.specs.Blocks.{DefinedAt}
 use Rattle.bsii_file_field.specs.Answers.{fieldIs}
 use Rattle.bsii_file_field.specs.declared.fields.FieldReply.{FieldReply}
 use Rattle.bsii_file_field.specs.declared.fields.FieldReply.the-variants.{Field}

@@ -1,11 +1,11 @@
 // A field by an index. Only the record, the version, the prototype and the block are read, so a look-up costs the same in a file of any length; nothing is
 // known of the index, so everything that is read is checked.
+use bsii_block::values_parser;
 use bsii_file_field::fields::FieldReply;
 use bsii_file_field::fields::placed;
 use bsii_index_record::RecordAt;
 use bsii_index_record::WIDTH;
 use bsii_index_record::record_at;
-use bsii_parse::blocks::values_parser;
 use bsii_prototype::answers::Counted;
 use bsii_prototype::fields::fields_parser;
 use bsii_string::answers::ABSENT;

@@ -16,7 +16,8 @@ use Rattle.bsii_format.specs.Calls.{textAnswer, textOf, textCall}
 use Rattle.bsii_string.specs.Answers.{faultIs, refusedAt}
 use Rattle.bsii_string.specs.declared.answers.Refusal.{Refusal}
 use Rattle.bsii_table.specs.Relation.{Entered}
-use Rattle.bsii_parse.specs.Walks.{DefinedAt, ReadFile}
+use Rattle.bsii_block.specs.Blocks.{DefinedAt}
+use Rattle.bsii_parse.specs.Walks.{ReadFile}
 use Rattle.bsii_parse.specs.declared.walk.Totals.{Totals}
 use Rattle.bsii_parse.specs.declared.walk.Walked.{Walked}
 use Rattle.bsii_parse.specs.declared.walk.Walked.the-variants.{Done, Fault as Stopped}

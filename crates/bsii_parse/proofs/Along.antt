@@ -15,7 +15,8 @@ use Rattle.bsii_format.specs.Calls.{Placed, placed, consPrototype, prototypesIn
 use Rattle.bsii_format.proofs.Readers.{fault≢ok, ok-val, ok-move}
 use Rattle.bsii_string.specs.Answers.{faultIs}
 use Rattle.bsii_string.specs.declared.answers.Refusal.{Refusal}
-use Rattle.bsii_parse.specs.Walks.{Assured, blockCount, prototypeCount, behind, recordsAt, bare, Growing, Ready, Goes, behind-prototype, behind-block, StepMeets, passed, ended, refused}
+use Rattle.bsii_block.specs.Blocks.{Assured}
+use Rattle.bsii_parse.specs.Walks.{blockCount, prototypeCount, behind, recordsAt, bare, Growing, Ready, Goes, behind-prototype, behind-block, StepMeets, passed, ended, refused}
 use Rattle.bsii_parse.specs.declared.walk.Progress.{Progress}
 use Rattle.bsii_parse.specs.declared.walk.ReadStep.{ReadStep}
 use Rattle.bsii_parse.specs.declared.walk.Under.{Under}

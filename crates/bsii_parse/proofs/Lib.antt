@@ -1,8 +1,6 @@
 pub mod Records
 pub mod RecordSteps
 pub mod Tables
-pub mod Values
-pub mod Skipped
 pub mod Passing
 pub mod Along
 pub mod Passed

@@ -38,7 +38,8 @@ use Rattle.bsii_prototype.specs.declared.answers.Counted.{Counted}
 use Rattle.bsii_prototype.specs.declared.answers.Counted.the-variants.{Fields as Counted-Fields, Fault as Counted-Fault}
 use Rattle.bsii_prototype.specs.declared.answers.Head.{Head as HeadAnswer}
 use Rattle.bsii_prototype.specs.declared.answers.Head.the-variants.{End as HeadEnd, Prototype as HeadPrototype, Block as HeadBlock, BadHead}
-use Rattle.bsii_parse.specs.Walks.{DefinedAt, countedEnd, Assured, blockCount, prototypeCount, behind, recordsAt, bare, Growing, overPrototype, overBlock, Goes, behind-prototype, behind-block, StepMeets, passed, ended as atEnd, refused, Stepped, Defining, Carrying}
+use Rattle.bsii_block.specs.Blocks.{DefinedAt, countedEnd, Assured}
+use Rattle.bsii_parse.specs.Walks.{blockCount, prototypeCount, behind, recordsAt, bare, Growing, overPrototype, overBlock, Goes, behind-prototype, behind-block, StepMeets, passed, ended as atEnd, refused, Stepped, Defining, Carrying}
 use Rattle.bsii_parse.specs.declared.walk.Progress.{Progress}
 use Rattle.bsii_parse.specs.declared.walk.ReadStep.{ReadStep}
 use Rattle.bsii_parse.specs.declared.walk.ReadStep.the-variants.{Prototype as WentPrototype, Block as WentBlock, End, Refused}
@@ -46,7 +47,7 @@ use Rattle.bsii_parse.specs.declared.walk.Under.{Under}
 use Rattle.bsii_parse.proofs.Records.{records-fault, records-end, records-full, records-more}
 use Rattle.bsii_parse.proofs.RecordSteps.{record-fault, record-end, prototypeOf, record-prototype, record-fields-fault, record-undefined, record-block-fault, block-accepted, record-block}
 use Rattle.bsii_parse.proofs.Tables.{offsets-put, bare-cons, placed-at}
-use Rattle.bsii_parse.proofs.Skipped.{KnownEnd}
+use Rattle.bsii_block.proofs.Skipped.{KnownEnd}
 
 -- ---- the list of definitions is exact
 

@@ -14,7 +14,7 @@ use Rattle.bsii_format.specs.File.{Record, prototype, block, Head, ending, defi
 use Rattle.bsii_format.proofs.Readers.{Exact, fault≢ok}
 use Rattle.bsii_format.proofs.Parsers.{head-exact}
 use Rattle.bsii_format.proofs.Positions.{Moved, moved, ended, ended-after, ended-consumed, ended-map}
-use Rattle.bsii_parse.specs.Walks.{DefinedAt}
+use Rattle.bsii_block.specs.Blocks.{DefinedAt}
 
 -- a prototype, as the head and the definitions say
 unfoldable pub prototypeOf : (at : ℕ) (s : List ℕ) → ℕ → List ℕ → ℕ → Fields → Prototype

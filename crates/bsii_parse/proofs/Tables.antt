@@ -22,7 +22,8 @@ use Rattle.bsii_tree.proofs.Relation.{grows-none, offsets-same}
 use Rattle.bsii_order.specs.Ordered.{Ordered}
 use Rattle.bsii_order.proofs.Rows.{order-holds}
 use Rattle.bsii_parse.specs.declared.walk.Progress.{Progress}
-use Rattle.bsii_parse.specs.Walks.{DefinedAt, bare, Growing, Kept, Ready}
+use Rattle.bsii_block.specs.Blocks.{DefinedAt}
+use Rattle.bsii_parse.specs.Walks.{bare, Growing, Kept, Ready}
 
 -- an empty table holds no definition, whatever its words
 pub growing-none : (s t : List ℕ) → Growing s t 0 []

@@ -1,4 +1,3 @@
-// Data blocks, records, and the reading call: one walk over the file, with the scratch table for the definitions so far.
-pub mod blocks;
+// Records, and the reading call: one walk over the file, with the scratch table for the definitions so far.
 pub mod reading;
 pub mod walk;

@@ -1,13 +1,11 @@
 // The reading walk over the records, up to the end record.
-use crate::blocks::data_block_parser;
+use bsii_block::block_parser;
 use bsii_index_record::IndexRecord;
 use bsii_index_record::agree;
 use bsii_prototype::answers::Counted;
 use bsii_prototype::answers::Head;
 use bsii_prototype::fields::fields_parser;
 use bsii_prototype::heads::head_parser;
-use bsii_prototype::skip::fields_at;
-use bsii_string::answers::Parsed;
 use bsii_string::answers::Refusal;
 use bsii_string::answers::TABLE_FULL;
 use bsii_string::answers::UNDEFINED_PROTOTYPE;
@@ -22,11 +20,10 @@ ghost use Prim.Native.Nat.{_-_, _≤_};
 ghost use mathlib.Core.Bool.{false};
 ghost use lib.ListN.{length};
 ghost use mathlib.Core.Path.{_≡_};
-ghost use lib.ListN.{drop};
 ghost use Rattle.bsii_format.specs.File.{lengthLimit};
 ghost use Rattle.bsii_tree.specs.Table.{Named};
 ghost use Rattle.bsii_index_record.specs.Records.{Width};
-ghost use Rattle.bsii_parse.specs.Walks.{overPrototype, overBlock, Ready, Defining, Carrying, Stepped, Compares, DefinedEnd};
+ghost use Rattle.bsii_parse.specs.Walks.{overPrototype, overBlock, Ready, Defining, Carrying, Stepped, Compares};
 
 // How far the walk is: the next record's offset, the table's rows, and the blocks and the prototypes so far.
 pub struct Progress {
@@ -123,26 +120,8 @@ fn prototype_step(s: &[u8], p: Progress, table: &mut [u32], id: u32, fields: usi
     }
 }
 
-// The block whose own id starts at `at`, under the prototype at the offset `prototype`.
-pub fn block_parser(s: &[u8], version: u32, prototype: usize, at: usize) -> Counted
-    ensures { λ r. ⌜ DefinedEnd version (now (s .entry)) prototype at r ⌝ }
-{
-    let fields = fields_at(s, prototype);
-    match fields {
-        Parsed::Fault(f) => Counted::Fault(f),
-        Parsed::Next(first) => data_block_parser(s, version, first, at),
-    }
-}
-
 // A block of this id, whose own id starts at `id_at`, under the definition in force.
-fn block_step(
-    s: &[u8],
-    version: u32,
-    p: Progress,
-    table: &[u32],
-    id: u32,
-    id_at: usize,
-) -> ReadStep
+fn block_step(s: &[u8], version: u32, p: Progress, table: &[u32], id: u32, id_at: usize) -> ReadStep
     requires { ⌜ Ready (now s) p (now table) ⌝ }
     ensures { λ r. ⌜ Carrying version (now (s .entry)) p (now (table .entry)) false id «id_at» r ⌝ }
 {

@@ -31,7 +31,7 @@ use Rattle.bsii_prototype.proofs.Beginnings.{head-past}
 use Rattle.bsii_skip.specs.Unchecked.{uncheckedElement}
 use Rattle.bsii_skip.proofs.Values.{element-same}
 use Rattle.bsii_skip.proofs.Blocks.{turn, done}
-use Rattle.bsii_parse.specs.Walks.{DefinedAt}
+use Rattle.bsii_block.specs.Blocks.{DefinedAt}
 use Rattle.bsii_walk.proofs.Naming.{head-ends, standing}
 use Rattle.bsii_definition.specs.Pairs.{SameCount}
 use Rattle.bsii_lines.proofs.LineLaws.{own-bytes}

@@ -21,7 +21,7 @@ use Rattle.bsii_table.specs.Table.{foundRow}
 use Rattle.bsii_table.specs.declared.FoundRow.{FoundRow}
 use Rattle.bsii_table.specs.declared.FoundRow.the-variants.{At, Nothing as NotFound}
 use Rattle.bsii_table.proofs.Relation.{entered-at, entered-nothing, still-defined}
-use Rattle.bsii_parse.specs.Walks.{DefinedAt}
+use Rattle.bsii_block.specs.Blocks.{DefinedAt}
 use Rattle.bsii_walk.specs.Again.{KindAt, PrototypeAgain}
 use Rattle.bsii_walk.specs.Seek.{WalkAt}
 use Rattle.bsii_walk.specs.declared.records.RecordKind.{RecordKind}

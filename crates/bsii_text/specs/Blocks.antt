@@ -14,7 +14,7 @@ use Rattle.bsii_format.specs.Blocks.{DataValue, DataBlock, dataValuesParser}
 use Rattle.bsii_format.specs.Text.{valueText}
 use Rattle.bsii_format.specs.BlockText.{joined, blockOpening, closing, fieldsText, blockText}
 use Rattle.bsii_string.specs.Answers.{faultIs}
-use Rattle.bsii_parse.specs.Walks.{DefinedAt}
+use Rattle.bsii_block.specs.Blocks.{DefinedAt}
 use Rattle.bsii_window.specs.Window.{Wrote}
 use Rattle.bsii_text.specs.declared.blocks.Written.{Written}
 use Rattle.bsii_text.specs.declared.blocks.Written.the-variants.{Next, Refused}

@@ -15,7 +15,7 @@ use Rattle.bsii_format.specs.BlockText.{joined, fileOpening, closing, blockText
 use Rattle.bsii_string.specs.Answers.{faultIs}
 use Rattle.bsii_string.specs.declared.answers.Refusal.{Refusal}
 use Rattle.bsii_table.specs.Relation.{Entered}
-use Rattle.bsii_parse.specs.Walks.{DefinedAt}
+use Rattle.bsii_block.specs.Blocks.{DefinedAt}
 use Rattle.bsii_walk.specs.Seek.{WalkAt}
 use Rattle.bsii_window.specs.Window.{Wrote}
 use Rattle.bsii_text.specs.declared.records.WriteStep.{WriteStep}

@@ -13,7 +13,8 @@ use Rattle.bsii_format.specs.File.{Record, prototype, block, more, recordParser
 use Rattle.bsii_format.specs.Calls.{Placed, placed, blocksIn, consBlock}
 use Rattle.bsii_table.specs.Relation.{Entered}
 use Rattle.bsii_table.proofs.Relation.{still-defined, entered-again}
-use Rattle.bsii_parse.specs.Walks.{DefinedAt, recordsAt}
+use Rattle.bsii_block.specs.Blocks.{DefinedAt}
+use Rattle.bsii_parse.specs.Walks.{recordsAt}
 use Rattle.bsii_walk.specs.Again.{BlockMet, Meets, a-prototype, a-block, RecordAgain}
 use Rattle.bsii_walk.specs.Cursor.{blocksFrom, WalkAt, Stood, BlockIs, Ahead, NextIs, NextBlock}
 use Rattle.bsii_walk.specs.Seek.{Readable}

@@ -27,7 +27,7 @@ use Rattle.bsii_table.specs.Relation.{Entered}
 use Rattle.bsii_table.specs.declared.FoundRow.{FoundRow}
 use Rattle.bsii_table.specs.declared.FoundRow.the-variants.{At, Nothing as NotFound}
 use Rattle.bsii_table.proofs.Relation.{enter-entered, entered-at, entered-nothing}
-use Rattle.bsii_parse.specs.Walks.{DefinedAt, BlockSkipped}
+use Rattle.bsii_block.specs.Blocks.{DefinedAt, BlockSkipped}
 use Rattle.bsii_walk.specs.Again.{kindOf, KindAt, PrototypeMet, PrototypeAgain, BlockMet, BlockAgain, Meets, a-prototype, a-block, RecordAgain}
 use Rattle.bsii_walk.specs.declared.records.RecordKind.{RecordKind}
 use Rattle.bsii_walk.specs.declared.records.RecordKind.the-variants.{Ends, Defines, Carries}

@@ -19,7 +19,7 @@ use Rattle.bsii_prototype.specs.Entries.{uncheckedHead}
 use Rattle.bsii_prototype.proofs.Beginnings.{head-past}
 use Rattle.bsii_prototype.proofs.Entries.{next-is}
 use Rattle.bsii_prototype.proofs.Names.{bytes-front, unchecked, named}
-use Rattle.bsii_parse.specs.Walks.{DefinedAt}
+use Rattle.bsii_block.specs.Blocks.{DefinedAt}
 use Rattle.bsii_walk.specs.Again.{NameIs}
 
 -- the name's bytes in a prototype's head, read without checks

@@ -14,7 +14,7 @@ use Rattle.bsii_format.proofs.Readers.{Fits, Exact, bind-exact}
 use Rattle.bsii_format.proofs.Parsers.{head-exact, id-exact}
 use Rattle.bsii_format.proofs.Records.{GoodTaken, GoodPrototype, GoodBlock, GoodStep, stepBytes, record-good, fields-fits, values-fits, values-good}
 use Rattle.bsii_format.proofs.Positions.{moved}
-use Rattle.bsii_parse.specs.Walks.{DefinedAt}
+use Rattle.bsii_block.specs.Blocks.{DefinedAt}
 use Rattle.bsii_parse.proofs.Passing.{fields-exact}
 
 -- a reader at a position of the file, where the bytes are known

@@ -12,7 +12,7 @@ use Rattle.bsii_format.specs.Blocks.{DataValue, DataBlock, getPrototype, dataVa
 use Rattle.bsii_format.specs.File.{Record, prototype, block, Head, ending, defining, carrying, headParser, end, more, recordParser}
 use Rattle.bsii_prototype.specs.Entries.{markedParser}
 use Rattle.bsii_table.specs.Relation.{Entered}
-use Rattle.bsii_parse.specs.Walks.{DefinedAt}
+use Rattle.bsii_block.specs.Blocks.{DefinedAt}
 use Rattle.bsii_walk.specs.declared.records.RecordKind.{RecordKind}
 use Rattle.bsii_walk.specs.declared.records.RecordKind.the-variants.{Ends, Defines, Carries}
 use Rattle.bsii_walk.specs.declared.records.Met.{Met}

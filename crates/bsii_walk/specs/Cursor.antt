@@ -11,7 +11,8 @@ use Rattle.bsii_format.specs.Blocks.{DataBlock, getPrototype, dataValuesParser}
 use Rattle.bsii_format.specs.File.{Record, carrying, headParser, recordBytes, defineAll, lengthLimit}
 use Rattle.bsii_format.specs.Calls.{Placed, placed, blocksIn}
 use Rattle.bsii_table.specs.Relation.{Entered}
-use Rattle.bsii_parse.specs.Walks.{DefinedAt, recordsAt}
+use Rattle.bsii_block.specs.Blocks.{DefinedAt}
+use Rattle.bsii_parse.specs.Walks.{recordsAt}
 use Rattle.bsii_walk.specs.declared.cursor.Block.{Block}
 use Rattle.bsii_walk.specs.declared.cursor.BlockAt.{BlockAt}
 use Rattle.bsii_walk.specs.declared.cursor.BlockAt.the-variants.{Block as ABlock, NoBlock}

@@ -10,7 +10,7 @@ use Rattle.bsii_format.specs.Prototypes.{Prototype}
 use Rattle.bsii_format.specs.Blocks.{DataBlock, getPrototype}
 use Rattle.bsii_format.specs.File.{Record, lengthLimit}
 use Rattle.bsii_format.specs.Calls.{Placed, isNamed}
-use Rattle.bsii_parse.specs.Walks.{DefinedAt}
+use Rattle.bsii_block.specs.Blocks.{DefinedAt}
 use Rattle.bsii_walk.specs.Cursor.{PartsOf}
 pub use Rattle.bsii_walk.specs.Cursor.{blocksFrom, WalkAt}
 use Rattle.bsii_walk.specs.declared.cursor.Block as cursor

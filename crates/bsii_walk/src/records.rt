@@ -1,5 +1,5 @@
 // Records of a file that was read.
-use bsii_parse::blocks::skip_block;
+use bsii_block::skip_block;
 use bsii_prototype::answers::Counted;
 use bsii_prototype::skip::fields_at;
 use bsii_prototype::skip::skip_fields;

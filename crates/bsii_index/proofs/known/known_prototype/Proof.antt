@@ -1,6 +1,5 @@
--- With its head read, the record is the prototype whose fields skip_fields passes: `define` puts its offset in the id's row, so the table holds it in
--- front of the definitions so far; or the id is new and has no room, and then the records are refused too.
-use Rattle.bsii_parse.proofs.Passing.{list-skipped, defining-fault, defining-full, defining-passed}
+-- As prototype_step's: where the records from here on are accepted, the definitions here are, and skip_fields ends where they do.
+use Rattle.bsii_parse.proofs.Passing.{list-skipped, defining-fault, defining-row}
 use borrow.Author.Needs.{needs}
 use Rattle.bsii_index.proofs.known.known_prototype.Statement.{statement}
 use Rattle.bsii_index.proofs.known.known_prototype.Tie as tie
@@ -25,30 +24,17 @@ define-requires c κs =
     let a = c .before .before .before .before .before .before .before .before in
     (a .pre .0 .rows, rw (c .word .ensures) (a .pre .1))
 
-enum-told : tie.Need-enum-told
-enum-told c = search needs
-
-refused-requires : tie.Need-refused-requires
-refused-requires c κs = search needs
+behind-prototype-requires : tie.Need-behind-prototype-requires
+behind-prototype-requires c κs = search needs
 
 same-length : tie.Need-same-length
 same-length c = search needs
 
 returns-2 : tie.Need-returns-2
 returns-2 c =
-    rw (c .refused .ensures) (defining-full (list-skipped (c .before .before .before .before .before .before .before .before .before .before .before .skip-fields .ensures)) (c .before .before .before .before .before .before .before .before .before .list2 .given .1) (c .before .before .before .before .before .before .word .ensures) (c .before .before .before .before .before .define .ensures) (c .before .enum-told .given .1))
-
-enum-known-defined : tie.Need-enum-known-defined
-enum-known-defined c = search needs
-
-add-t19 : tie.Need-add-t19
-add-t19 c = search needs
-
-same-length-2 : tie.Need-same-length-2
-same-length-2 c = search needs
-
-returns-3 : tie.Need-returns-3
-returns-3 c = defining-passed (list-skipped (c .before .before .before .before .before .before .before .before .before .before .before .skip-fields .ensures)) (c .before .before .before .before .before .before .before .before .before .list2 .given .1) (c .before .before .before .before .before .before .word .ensures) (c .before .before .before .before .before .define .ensures) (c .before .defined .given .1)
+    let stored = c .before .before .before in
+    let told = stored .before .before .before .before in
+    rw (c .behind-prototype .ensures) (defining-row (list-skipped (told .before .before .skip-fields .ensures)) (told .list2 .given .1) (stored .before .word .ensures) (stored .define .ensures))
 
 pub known-prototype-spec : {M : Type 1} → statement M
 known-prototype-spec =
@@ -60,11 +46,6 @@ known-prototype-spec =
     enum-known-list-2
     word-requires
     define-requires
-    enum-told
-    refused-requires
+    behind-prototype-requires
     same-length
-    returns-2
-    enum-known-defined
-    add-t19
-    same-length-2
-    returns-3)
+    returns-2)

@@ -1,5 +1,4 @@
--- The head says which record stands here, and each arm is the step for it. No more rows than bytes were passed, so a new row's number fits: with the
--- id that stands here this is Named, which known_prototype asks for.
+-- As record_step's: the head says which record stands here, and each arm is the step for it.
 use mathlib.Core.Path.{sym, ap, _∙_}
 use denote.Ref.{now}
 use Rattle.bsii_prototype.specs.Answers.{headIs}

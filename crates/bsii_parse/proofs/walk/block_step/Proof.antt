@@ -1,6 +1,6 @@
 -- The tree holds the definitions so far: no row means that the id is undefined, and a row's definition in force stands at its offset, so
 -- block_parser ends where the block does under it, or has its fault. The table is the same, and one block more was passed.
-use Rattle.bsii_parse.proofs.Skipped.{known-parsed}
+use Rattle.bsii_block.proofs.Skipped.{known-parsed}
 use Rattle.bsii_parse.proofs.Passing.{carrying-undefined, carrying-under}
 use borrow.Author.Needs.{needs}
 use Rattle.bsii_parse.proofs.walk.block_step.Statement.{statement}

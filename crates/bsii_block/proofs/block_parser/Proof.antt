@@ -1,7 +1,7 @@
-use Rattle.bsii_parse.proofs.Values.{defined-fault, defined-block}
+use Rattle.bsii_block.proofs.Values.{defined-fault, defined-block}
 use borrow.Author.Needs.{needs}
-use Rattle.bsii_parse.proofs.walk.block_parser.Statement.{statement}
-use Rattle.bsii_parse.proofs.walk.block_parser.Tie as tie
+use Rattle.bsii_block.proofs.block_parser.Statement.{statement}
+use Rattle.bsii_block.proofs.block_parser.Tie as tie
 
 fields-at-requires : tie.Need-fields-at-requires
 fields-at-requires c κs = search needs

@@ -23,7 +23,7 @@ use Rattle.bsii_prototype.specs.declared.answers.Counted.{Counted}
 use Rattle.bsii_prototype.specs.declared.answers.Counted.the-variants.{Fields as Many, Fault as Faulty}
 use Rattle.bsii_prototype.proofs.Turns.{turn-field, turn-last, turn-bad}
 use Rattle.bsii_prototype.proofs.Beginnings.{head-next}
-use Rattle.bsii_parse.specs.Walks.{DefinedAt, countedEnd, ValuesEnd, BlockEnd, DefinedEnd}
+use Rattle.bsii_block.specs.Blocks.{DefinedAt, countedEnd, ValuesEnd, BlockEnd, DefinedEnd}
 
 -- ---- one value and those behind it
 

@@ -1,8 +1,8 @@
 use mathlib.Core.Path.{sym, _∙_}
-use Rattle.bsii_parse.proofs.Values.{block-id-fault, block-values}
+use Rattle.bsii_block.proofs.Values.{block-id-fault, block-values}
 use borrow.Author.Needs.{needs}
-use Rattle.bsii_parse.proofs.blocks.data_block_parser.Statement.{statement}
-use Rattle.bsii_parse.proofs.blocks.data_block_parser.Tie as tie
+use Rattle.bsii_block.proofs.data_block_parser.Statement.{statement}
+use Rattle.bsii_block.proofs.data_block_parser.Tie as tie
 
 id-parser-requires : tie.Need-id-parser-requires
 id-parser-requires c κs = search needs

@@ -27,7 +27,7 @@ use Rattle.bsii_prototype.proofs.Beginnings.{head-next}
 use Rattle.bsii_skip.specs.Unchecked.{uncheckedId, uncheckedValue}
 use Rattle.bsii_skip.proofs.Values.{id-same}
 use Rattle.bsii_skip.proofs.Blocks.{turn, done}
-use Rattle.bsii_parse.specs.Walks.{DefinedAt, countedEnd, DefinedEnd, ValuesSkipped, BlockSkipped, Assured}
+use Rattle.bsii_block.specs.Blocks.{DefinedAt, countedEnd, DefinedEnd, ValuesSkipped, BlockSkipped, Assured}
 
 -- ---- the loop over definitions and values in step
 

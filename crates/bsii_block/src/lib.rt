@@ -10,7 +10,7 @@ use bsii_string::answers::Parsed;
 use bsii_value::values::value_parser;
 use bsii_word::words::id_parser;
 ghost use lib.ListN.{drop};
-ghost use Rattle.bsii_parse.specs.Walks.{ValuesEnd, BlockEnd, ValuesSkipped, BlockSkipped};
+ghost use Rattle.bsii_block.specs.Blocks.{ValuesEnd, BlockEnd, DefinedEnd, ValuesSkipped, BlockSkipped};
 
 // The values of a version from `start` on, one for each definition from `fields` on. Each definition has a byte at least, so the count stays below its
 // position.
@@ -53,6 +53,17 @@ pub fn data_block_parser(s: &[u8], version: u32, fields: usize, at: usize) -> Co
     match id {
         Parsed::Fault(f) => Counted::Fault(f),
         Parsed::Next(next) => values_parser(s, version, fields, next),
+    }
+}
+
+// The block whose own id starts at `at`, under the prototype at the offset `prototype`.
+pub fn block_parser(s: &[u8], version: u32, prototype: usize, at: usize) -> Counted
+    ensures { λ r. ⌜ DefinedEnd version (now (s .entry)) prototype at r ⌝ }
+{
+    let fields = fields_at(s, prototype);
+    match fields {
+        Parsed::Fault(f) => Counted::Fault(f),
+        Parsed::Next(first) => data_block_parser(s, version, first, at),
     }
 }
 

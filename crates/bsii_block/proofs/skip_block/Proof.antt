@@ -2,10 +2,10 @@
 -- behind the id and skip_values ends with them. A fault thus says that there is no such block.
 use mathlib.Core.Path.{_≡_, refl, sym, ap, _∙_}
 use denote.Ref.{now}
-use Rattle.bsii_parse.proofs.Skipped.{block-head-fault, block-id-fault, block-values}
+use Rattle.bsii_block.proofs.Skipped.{block-head-fault, block-id-fault, block-values}
 use borrow.Author.Needs.{needs}
-use Rattle.bsii_parse.proofs.blocks.skip_block.Statement.{statement}
-use Rattle.bsii_parse.proofs.blocks.skip_block.Tie as tie
+use Rattle.bsii_block.proofs.skip_block.Statement.{statement}
+use Rattle.bsii_block.proofs.skip_block.Tie as tie
 
 fields-at-requires : tie.Need-fields-at-requires
 fields-at-requires c κs = search needs

@@ -1,0 +1,3 @@
+-- Laws of a block's values.
+pub mod Values
+pub mod Skipped
