@@ -164,8 +164,7 @@ pub fn entry_of(at: usize, next: usize, under: Under) -> IndexRecord
 }
 
 // The records of a version from `start` on, with an empty table, held against an index, an empty one where none is asked about: so there is one loop, and
-// what it calls for each record is compiled into it. The parts of the progress are kept apart: a struct that is copied whole right behind the stores of its
-// parts makes the processor wait for them.
+// what it calls for each record is compiled into it.
 pub fn walk(
     s: &[u8],
     version: u32,
@@ -177,44 +176,34 @@ pub fn walk(
     requires { ⌜ (length (now s) ≤ lengthLimit) × (start ≤ length (now s)) × Width width ⌝ }
     ensures { λ r. ⌜ Compares version (now (s .entry)) start (now (table .entry)) (now (index .entry)) width r (now (table .exit)) ⌝ }
 {
-    let mut at = start;
-    let mut rows: usize = 0;
-    let mut blocks: usize = 0;
-    let mut prototypes: usize = 0;
+    let mut p = Progress {
+        at: start,
+        rows: 0,
+        blocks: 0,
+        prototypes: 0,
+    };
     let mut agreed: usize = 0;
     loop {
-        let p = Progress {
-            at,
-            rows,
-            blocks,
-            prototypes,
-        };
         let step = record_step(s, version, p, table);
         match step {
             ReadStep::End(next) => return Compared::Read {
                 totals: Totals {
                     version,
-                    rows,
-                    blocks,
-                    prototypes,
+                    rows: p.rows,
+                    blocks: p.blocks,
+                    prototypes: p.prototypes,
                     next,
                 },
                 agreed,
             },
             ReadStep::Refused(f) => return Compared::Refused(f),
             ReadStep::Prototype(further) => {
-                at = further.at;
-                rows = further.rows;
-                blocks = further.blocks;
-                prototypes = further.prototypes;
+                p = further;
             }
             ReadStep::Block(further, under) => {
-                let entry = entry_of(at, further.at, under);
-                agreed = agree(index, width, agreed, blocks, entry);
-                at = further.at;
-                rows = further.rows;
-                blocks = further.blocks;
-                prototypes = further.prototypes;
+                let entry = entry_of(p.at, further.at, under);
+                agreed = agree(index, width, agreed, p.blocks, entry);
+                p = further;
             }
         }
     }

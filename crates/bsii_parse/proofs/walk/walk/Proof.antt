@@ -11,11 +11,10 @@ use Rattle.bsii_parse.proofs.walk.walk.Statement.{statement}
 use Rattle.bsii_parse.proofs.walk.walk.Tie as tie
 
 abbrev Inv-loop : tie.InvT-loop
-Inv-loop s version start table₀ index width at₀ rows₀ blocks₀ prototypes₀ agreed₀ table at rows blocks prototypes agreed =
-    Comparing version s start table₀ index width (record { at = at; rows = rows; blocks = blocks; prototypes = prototypes }) table agreed
+Inv-loop s version start table₀ index width p₀ agreed₀ table p agreed = Comparing version s start table₀ index width p table agreed
 
 abbrev μ-loop : tie.MeasureT-loop
-μ-loop s version start table₀ index width at₀ rows₀ blocks₀ prototypes₀ agreed₀ table at rows blocks prototypes agreed = length s - at
+μ-loop s version start table₀ index width p₀ agreed₀ table p agreed = length s - p .at
 
 loop-holds : tie.Need-loop-holds Inv-loop μ-loop
 loop-holds c = let b = c .before .before .before in comparing-start (now (b .args .s)) (b .args .start) (now (b .args .table)) (now (b .args .index)) (b .args .width) (b .pre .1)
