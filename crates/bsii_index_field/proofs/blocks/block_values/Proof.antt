@@ -66,23 +66,27 @@ keep-requires c κs = search needs
 
 add-passed : tie.Need-add-passed Inv-loop μ-loop
 add-passed c =
-    let l = c .before .before .before .before .before .before .before .before .before in
-    let e = sym (c .before .before .before .before .before .before .entry2 .given .1) ∙ c .before .before .before .before .before .before .before .before .skip-value-prototype .ensures in
+    let k = c .before .before .before .before .before .before in
+    let l = k .before .before .before in
+    let e = sym (k .entry2 .given .1) ∙ k .before .before .skip-value-prototype .ensures in
     omega (arith, l .loop .inv .0 .few, field-inside (now (l .before .before .args .s)) (l .loop .field) e)
 
 loop-less : tie.Need-loop-less Inv-loop μ-loop
 loop-less c =
-    let l = c .before .before .before .before .before .before .before .before .before in
-    let e = sym (c .before .before .before .before .before .before .entry2 .given .1) ∙ c .before .before .before .before .before .before .before .before .skip-value-prototype .ensures in
+    let k = c .before .before .before .before .before .before in
+    let l = k .before .before .before in
+    let e = sym (k .entry2 .given .1) ∙ k .before .before .skip-value-prototype .ensures in
     omega (arith, field-inside (now (l .before .before .args .s)) (l .loop .field) e)
 
 loop-again : tie.Need-loop-again Inv-loop μ-loop
 loop-again c =
-    let l = c .before .before .before .before .before .before .before .before .before in
+    let v = c .before .before in
+    let k = v .before .before .before .before in
+    let l = k .before .before .before in
     let i = l .loop .inv in
-    let e = sym (c .before .before .before .before .before .before .entry2 .given .1) ∙ c .before .before .before .before .before .before .before .before .skip-value-prototype .ensures in
-    let v = sym (c .before .before .value2 .given .1) ∙ c .before .before .before .before .value-parser .ensures in
-    (step-next (i .0) e (field-inside (now (l .before .before .args .s)) (l .loop .field) e .0) v, rw (c .keep .ensures) (keep-next (i .1) e v))
+    let e = sym (k .entry2 .given .1) ∙ k .before .before .skip-value-prototype .ensures in
+    let h = sym (v .value2 .given .1) ∙ v .before .before .value-parser .ensures in
+    (step-next (i .0) e (field-inside (now (l .before .before .args .s)) (l .loop .field) e .0) h, rw (c .keep .ensures) (keep-next (i .1) e h))
 
 pub block-values-spec : {M : Type 1} → statement M
 block-values-spec =
