@@ -42,7 +42,7 @@ pub enum Values {
     Refused(Refusal),
 }
 
-// What is kept behind a value, when `passed` others are in front of it. A function of its own, since a branch inside the loop would meet again.
+// What is kept behind a value that `passed` others stand in front of. Not written inside the loop, where its branches would join again.
 fn keep(kept: FoundValue, value: FoundValue, index: Index, passed: usize) -> FoundValue
     ensures { λ r. ⌜ r ≡ keptOf index passed kept value ⌝ }
 {
