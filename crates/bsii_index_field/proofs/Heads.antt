@@ -17,7 +17,7 @@ use Rattle.bsii_string.specs.declared.answers.Refusal.{Refusal}
 use Rattle.bsii_prototype.proofs.Beginnings.{head-marked, marked, defining-whole}
 use Rattle.bsii_derived.specs.IndexCalls.{demand, PrototypeHead, prototypeHead}
 use Rattle.bsii_index_field.specs.Looks.{namedHead, markedHead, headOf}
-use Rattle.bsii_index_field.specs.declared.Prototype.the-variants.{Prototype as Read, Refused}
+use Rattle.bsii_index_field.specs.declared.prototypes.Prototype.the-variants.{Prototype as Read, Refused}
 
 -- ---- a number that must be k, for the block at b
 

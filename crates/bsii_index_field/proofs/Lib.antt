@@ -1,5 +1,6 @@
 -- Laws of the look-up by an index.
 pub mod Heads
-pub mod Prototypes
-pub mod Blocks
+pub mod Definitions
+pub mod BlockHeads
+pub mod Values
 pub mod Looks

@@ -1,41 +1,33 @@
 -- The look-up's answers, by what was read.
-use mathlib.Core.Path.{_≡_, refl, sym, ap, _∙_}
-use Prim.Native.Nat.{ℕ, _+_, _-_, _≤_, _<_}
-use native.Mathlib.Omega.{arith}
-use mathlib.Core.Option.{Option, Option·map}
-use mathlib.Core.List.{List, []}
-use lib.ListN.{length, take, drop}
+use mathlib.Core.Path.{_≡_, sym, ap, _∙_}
+use Prim.Native.Nat.{ℕ, _≤_, _<_}
+use mathlib.Core.List.{List}
+use lib.ListN.{length, drop}
 use borrow.Author.Tests.{le-leb, lt-leb}
 use Rattle.bsii_format.specs.Replies.{inputLong, absent}
 use Rattle.bsii_format.specs.Reader.{ok, fault}
 use Rattle.bsii_format.specs.Numbers.{number}
-use Rattle.bsii_format.specs.Prototypes.{Prototype as PrototypeOf, fieldsParser}
-use Rattle.bsii_format.specs.Blocks.{DataBlock}
+use Rattle.bsii_format.specs.Prototypes.{fieldsParser}
 use Rattle.bsii_format.specs.File.{lengthLimit}
-use Rattle.bsii_format.specs.Calls.{fieldUnder, fieldAnswer, orAbsent, partOf}
-use Rattle.bsii_format.proofs.Parsers.{head-exact}
-use Rattle.bsii_format.proofs.Positions.{moved}
-use Rattle.bsii_string.specs.Answers.{faultIs, refusedAt, endOf}
+use Rattle.bsii_string.specs.Answers.{faultIs, refusedAt}
 use Rattle.bsii_string.specs.declared.answers.Refusal.{Refusal}
 use Rattle.bsii_string.specs.declared.answers.Parsed.{Parsed}
 use Rattle.bsii_string.specs.declared.answers.Parsed.the-variants.{Next, Fault}
 use Rattle.bsii_string.proofs.Ends.{next-ok, fault-at}
-use Rattle.bsii_file_field.specs.Answers.{fieldIs}
-use Rattle.bsii_file_field.specs.FieldAnswers.{FieldPlaced}
 use Rattle.bsii_file_field.specs.declared.fields.FieldReply.{FieldReply}
-use Rattle.bsii_file_field.specs.declared.fields.FieldReply.the-variants.{Field, Refused}
+use Rattle.bsii_file_field.specs.declared.fields.FieldReply.the-variants.{Refused}
 use Rattle.bsii_index_record.specs.Records.{foundIs}
 use Rattle.bsii_index_record.specs.declared.IndexRecord.{IndexRecord}
 use Rattle.bsii_index_record.specs.declared.RecordAt.{RecordAt}
 use Rattle.bsii_index_record.specs.declared.RecordAt.the-variants.{Record, NoRecord}
 use Rattle.bsii_derived.specs.Index.{recordAt}
-use Rattle.bsii_derived.specs.IndexCalls.{blockAt, answering, fieldBy, indexFieldCall}
+use Rattle.bsii_derived.specs.IndexCalls.{answering, fieldBy, indexFieldCall}
 use Rattle.bsii_file_field.proofs.FieldCalls.{refused≢field}
-use Rattle.bsii_index_field.specs.Looks.{PrototypeRead, BlockRead, Looked, LookedUp}
-use Rattle.bsii_index_field.specs.declared.Prototype.{Prototype}
-use Rattle.bsii_index_field.specs.declared.Prototype.the-variants.{Prototype as Read, Refused as Unread}
-use Rattle.bsii_index_field.proofs.Prototypes.{stands, unstood}
-use Rattle.bsii_index_field.proofs.Blocks.{block-exact, blockOf, block-parts}
+use Rattle.bsii_index_field.specs.Looks.{PrototypeRead, blockHead, HeadRead, FieldRead, Looked, LookedUp}
+use Rattle.bsii_index_field.specs.declared.prototypes.Prototype.{Prototype}
+use Rattle.bsii_index_field.specs.declared.prototypes.Prototype.the-variants.{Prototype as Read, Refused as Unread}
+use Rattle.bsii_index_field.proofs.Definitions.{stands, unstood}
+use Rattle.bsii_index_field.proofs.BlockHeads.{block-head-exact, block-cut, block-values}
 
 -- ---- at the record's offsets
 
@@ -44,40 +36,24 @@ module _ {version : ℕ} {s : List ℕ} {at o : ℕ} {u : Prototype} (h : Protot
   unfolding answering
   look-unread z = record { reply = sym (rw (unstood h z)); inside = λ t a n w. refused≢field w }
 
-  module _ {id fields : ℕ} (z : u ≡ Read id fields) {q : Parsed} (w : BlockRead version s at id fields q) where
-    block-end : q ≡ endOf (blockAt version (stands h z .p) at (drop at s))
-    block-end =
-        let x = stands h z in
-        w .ends (x .p) _ _ _ (x .idIs) refl (ap (λ (n : ℕ). fieldsParser n (drop n s)) (sym (x .fieldsAt)) ∙ x .defined .list)
-
+  module _ {id fields : ℕ} (z : u ≡ Read id fields) {q : Parsed} (w : HeadRead s at id q) where
     pub look-bad : {name : List ℕ} {f : Refusal} → q ≡ Fault f → Looked version s at o name (Refused f)
     unfolding answering
-    look-bad y = record {
-      reply = sym (rw (stands h z .reads, fault-at (blockAt version (stands h z .p) at (drop at s)) (sym y ∙ block-end)));
-      inside = λ t a n w. refused≢field w;
-    }
+    look-bad y =
+        let x = stands h z in
+        let e = fault-at (blockHead (x .p) at (drop at s)) (sym y ∙ w .ends (x .p) (x .idIs)) in
+        record { reply = sym (rw (x .reads, block-cut version (x .p) s at e)); inside = λ t a n w. refused≢field w }
 
-    module _ {n : ℕ} (y : q ≡ Next n) where
-      block-read : (b : DataBlock) × (blockAt version (stands h z .p) at (drop at s) ≡ ok b n (drop n s))
-      block-read = next-ok (block-exact version (stands h z .p)) s at (sym y ∙ block-end)
-
-      pub look-room : at + 4 ≤ length s
-      look-room =
-          let m = moved head-exact s at (block-parts (stands h z .defined) (block-read .1) .0 .head) in
-          omega (arith, m .taken)
-
-      pub look-placed : {name : List ℕ} {r : FieldReply} → FieldPlaced version s (blockOf at o n) name r
-          → Looked version s at o name r
-      unfolding answering
-      look-placed {name} v =
-          let b = block-read in
-          let x = block-parts (stands h z .defined) (b .1) in
-          record {
-            reply = v .answers _ _ (x .0)
-                ∙ ap (λ (p : Option PrototypeOf). orAbsent (Option·map fieldAnswer (fieldUnder name (record { offset = at; it = b .0 }) p))) (x .1)
-                ∙ sym (rw (stands h z .reads, b .1));
-            inside = v .inside;
-          }
+    pub look-read : {start : ℕ} → q ≡ Next start → {name : List ℕ} {r : FieldReply} → FieldRead version s fields start name r → Looked version s at o name r
+    unfolding answering
+    look-read y {name} v =
+        let x = stands h z in
+        let e = next-ok (block-head-exact (x .p)) s at (sym y ∙ w .ends (x .p) (x .idIs)) in
+        record {
+          reply = v .reply _ _ _ (ap (λ (n : ℕ). fieldsParser n (drop n s)) (sym (x .fieldsAt)) ∙ x .defined .list)
+              ∙ sym (rw (x .reads) (block-values version (x .p) s at name (e .1)));
+          inside = v .inside;
+        }
 
 -- ---- by the index
 

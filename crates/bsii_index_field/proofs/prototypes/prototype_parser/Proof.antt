@@ -1,9 +1,9 @@
 use mathlib.Core.Path.{sym, _∙_}
 use denote.Ref.{now}
-use Rattle.bsii_index_field.proofs.Prototypes.{no-head, no-list, listed}
+use Rattle.bsii_index_field.proofs.Definitions.{no-head, no-list, listed}
 use borrow.Author.Needs.{needs}
-use Rattle.bsii_index_field.proofs.prototype_parser.Statement.{statement}
-use Rattle.bsii_index_field.proofs.prototype_parser.Tie as tie
+use Rattle.bsii_index_field.proofs.prototypes.prototype_parser.Statement.{statement}
+use Rattle.bsii_index_field.proofs.prototypes.prototype_parser.Tie as tie
 
 prototype-head-requires : tie.Need-prototype-head-requires
 prototype-head-requires c κs = search needs

@@ -2,10 +2,10 @@ use mathlib.Core.Path.{sym, ap, _∙_}
 use native.Mathlib.Omega.{arith}
 use denote.Ref.{now}
 use Rattle.bsii_string.specs.Answers.{numOf}
-use Rattle.bsii_index_field.proofs.Blocks.{block-cut, block-zero, block-other, block-own}
+use Rattle.bsii_index_field.proofs.BlockHeads.{head-cut, head-zero, head-other, head-own}
 use borrow.Author.Needs.{needs}
-use Rattle.bsii_index_field.proofs.block_parser.Statement.{statement}
-use Rattle.bsii_index_field.proofs.block_parser.Tie as tie
+use Rattle.bsii_index_field.proofs.blocks.block_head.Statement.{statement}
+use Rattle.bsii_index_field.proofs.blocks.block_head.Tie as tie
 
 le-u32-requires : tie.Need-le-u32-requires
 le-u32-requires c κs = search needs
@@ -23,7 +23,7 @@ returns : tie.Need-returns
 returns c =
     let a = c .before .before .before .before .before .before .before .args in
     let e = sym (c .before .before .before .before .before .le-u32 .ensures) ∙ ap (numOf (now (a .s))) (c .before .before .before .number2 .given .1) in
-    rw (c .refused .ensures) (block-zero e (omega arith))
+    rw (c .refused .ensures) (head-zero e (omega arith))
 
 refused-requires-2 : tie.Need-refused-requires-2
 refused-requires-2 c κs = search needs
@@ -31,30 +31,25 @@ refused-requires-2 c κs = search needs
 returns-2 : tie.Need-returns-2
 returns-2 c =
     let a = c .before .before .before .before .before .before .before .before .args in
-    let e =
-    sym (c .before .before .before .before .before .before .le-u32 .ensures)
-    ∙ ap (numOf (now (a .s))) (c .before .before .before .before .number2 .given .1) in
-    rw (c .refused2 .ensures) (block-other e (λ x. omega (arith, x)))
+    let e = sym (c .before .before .before .before .before .before .le-u32 .ensures) ∙ ap (numOf (now (a .s))) (c .before .before .before .before .number2 .given .1) in
+    rw (c .refused2 .ensures) (head-other e (λ x. omega (arith, x)))
 
-body-parser-requires : tie.Need-body-parser-requires
-body-parser-requires c κs = search needs
+id-parser-requires : tie.Need-id-parser-requires
+id-parser-requires c κs = search needs
 
 returns-3 : tie.Need-returns-3
 returns-3 c =
     let a = c .before .before .before .before .before .args in
-    let e = sym (c .before .before .before .le-u32 .ensures) ∙ ap (numOf (now (a .s))) (c .before .number .given .1) in
-    block-cut e
+    head-cut (sym (c .before .before .before .le-u32 .ensures) ∙ ap (numOf (now (a .s))) (c .before .number .given .1))
 
 returns-4 : tie.Need-returns-4
 returns-4 c =
     let a = c .before .before .before .before .before .before .before .before .args in
-    let e =
-    sym (c .before .before .before .before .before .before .le-u32 .ensures)
-    ∙ ap (numOf (now (a .s))) (c .before .before .before .before .number2 .given .1) in
-    block-own e (λ x. omega (arith, x)) (omega arith) (c .body-parser .ensures)
+    let e = sym (c .before .before .before .before .before .before .le-u32 .ensures) ∙ ap (numOf (now (a .s))) (c .before .before .before .before .number2 .given .1) in
+    head-own e (λ x. omega (arith, x)) (omega arith) (c .id-parser .ensures)
 
-pub block-parser-spec : {M : Type 1} → statement M
-block-parser-spec =
+pub block-head-spec : {M : Type 1} → statement M
+block-head-spec =
     tie.close
     (tie.spec
     le-u32-requires
@@ -64,6 +59,6 @@ block-parser-spec =
     returns
     refused-requires-2
     returns-2
-    body-parser-requires
+    id-parser-requires
     returns-3
     returns-4)

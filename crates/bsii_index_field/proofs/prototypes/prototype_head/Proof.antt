@@ -4,8 +4,8 @@ use denote.Ref.{now}
 use Rattle.bsii_string.specs.Answers.{numOf}
 use Rattle.bsii_index_field.proofs.Heads.{zero-short, zero-not, zero-on}
 use borrow.Author.Needs.{needs}
-use Rattle.bsii_index_field.proofs.prototype_head.Statement.{statement}
-use Rattle.bsii_index_field.proofs.prototype_head.Tie as tie
+use Rattle.bsii_index_field.proofs.prototypes.prototype_head.Statement.{statement}
+use Rattle.bsii_index_field.proofs.prototypes.prototype_head.Tie as tie
 
 le-u32-requires : tie.Need-le-u32-requires
 le-u32-requires c κs = search needs

@@ -19,8 +19,8 @@ use Rattle.bsii_block.specs.Blocks.{DefinedAt}
 use Rattle.bsii_parse.proofs.Passing.{counted-fault, counted-is}
 use Rattle.bsii_derived.specs.IndexCalls.{PrototypeHead, prototypeHead, prototypeWith, prototypeAt}
 use Rattle.bsii_index_field.specs.Looks.{headOf, PrototypeRead, read, unread}
-use Rattle.bsii_index_field.specs.declared.Prototype.{Prototype}
-use Rattle.bsii_index_field.specs.declared.Prototype.the-variants.{Prototype as Read, Refused}
+use Rattle.bsii_index_field.specs.declared.prototypes.Prototype.{Prototype}
+use Rattle.bsii_index_field.specs.declared.prototypes.Prototype.the-variants.{Prototype as Read, Refused}
 use Rattle.bsii_index_field.proofs.Heads.{head-defines}
 
 pub consumed-fault : {A : Type 0} (R : Reader A) {at : ℕ} {s : List ℕ} {x : Fault} → R at s ≡ fault x → consumed R at s ≡ fault x

@@ -6,8 +6,8 @@ use Rattle.bsii_format.proofs.Parsers.{str-exact}
 use Rattle.bsii_string.proofs.Ends.{next-ok, fault-at}
 use Rattle.bsii_index_field.proofs.Heads.{named-short, named-cut, named-whole}
 use borrow.Author.Needs.{needs}
-use Rattle.bsii_index_field.proofs.named_head.Statement.{statement}
-use Rattle.bsii_index_field.proofs.named_head.Tie as tie
+use Rattle.bsii_index_field.proofs.prototypes.named_head.Statement.{statement}
+use Rattle.bsii_index_field.proofs.prototypes.named_head.Tie as tie
 
 le-u32-requires : tie.Need-le-u32-requires
 le-u32-requires c κs = search needs

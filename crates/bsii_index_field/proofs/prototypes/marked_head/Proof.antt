@@ -5,8 +5,8 @@ use denote.Ref.{now}
 use Rattle.bsii_string.specs.Answers.{numOf}
 use Rattle.bsii_index_field.proofs.Heads.{mark-short, mark-not, mark-one}
 use borrow.Author.Needs.{needs}
-use Rattle.bsii_index_field.proofs.marked_head.Statement.{statement}
-use Rattle.bsii_index_field.proofs.marked_head.Tie as tie
+use Rattle.bsii_index_field.proofs.prototypes.marked_head.Statement.{statement}
+use Rattle.bsii_index_field.proofs.prototypes.marked_head.Tie as tie
 
 le-u8-requires : tie.Need-le-u8-requires
 le-u8-requires c κs = search needs
