@@ -135,7 +135,10 @@ fn answer(
             writeln!(out, "end {}", file.end())?;
             writeln!(out, "version {}", file.version())
         }),
-        Question::Prototypes => output::write(output, |out| list::prototypes(out, &file)),
+        Question::Prototypes => {
+            index_of(&file)?;
+            output::write(output, |out| list::prototypes(out, &file))
+        }
         Question::Prototype(id) => {
             let prototype = file.get_prototype(*id)?;
             output::write(output, |out| {
@@ -144,8 +147,12 @@ fn answer(
                 writeln!(out, "fields {}", prototype.fields)
             })
         }
-        Question::Blocks => output::write(output, |out| list::blocks(out, &file)),
+        Question::Blocks => {
+            index_of(&file)?;
+            output::write(output, |out| list::blocks(out, &file))
+        }
         Question::BlocksNamed(name) => {
+            index_of(&file)?;
             file.nth_by_prototype_name(name, 0)?;
             output::write(output, |out| list::blocks_named(out, &file, name))
         }
@@ -167,14 +174,19 @@ fn answer(
             let field = file.field(*block, name)?;
             output::write(output, |out| show::field(out, field))
         }
-        Question::Index => match file.index() {
-            Some(index) => output::write(output, |out| out.write_all(index)),
-            None => {
-                let error = io::ErrorKind::OutOfMemory.into();
-                Err(Failure::Io("the index".into(), error))
-            }
-        },
+        Question::Index => {
+            let index = index_of(&file)?;
+            output::write(output, |out| out.write_all(index))
+        }
         // That it fits was found out above.
         Question::Check => Ok(()),
     }
+}
+
+/// A list wants it too: without an index the save would be read again for each line.
+fn index_of<'f>(file: &'f BsiiFile) -> Result<&'f [u8], Failure> {
+    file.index().ok_or_else(|| {
+        let error = io::ErrorKind::OutOfMemory.into();
+        Failure::Io("the index".into(), error)
+    })
 }
