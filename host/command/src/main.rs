@@ -16,6 +16,7 @@ mod walk;
 
 use arguments::{Arguments, Question, HELP, VERSION};
 use input::Index;
+use list::ById;
 use sii_decode::{BsiiFile, Refusal};
 use std::ffi::OsString;
 use std::io::{self, Write};
@@ -106,7 +107,7 @@ fn said(text: &str) -> Result<u8, Failure> {
     output::write(None, |out| out.write_all(text.as_bytes())).map(|()| 0)
 }
 
-// What can be refused is asked before the output is opened.
+// What can be refused, or lacks memory, is asked before the output is opened.
 
 fn text(content: &[u8], output: Option<&Path>) -> Result<(), Failure> {
     let text = sii_decode::to_siin(content)?;
@@ -136,8 +137,8 @@ fn answer(
             writeln!(out, "version {}", file.version())
         }),
         Question::Prototypes => {
-            index_of(&file)?;
-            output::write(output, |out| list::prototypes(out, &file))
+            let mut by_id = by_id(&file)?;
+            output::write(output, |out| list::prototypes(out, &file, &mut by_id))
         }
         Question::Prototype(id) => {
             let prototype = file.get_prototype(*id)?;
@@ -148,13 +149,15 @@ fn answer(
             })
         }
         Question::Blocks => {
-            index_of(&file)?;
-            output::write(output, |out| list::blocks(out, &file))
+            let mut by_id = by_id(&file)?;
+            output::write(output, |out| list::blocks(out, &file, &mut by_id))
         }
         Question::BlocksNamed(name) => {
-            index_of(&file)?;
+            let mut by_id = by_id(&file)?;
             file.nth_by_prototype_name(name, 0)?;
-            output::write(output, |out| list::blocks_named(out, &file, name))
+            output::write(output, |out| {
+                list::blocks_named(out, &file, &mut by_id, name)
+            })
         }
         Question::Block(number) => {
             let block = file.block(*number)?;
@@ -183,10 +186,16 @@ fn answer(
     }
 }
 
-/// A list wants it too: without an index the save would be read again for each line.
 fn index_of<'f>(file: &'f BsiiFile) -> Result<&'f [u8], Failure> {
-    file.index().ok_or_else(|| {
-        let error = io::ErrorKind::OutOfMemory.into();
-        Failure::Io("the index".into(), error)
-    })
+    file.index().ok_or_else(|| no_memory("the index"))
+}
+
+/// Without an index the save would be read again for each line.
+fn by_id<'a>(file: &BsiiFile<'a>) -> Result<ById<'a>, Failure> {
+    index_of(file)?;
+    ById::of(file).map_err(|_| no_memory("the list"))
+}
+
+fn no_memory(what: &str) -> Failure {
+    Failure::Io(what.into(), io::ErrorKind::OutOfMemory.into())
 }
