@@ -86,7 +86,8 @@ fn run(words: Vec<OsString>, message: &mut Vec<u8>) -> Result<u8, Failure> {
         None => None,
     };
     let (question, output) = (asked.question.as_ref(), asked.output.as_deref());
-    if let (Some(Question::Index), Some(output)) = (question, output) {
+    // Only the text may take the save's place.
+    if let (Some(_), Some(output)) = (question, output) {
         output::not_what_was_read(output, &asked.save, "save")?;
     }
     if let (Some(index), Some(output)) = (&asked.index, output) {
