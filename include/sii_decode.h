@@ -68,8 +68,8 @@ enum {
      * The bytes run out in an item: a number, a byte, or the bytes of a string behind its length. Offset: where that item starts. The answer's
      * `lacking` is how many bytes of that one item are not there, from 1 up to its size; a string's can be as large as 4294967295. With so many
      * bytes more the refusal is gone or another, but where an index has sent sii_field_by_index behind the end of the file: there all of the item is
-     * lacking. Every cut of a file that is read gives this, if at least 4 bytes are left and not the whole end record, and the table has room for
-     * the file's prototypes.
+     * lacking. Every cut of a file that is read gives this by every call that reads the whole file, if at least 4 bytes are left and not the whole
+     * end record, and the table has room for the file's prototypes; sii_field_by_index does not notice a cut behind its block.
      */
     SII_MALFORMED = 3,
     /* A string is not UTF-8. Offset: its first byte after its length. */

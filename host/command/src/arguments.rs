@@ -111,9 +111,9 @@ impl Wants {
 
     fn value(self) -> &'static str {
         match self {
-            Wants::Output => "FILE",
-            Wants::Index => "FILE",
-            Wants::Into => "DIR",
+            Wants::Output => "a FILE",
+            Wants::Index => "an INDEX",
+            Wants::Into => "a DIR",
         }
     }
 }
@@ -170,9 +170,9 @@ impl Words {
         };
         let (name, wanted) = (option.name(), option.value());
         match value {
-            None => usage(format!("{} wants a {wanted}", show::path(word))),
+            None => usage(format!("{} wants {wanted}", show::path(word))),
             Some(value) if value.is_empty() => {
-                usage(format!("{name} wants a {wanted}, and its name is empty"))
+                usage(format!("{name} wants {wanted}, and its name is empty"))
             }
             Some(value) => match place.replace(value) {
                 Some(_) => usage(format!("{name} is given twice")),

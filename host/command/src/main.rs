@@ -16,6 +16,7 @@ mod walk;
 
 use arguments::{Arguments, Question, HELP, VERSION};
 use input::Index;
+use list::ById;
 use sii_decode::{BsiiFile, Refusal};
 use std::ffi::OsString;
 use std::io::{self, Write};
@@ -85,7 +86,8 @@ fn run(words: Vec<OsString>, message: &mut Vec<u8>) -> Result<u8, Failure> {
         None => None,
     };
     let (question, output) = (asked.question.as_ref(), asked.output.as_deref());
-    if let (Some(Question::Index), Some(output)) = (question, output) {
+    // Only the text may take the save's place.
+    if let (Some(_), Some(output)) = (question, output) {
         output::not_what_was_read(output, &asked.save, "save")?;
     }
     if let (Some(index), Some(output)) = (&asked.index, output) {
@@ -106,7 +108,7 @@ fn said(text: &str) -> Result<u8, Failure> {
     output::write(None, |out| out.write_all(text.as_bytes())).map(|()| 0)
 }
 
-// What can be refused is asked before the output is opened.
+// What can be refused, or lacks memory, is asked before the output is opened.
 
 fn text(content: &[u8], output: Option<&Path>) -> Result<(), Failure> {
     let text = sii_decode::to_siin(content)?;
@@ -135,7 +137,10 @@ fn answer(
             writeln!(out, "end {}", file.end())?;
             writeln!(out, "version {}", file.version())
         }),
-        Question::Prototypes => output::write(output, |out| list::prototypes(out, &file)),
+        Question::Prototypes => {
+            let mut by_id = by_id(&file)?;
+            output::write(output, |out| list::prototypes(out, &file, &mut by_id))
+        }
         Question::Prototype(id) => {
             let prototype = file.get_prototype(*id)?;
             output::write(output, |out| {
@@ -144,10 +149,16 @@ fn answer(
                 writeln!(out, "fields {}", prototype.fields)
             })
         }
-        Question::Blocks => output::write(output, |out| list::blocks(out, &file)),
+        Question::Blocks => {
+            let mut by_id = by_id(&file)?;
+            output::write(output, |out| list::blocks(out, &file, &mut by_id))
+        }
         Question::BlocksNamed(name) => {
+            let mut by_id = by_id(&file)?;
             file.nth_by_prototype_name(name, 0)?;
-            output::write(output, |out| list::blocks_named(out, &file, name))
+            output::write(output, |out| {
+                list::blocks_named(out, &file, &mut by_id, name)
+            })
         }
         Question::Block(number) => {
             let block = file.block(*number)?;
@@ -167,14 +178,25 @@ fn answer(
             let field = file.field(*block, name)?;
             output::write(output, |out| show::field(out, field))
         }
-        Question::Index => match file.index() {
-            Some(index) => output::write(output, |out| out.write_all(index)),
-            None => {
-                let error = io::ErrorKind::OutOfMemory.into();
-                Err(Failure::Io("the index".into(), error))
-            }
-        },
+        Question::Index => {
+            let index = index_of(&file)?;
+            output::write(output, |out| out.write_all(index))
+        }
         // That it fits was found out above.
         Question::Check => Ok(()),
     }
+}
+
+fn index_of<'f>(file: &'f BsiiFile) -> Result<&'f [u8], Failure> {
+    file.index().ok_or_else(|| no_memory("the index"))
+}
+
+/// Without an index the save would be read again for each line.
+fn by_id<'a>(file: &BsiiFile<'a>) -> Result<ById<'a>, Failure> {
+    index_of(file)?;
+    ById::of(file).map_err(|_| no_memory("the list"))
+}
+
+fn no_memory(what: &str) -> Failure {
+    Failure::Io(what.into(), io::ErrorKind::OutOfMemory.into())
 }

@@ -6,7 +6,7 @@ use std::fs::{self, File, Metadata, OpenOptions, Permissions};
 use std::io::{self, BufWriter, ErrorKind, Write};
 use std::os::fd::AsFd;
 use std::os::unix::ffi::OsStrExt;
-use std::os::unix::fs::{fchown, MetadataExt, OpenOptionsExt, PermissionsExt};
+use std::os::unix::fs::{fchown, FileTypeExt, MetadataExt, OpenOptionsExt, PermissionsExt};
 use std::path::{Path, PathBuf};
 use std::process;
 
@@ -130,12 +130,17 @@ pub fn not_what_was_read(path: &Path, input: &OsStr, what: &str) -> Result<(), F
         false => fs::metadata(input),
     };
     match (fs::metadata(path), read) {
-        (Ok(there), Ok(read)) if same_file(&there, &read) => {
+        (Ok(there), Ok(read)) if same_file(&there, &read) && keeps_bytes(&there) => {
             let error = io::Error::other(format!("it is the {what} itself, and stays as it is"));
             Err(Failure::Io(show::path(path.as_os_str()), error))
         }
         _ => Ok(()),
     }
+}
+
+/// A terminal, a pipe or a socket may be both input and output: nothing is lost.
+fn keeps_bytes(there: &Metadata) -> bool {
+    there.is_file() || there.file_type().is_block_device()
 }
 
 fn input_metadata() -> io::Result<Metadata> {

@@ -7,8 +7,8 @@ use calls::{Call, Length};
 use generate::index::{changed, changed_file, hostile, inside_a_string};
 use generate::Random;
 
-/// Wrong indexes of a file that are checked.
-const CHECKED: usize = 4;
+/// Wrong indexes of a file that are checked, and looked up by.
+const WRONG: usize = 4;
 /// Indexes of a file that point anywhere, and files that a right index is not of.
 const HOSTILE: usize = 6;
 /// Look-ups by each of these.
@@ -22,8 +22,10 @@ impl<'b> Pair<'_, 'b> {
         self.write_index(plan.words)?;
         let index = &plan.index.index;
         self.check(index, plan.words)?;
-        for _ in 0..CHECKED {
-            self.check(&changed(random, index), plan.words)?;
+        for _ in 0..WRONG {
+            let wrong = changed(random, index);
+            self.check(&wrong, plan.words)?;
+            self.some(&wrong, &plan.index, random)?;
         }
         for block in &plan.blocks {
             for name in &plan.names {
@@ -82,7 +84,7 @@ impl<'b> Pair<'_, 'b> {
         Ok(())
     }
 
-    fn check(&mut self, index: &[u8], words: usize) -> Check {
+    pub fn check(&mut self, index: &[u8], words: usize) -> Check {
         let answer = self.both(Call::CheckIndex { index }, words)?;
         self.tally.checks[answer.number() as usize] += 1;
         Ok(())

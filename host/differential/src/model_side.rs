@@ -5,6 +5,7 @@ use crate::report::{Check, Difference, Tally};
 use crate::side::Side;
 use crate::stand_in::StandIn;
 use calls::{Answer, Call, Implementation, Lent, Text};
+use generate::index::changed;
 use generate::Random;
 use model::Model;
 
@@ -143,12 +144,14 @@ impl Pair<'_, '_> {
             3 * exact + 40,
         ];
         for _ in 0..TABLE_SIZES {
-            self.table_size(plan, random.pick(&sizes))?;
+            let wrong = changed(random, &plan.index.index);
+            self.table_size(plan, &wrong, random.pick(&sizes))?;
         }
         Ok(())
     }
 
-    fn table_size(&mut self, plan: &Plan, words: usize) -> Check {
+    /// All calls with a table. With a wrong index, because a full table comes before a misfit.
+    fn table_size(&mut self, plan: &Plan, wrong: &[u8], words: usize) -> Check {
         let name = plan.names.last().expect("some are always asked for");
         let calls = [
             Call::Read,
@@ -156,13 +159,13 @@ impl Pair<'_, '_> {
             Call::BlockAt { n: 0 },
             Call::BlocksByPrototypeName { name, n: 0 },
             Call::FieldOf { block: 0, name },
-            Call::CheckIndex {
-                index: &plan.index.index,
-            },
             Call::DefinesOnce,
         ];
         for call in calls {
             self.both(call, words)?;
+        }
+        for index in [&plan.index.index, wrong] {
+            self.check(index, words)?;
         }
         self.write_index(words)?;
         self.text(words)

@@ -73,6 +73,7 @@ enum Fault {
     CheckComparesBlockOffsets,
     CheckIgnoresWhatIsBehind,
     MisfitBeforeFaults,
+    MisfitBeforeAFullTable,
     MisfitAtTheByte,
     MisfitAtTheLength,
     LookUpStopsAtTheValue,
@@ -142,7 +143,7 @@ const FAULTS: [Fault; 47] = [
 ];
 
 /// About an index, each with the check that finds it out first.
-const INDEX_FAULTS: [(Fault, &str); 25] = [
+const INDEX_FAULTS: [(Fault, &str); 26] = [
     (Fault::IndexWrittenBeforeRefusing, "library: output"),
     (Fault::IndexOfTheLastDefinition, "library and Rust: index"),
     (Fault::IndexLengthInRecords, "library: write_index"),
@@ -164,6 +165,10 @@ const INDEX_FAULTS: [(Fault, &str); 25] = [
         "library and model: check_index",
     ),
     (Fault::MisfitBeforeFaults, "library and model: check_index"),
+    (
+        Fault::MisfitBeforeAFullTable,
+        "library and model: check_index",
+    ),
     (Fault::MisfitAtTheByte, "library and model: check_index"),
     (Fault::MisfitAtTheLength, "library and model: check_index"),
     (
@@ -661,17 +666,26 @@ impl Impostor {
         answer.checked()
     }
 
+    /// Whether the first block stands in front of the offset, and its record differs.
+    fn misfit_in_front(&mut self, index: &[u8], file: &[u8], offset: u64) -> bool {
+        let own = self.model.in_front_of_fault(file).index();
+        let first = own.first_chunk::<RECORD>();
+        first.is_some_and(|own| number(own, 0) < offset as usize && !index.starts_with(own))
+    }
+
     fn checked(&mut self, answer: Checked, call: Call<'_>, file: &[u8]) -> Checked {
         let Call::CheckIndex { index } = call else {
             return answer;
         };
-        if matches!(answer.number, 3..=7) && self.is(Fault::MisfitBeforeFaults) {
-            let in_front = self.model.in_front_of_fault(file).index();
-            let differs = in_front.len() >= RECORD && !index.starts_with(&in_front[..RECORD]);
-            return if differs {
-                Checked::refused(14, 0)
-            } else {
-                answer
+        let stops_at_a_misfit = match answer.number {
+            3..=7 => self.is(Fault::MisfitBeforeFaults),
+            10 => self.is(Fault::MisfitBeforeAFullTable),
+            _ => false,
+        };
+        if stops_at_a_misfit {
+            return match self.misfit_in_front(index, file, answer.offset) {
+                true => Checked::refused(14, 0),
+                false => answer,
             };
         }
         if answer.number != 14 {

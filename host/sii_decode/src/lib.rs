@@ -1,6 +1,8 @@
 //! The proved converter from BSII saves to SiiNunit text, under the names of the Rust that it was
-//! ported from. Every answer is the library's; this crate lends it buffers that fit, and puts
-//! slices and values in the place of offsets and numbers.
+//! ported from. Whether a save is read, its text, its index, and a field with its elements are the
+//! library's answers: this crate lends it buffers that fit, and puts slices and values in the place
+//! of offsets and numbers. Blocks with their ids, prototypes and definitions are read here, in safe
+//! Rust, where the index leads; tests compare them with what the library's calls find.
 //!
 //! ```
 //! let save = b"BSII\x02\0\0\0\0\0\0\0\0";
