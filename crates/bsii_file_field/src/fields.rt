@@ -57,7 +57,7 @@ fn field_found(s: &[u8], version: u32, b: Block, name: &[u8]) -> FoundValue
     }
 }
 
-pub fn placed(s: &[u8], version: u32, b: Block, name: &[u8]) -> FieldReply
+fn placed(s: &[u8], version: u32, b: Block, name: &[u8]) -> FieldReply
     ensures { λ r. ⌜ FieldPlaced version (now (s .entry)) b (now (name .entry)) r ⌝ }
 {
     let found = field_found(s, version, b, name);
