@@ -170,9 +170,7 @@ fits-file w words s i e q = let x = checks-exactly w words s i .0 e in x .4 ∙ 
 
 pub answers-as-walk : AnswersAsWalk
 unfolding fieldCall definesOnceCall readingCall readingOf ofFile
-answers-as-walk w s h words i e o a g words′ m k name =
-    let x = checks-exactly w words s i .0 e in
-    go (x .0) (x .1) (x .2) (x .3) (x .4)
+answers-as-walk w s h words i e o a g words′ m k name = go (checks-exactly w words s i .0 e)
   where
     once-is : (b : Bool) → _≡_ {A = Reply ℕ} (gives (cond b 1 0)) (gives 1) → b ≡ true
     once-is true z = refl
@@ -181,8 +179,8 @@ answers-as-walk w s h words i e o a g words′ m k name =
     div-room : {n : ℕ} → 3 * n ≤ words′ → n ≤ words′ / 3
     div-room {n} l = le-div-iff-mul-le {k = 3} (omega arith) .1 (omega (arith, l))
 
-    go : (f : BsiiFile) (at : ℕ) (r : List ℕ) → parse words s ≡ ok f at r → i ≡ indexBytesOf w f → indexFieldCall w s i k name ≡ fieldCall words′ s k name
-    go f at r q z =
+    go : (f : BsiiFile) × (at : ℕ) × (r : List ℕ) × (parse words s ≡ ok f at r) × (i ≡ indexBytesOf w f) → indexFieldCall w s i k name ≡ fieldCall words′ s k name
+    go (f, at, r, q, z) =
         let d = was-read words s q in
         let c : a ≡ readingOf f at = sym (gives-inj (sym (ap (ofFile (λ f at. gives (readingOf f at))) q) ∙ g)) in
         let t = once-is (once (prototypesOf (f .records))) (sym (ap (ofFile (λ f at. gives (cond (once (prototypesOf (f .records))) 1 0))) q) ∙ o) in
