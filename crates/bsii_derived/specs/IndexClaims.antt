@@ -31,7 +31,7 @@ pub record Held (w : ℕ) (e : IndexRecord) : Type 0 where
   pub prototype : e .prototype < 256 ^ w
   pub fields : e .fields < 256 ^ w
 
--- so is every record, number k, of the index of the file s, if it is read
+-- and so with every record, by its number k, of the index of the file s, if it is read
 abbrev pub AllHeld : (w : ℕ) (s : List ℕ) → Type 0
 AllHeld w s = (words : ℕ) (f : BsiiFile) (at : ℕ) (r : List ℕ) → parse words s ≡ ok f at r → (k : ℕ) (e : IndexRecord) → getElem? (indexOf f) k ≡ some e → Held w e
 
