@@ -12,6 +12,7 @@ use Rattle.bsii_format.specs.Reader.{ok, _>>=_, success, after, bytes, _<$>_}
 use Rattle.bsii_format.specs.Numbers.{littleEndian, number, le}
 use Rattle.bsii_format.proofs.Readers.{Fits, is-false, bind-fits, map-fits, bytes-fits}
 use Rattle.bsii_derived.specs.Index.{IndexRecord, indexRecordBytes, indexBytes, indexRecordParser, whole, recordAt}
+use Rattle.bsii_derived.specs.IndexClaims.{Held}
 
 pub none≢some : {A P : Type 0} {a : A} → _≡_ {A = Option A} none (some a) → P
 none≢some e = let z : _≡_ {A = ℕ} 0 1 = cc in let f : ⊥ = omega arith in absurd f
@@ -36,13 +37,6 @@ le-value (suc w) n h =
     ap (λ m. n % 256 + 256 * m) (le-value w (n / 256) z) ∙ omega (arith, div-add-mod' n 256)
 
 -- ---- records
-
--- each number of a record has w bytes or fewer
-pub record Held (w : ℕ) (r : IndexRecord) : Type 0 where
-  pub offset : r .offset < 256 ^ w
-  pub size : r .size < 256 ^ w
-  pub prototype : r .prototype < 256 ^ w
-  pub fields : r .fields < 256 ^ w
 
 number-fits : (w n : ℕ) → n < 256 ^ w → Fits ℕ (number w) n (le w n)
 unfolding number

@@ -9,7 +9,7 @@ use mathlib.Core.Option.{Option, none, some, Option·map}
 use mathlib.Core.List.{List, [], _∷_, _++_, append-assoc}
 use lib.ListN.{length, take, drop, getElem?, length-append}
 use lib.Seq.{drop-append-seam}
-use lib.Dec.{T, leb, le→leb}
+use lib.Dec.{T, leb, le→leb, lit≤}
 use Rattle.bsii_format.specs.Ascii.{ascii}
 use Rattle.bsii_format.specs.Replies.{Reply, gives, refused, refuses, refusal, invalidHeader, absent, misfit}
 use Rattle.bsii_format.specs.Reader.{Result, ok, fault, _>>=_, after, _<$>_, bytes, same, tag}
@@ -21,11 +21,12 @@ use Rattle.bsii_format.specs.BlockText.{orRefuse}
 use Rattle.bsii_format.specs.Calls.{ofFile, orAbsent, Placed, placed, placedRecords, blocksOf, Reading, readingOf, readingCall, fieldUnder, fieldIn, fieldAnswer, fieldOf, fieldCall}
 use Rattle.bsii_format.proofs.Readers.{Fits, ok-val, ok-move, after-ok, cond-ok, is-true, takes, same→eq, same-refl}
 use Rattle.bsii_format.proofs.File.{GoodFile, FileTaken, file-good, parse-ok, parse-fits}
+use Rattle.bsii_format.proofs.Records.{head-takes}
 use Rattle.bsii_format.proofs.ReplyLaws.{refuses≢gives, gives-inj}
-use Rattle.bsii_derived.specs.Index.{IndexRecord, indexRecord, indexOf, indexBytes, indexBytesOf, recordAt, agreeing}
+use Rattle.bsii_derived.specs.Index.{indexWidth, IndexRecord, indexRecord, indexOf, indexBytes, indexBytesOf, recordAt, agreeing}
 use Rattle.bsii_derived.specs.IndexCalls.{checked, checkIndexCall, prototypeAt, blockAt, answering, fieldBy, indexFieldCall, once, definesOnceCall}
-use Rattle.bsii_derived.specs.IndexClaims.{Wide, OnePerBlock, ChecksExactly, AnswersAsWalk}
-use Rattle.bsii_derived.proofs.Bytes.{none≢some, index-length, record-there, record-missing}
+use Rattle.bsii_derived.specs.IndexClaims.{OnePerBlock, ChecksExactly, Held, NumbersHeld, AnswersAsWalk, AtOwnWidth}
+use Rattle.bsii_derived.proofs.Bytes.{none≢some, some-is, index-length, record-there, record-missing}
 use Rattle.bsii_derived.proofs.Defined.{prototype-fits, block-fits}
 use Rattle.bsii_derived.proofs.Once.{found-id}
 use Rattle.bsii_derived.proofs.Entries.{sizeOf, Stands, PrototypeIn, BlockIn, Entry, neither, both, entry-at, entry-held}
@@ -113,13 +114,29 @@ checks-exactly w words s i = ((λ e. there (parse words s) refl e), (λ (f, at, 
     back : (f : BsiiFile) (at : ℕ) (r : List ℕ) → parse words s ≡ ok f at r → i ≡ indexBytesOf w f → checkIndexCall w words s i ≡ gives tt
     back f at r e z = rw (e, z, is-true (same (indexBytesOf w f) (indexBytesOf w f)) (same-refl (indexBytesOf w f))) refl
 
+-- ---- the numbers
+
+held-some : {version : ℕ} {s : List ℕ} {last : List Prototype} (w : ℕ) → length s ≤ 256 ^ w → {o : Option IndexRecord} {b : Option (Placed DataBlock)} {e : IndexRecord}
+    → Entry version s last o b → o ≡ some e → Held w e
+held-some w h neither z = none≢some z
+held-some w h (both b p i) z = subst (Held w) (some-is z) (entry-held w h b p i)
+
+pub numbers-held : NumbersHeld
+numbers-held w s h words f at r e k x z = held-some w h (entry (was-read words s e) k) z
+
 -- ---- look up
 
-wide-some : (w : ℕ) → Wide w → 0 < w
-wide-some zero h = absurd (omega (arith, h))
-wide-some (suc w) h = omega arith
-
 module _ {f : BsiiFile} {s r : List ℕ} (d : Read f s r) where
+  -- no file is read that has less than two bytes
+  some-bytes : (w : ℕ) → length s ≤ 256 ^ w → 0 < w
+  unfolding fileBytes headerParser _>>=_ after tag same
+  some-bytes zero h =
+      let x = takes headerParser (d .taken .good .header) refl in
+      let y = head-takes (d .taken .good .last) in
+      let e = rw (length-append, length-append, length-append) at (ap length (d .taken .front)) in
+      absurd (omega (arith, h, x, y, e))
+  some-bytes (suc w) h = omega arith
+
   -- at a record of the file's index the prototype and the block are read that stand there
   looked : (name : List ℕ) (b : Placed DataBlock) (p : Placed Prototype) → BlockIn (f .header .value) s (prototypesOf (f .records)) b p
       → fieldBy s name (some (indexRecord (b .offset) (b .it) p)) ≡ orAbsent (Option·map fieldAnswer (fieldUnder name b (some (p .it))))
@@ -131,18 +148,18 @@ module _ {f : BsiiFile} {s r : List ℕ} (d : Read f s r) where
       let z = subst (λ q. blockAt (f .header .value) q (b .offset) (drop (b .offset) s) ≡ ok (b .it) (b .offset + length (recordBytes (block (b .it)))) (i .bytes .0)) (i .under) y in
       rw (v .2, x, z) refl
 
-  by-entry : (w : ℕ) → Wide w → once (prototypesOf (f .records)) ≡ true → (k : ℕ) (name : List ℕ) → fieldBy s name (recordAt w (indexBytesOf w f) k) ≡ orAbsent (fieldOf k name f)
+  by-entry : (w : ℕ) → length s ≤ 256 ^ w → once (prototypesOf (f .records)) ≡ true → (k : ℕ) (name : List ℕ) → fieldBy s name (recordAt w (indexBytesOf w f) k) ≡ orAbsent (fieldOf k name f)
   unfolding fieldBy fieldOf fieldIn orRefuse
   by-entry w h o k name = go refl refl (entry d k)
     where
       go : {x : Option IndexRecord} {y : Option (Placed DataBlock)} → getElem? (indexOf f) k ≡ x → getElem? (blocksOf f) k ≡ y → Entry (f .header .value) s (prototypesOf (f .records)) x y
           → fieldBy s name (recordAt w (indexBytesOf w f) k) ≡ orAbsent (Option·map fieldAnswer (fieldIn name (prototypesOf (f .records)) (getElem? (blocksOf f) k)))
-      go e g neither = rw (record-missing w (indexOf f) k (wide-some w h) e, g) refl
+      go e g neither = rw (record-missing w (indexOf f) k (some-bytes w h) e, g) refl
       go e g (both b p i) =
-          ap (fieldBy s name) (record-there w (indexOf f) k e (entry-held w h (d .short) b p i)) ∙ looked name b p i
+          ap (fieldBy s name) (record-there w (indexOf f) k e (entry-held w h b p i)) ∙ looked name b p i
           ∙ rw (g, i .lasting o) refl
 
-pub looks-as-walk : {f : BsiiFile} {s r : List ℕ} → Read f s r → (w : ℕ) → Wide w → once (prototypesOf (f .records)) ≡ true → (k : ℕ) (name : List ℕ)
+pub looks-as-walk : {f : BsiiFile} {s r : List ℕ} → Read f s r → (w : ℕ) → length s ≤ 256 ^ w → once (prototypesOf (f .records)) ≡ true → (k : ℕ) (name : List ℕ)
     → indexFieldCall w s (indexBytesOf w f) k name ≡ orAbsent (fieldOf k name f)
 unfolding indexFieldCall
 looks-as-walk {s = s} d w h o k name = rw (is-true (leb (length s) lengthLimit) (le→leb (length s) lengthLimit (d .short))) (by-entry d w h o k name)
@@ -153,9 +170,7 @@ fits-file w words s i e q = let x = checks-exactly w words s i .0 e in x .4 ∙ 
 
 pub answers-as-walk : AnswersAsWalk
 unfolding fieldCall definesOnceCall readingCall readingOf ofFile
-answers-as-walk w h words s i e o a g words′ m k name =
-    let x = checks-exactly w words s i .0 e in
-    go (x .0) (x .1) (x .2) (x .3) (x .4)
+answers-as-walk w s h words i e o a g words′ m k name = go (checks-exactly w words s i .0 e)
   where
     once-is : (b : Bool) → _≡_ {A = Reply ℕ} (gives (cond b 1 0)) (gives 1) → b ≡ true
     once-is true z = refl
@@ -164,10 +179,21 @@ answers-as-walk w h words s i e o a g words′ m k name =
     div-room : {n : ℕ} → 3 * n ≤ words′ → n ≤ words′ / 3
     div-room {n} l = le-div-iff-mul-le {k = 3} (omega arith) .1 (omega (arith, l))
 
-    go : (f : BsiiFile) (at : ℕ) (r : List ℕ) → parse words s ≡ ok f at r → i ≡ indexBytesOf w f → indexFieldCall w s i k name ≡ fieldCall words′ s k name
-    go f at r q z =
+    go : (f : BsiiFile) × (at : ℕ) × (r : List ℕ) × (parse words s ≡ ok f at r) × (i ≡ indexBytesOf w f) → indexFieldCall w s i k name ≡ fieldCall words′ s k name
+    go (f, at, r, q, z) =
         let d = was-read words s q in
         let c : a ≡ readingOf f at = sym (gives-inj (sym (ap (ofFile (λ f at. gives (readingOf f at))) q) ∙ g)) in
         let t = once-is (once (prototypesOf (f .records))) (sym (ap (ofFile (λ f at. gives (cond (once (prototypesOf (f .records))) 1 0))) q) ∙ o) in
         let room : distinctIds (prototypesOf (f .records)) ≤ words′ / 3 = div-room (subst (λ (y : Reading). 3 * y .prototypes ≤ words′) c m) in
         ap (λ y. indexFieldCall w s y k name) z ∙ looks-as-walk d w h t k name ∙ sym (ap (ofFile (λ f at. orAbsent (fieldOf k name f))) (reads-again d words′ room))
+
+-- ---- at the calls' own width
+
+own-held : (words : ℕ) (s : List ℕ) {f : BsiiFile} {at : ℕ} {r : List ℕ} → parse words s ≡ ok f at r → length s ≤ 256 ^ indexWidth
+own-held words s e = let h : lengthLimit ≤ 256 ^ indexWidth = lit≤ tt in omega (arith, was-read words s e .short, h)
+
+pub at-own-width : AtOwnWidth
+at-own-width = record {
+  held = λ s words f at r e. numbers-held indexWidth s (own-held words s e) words f at r e;
+  looks = λ s words i e. let x = checks-exactly indexWidth words s i .0 e in answers-as-walk indexWidth s (own-held words s (x .3)) words i e;
+}

@@ -12,13 +12,13 @@ use lib.Dec.{T, eqb, eqb→eq}
 use Rattle.bsii_format.specs.Strings.{isSome}
 use Rattle.bsii_format.specs.Prototypes.{Prototype}
 use Rattle.bsii_format.specs.Blocks.{DataBlock, findBy, getPrototype}
-use Rattle.bsii_format.specs.File.{Record, prototype, block, fieldsBytes, valuesBytes, recordBytes, recordsBytes, define, defineAll, lengthLimit}
+use Rattle.bsii_format.specs.File.{Record, prototype, block, fieldsBytes, valuesBytes, recordBytes, recordsBytes, define, defineAll}
 use Rattle.bsii_format.specs.Calls.{Placed, placed, consBlock, blocksIn, consPrototype}
 use Rattle.bsii_format.proofs.Records.{GoodPrototype, GoodBlock, GoodRecords, nil, cons, fields-long, head-takes}
 use Rattle.bsii_derived.specs.Index.{IndexRecord, indexRecord, inForce, consUnder, consIndex, indexFrom}
 use Rattle.bsii_derived.specs.IndexCalls.{once}
-use Rattle.bsii_derived.specs.IndexClaims.{Wide}
-use Rattle.bsii_derived.proofs.Bytes.{none≢some, some-is, Held}
+use Rattle.bsii_derived.specs.IndexClaims.{Held}
+use Rattle.bsii_derived.proofs.Bytes.{none≢some, some-is}
 use Rattle.bsii_derived.proofs.Once.{known-once}
 
 abbrev pub sizeOf : Record → ℕ
@@ -119,9 +119,9 @@ module _ {version : ℕ} {s : List ℕ} {last : List Prototype} where
       go p z y (suc k) f = f k
 
   -- the four numbers of a record are below the file's length
-  pub entry-held : (w : ℕ) → Wide w → length s ≤ lengthLimit → (b : Placed DataBlock) (p : Placed Prototype) → BlockIn version s last b p → Held w (indexRecord (b .offset) (b .it) p)
+  pub entry-held : (w : ℕ) → length s ≤ 256 ^ w → (b : Placed DataBlock) (p : Placed Prototype) → BlockIn version s last b p → Held w (indexRecord (b .offset) (b .it) p)
   unfolding indexRecord recordBytes
-  entry-held w h n b p i =
+  entry-held w h b p i =
       let c = stands-within s (b .offset) (recordBytes (block (b .it))) (i .bytes) in
       let d = stands-within s (p .offset) (recordBytes (prototype (p .it))) (i .defined .bytes) in
       let x = head-takes (i .good .head) in
@@ -131,8 +131,8 @@ module _ {version : ℕ} {s : List ℕ} {last : List Prototype} where
       let v = length-append (p .it .head) (fieldsBytes (p .it .fields) ++ p .it .terminator) in
       let z = length-append (fieldsBytes (p .it .fields)) (p .it .terminator) in
       record {
-        offset = omega (arith, c, x, u, n, h);
-        size = omega (arith, c, x, u, n, h, i .behind);
-        prototype = omega (arith, d, y, v, n, h);
-        fields = omega (arith, d, y, v, z, f, n, h);
+        offset = omega (arith, c, x, u, h);
+        size = omega (arith, c, x, u, h, i .behind);
+        prototype = omega (arith, d, y, v, h);
+        fields = omega (arith, d, y, v, z, f, h);
       }

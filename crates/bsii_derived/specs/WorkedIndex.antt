@@ -32,6 +32,10 @@ badString = fileWith (prototypeRecord 3 (ascii "t") (nField ++ definition 0x01 (
 unfoldable pub zeroId : List ℕ
 zeroId = fileWith (prototypeRecord 0 (ascii "t") nField)
 
+-- prototype 3 at 8, prototype 4, `u` without fields, at 35; a block of 3 at 53
+unfoldable pub twoIds : List ℕ
+twoIds = fileWith (prototypeRecord 3 (ascii "t") nField ++ prototypeRecord 4 (ascii "u") [] ++ u32 3 ++ le 1 0 ++ le 2 5)
+
 abbrev pub entry : ℕ → ℕ → ℕ → ℕ → List ℕ
 entry offset size prototype fields = le 3 offset ++ le 3 size ++ le 3 prototype ++ le 3 fields
 
@@ -39,16 +43,19 @@ entry offset size prototype fields = le 3 offset ++ le 3 size ++ le 3 prototype 
 abbrev pub offsets : ℕ → ℕ → List ℕ
 offsets block prototype = entry block 0 prototype 0
 
+-- save A's, byte for byte: 35, 7, 8, 1 and 42, 15, 8, 1
 unfoldable pub indexA : List ℕ
-indexA = entry 35 7 8 1 ++ entry 42 15 8 1
+indexA = 0x23 ∷ 0 ∷ 0 ∷ 7 ∷ 0 ∷ 0 ∷ 8 ∷ 0 ∷ 0 ∷ 1 ∷ 0 ∷ 0 ∷ 0x2a ∷ 0 ∷ 0 ∷ 0x0f ∷ 0 ∷ 0 ∷ 8 ∷ 0 ∷ 0 ∷ 1 ∷ 0 ∷ 0 ∷ []
 
 -- ---- write: the second argument of a call is the number of table words
 
 unfoldable pub writes : List (Fact TextAnswer)
 writes =
     writeIndexCall indexWidth 3 saveA (replicate 25 1) says written indexA (1 ∷ []) ∷
+    writeIndexCall 3 3 saveA (replicate 24 1) says written indexA [] ∷
     writeIndexCall 3 3 saveA (replicate 23 1) says unwritten outputShort 0 24 (replicate 23 1) ∷
     writeIndexCall 4 3 saveA (replicate 32 1) says written (le 4 35 ++ le 4 7 ++ le 4 8 ++ le 4 1 ++ le 4 42 ++ le 4 15 ++ le 4 8 ++ le 4 1) [] ∷
+    writeIndexCall 3 6 twoIds (replicate 12 1) says written (entry 53 7 8 1) [] ∷
     writeIndexCall 3 3 redefinedFile (replicate 12 1) says written (entry 35 9 8 1) [] ∷
     writeIndexCall 3 3 recountedFile (replicate 12 1) says written (entry 44 10 8 2) [] ∷
     writeIndexCall 3 3 (twiceFile [] []) (replicate 24 1) says written (entry 35 9 8 1 ++ entry 71 9 44 1) [] ∷
@@ -110,6 +117,10 @@ looks =
     indexFieldCall 3 (take 7 saveA) indexA 0 (ascii "n") says lacks 4 1 ∷
     indexFieldCall 3 (take 7 saveA) indexA 2 (ascii "n") says refusal absent 0 ∷
     indexFieldCall 3 (take 12 saveA) indexA 0 (ascii "n") says lacks 12 1 ∷
+    indexFieldCall 3 (set saveA 30 0xff) indexA 0 (ascii "n") says refusal notUtf8 30 ∷
+    indexFieldCall 3 (take 33 saveA) indexA 0 (ascii "n") says lacks 31 2 ∷
+    indexFieldCall 3 (take 50 saveA) indexA 1 (ascii "n") says lacks 47 5 ∷
+    indexFieldCall 3 (take 56 saveA) indexA 1 (ascii "zz") says lacks 55 1 ∷
     indexFieldCall 3 (sevenFile 1) (offsets 35 8) 0 (ascii "w") says carries 0x19 40 sevenPart ∷
     indexFieldCall 3 (sevenFile 2) (offsets 35 8) 0 (ascii "w") says carries 0x19 40 (sevenPart ++ u32 0) ∷ []
 

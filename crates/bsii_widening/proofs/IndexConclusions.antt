@@ -2,6 +2,7 @@
 -- enough for it.
 use mathlib.Core.Path.{_≡_, _∙_}
 use Prim.Native.Nat.{ℕ, _^_, _≤_}
+use native.Mathlib.Omega.{arith}
 use mathlib.Core.Option.{Option, none, some}
 use mathlib.Core.List.{List, _++_}
 use lib.ListN.{length, drop}
@@ -19,12 +20,17 @@ use Rattle.bsii_widening.specs.Marks.{newRecords, markRecords}
 use Rattle.bsii_widening.specs.Insertions.{Insertion, aField, insert, DefinitionAllowed, AllAllowed, NoIdTwice}
 use Rattle.bsii_widening.specs.Parts.{renumber}
 use Rattle.bsii_widening.specs.Claim.{widened, newSave, newFile, Room, firstCarried}
-use Rattle.bsii_widening.specs.Indexed.{StillIndexed, IndexAfterLast, IndexSurvives}
+use Rattle.bsii_widening.specs.Observers.{Old}
+use Rattle.bsii_widening.specs.Indexed.{StillIndexed, IndexAfterLast, IndexSurvives, OwnIndexSurvives}
 
-module _ (claim : IndexSurvives) (w : ℕ) (wide : lengthLimit ≤ 256 ^ w) (words : ℕ) (s : List ℕ) (f : BsiiFile) (at : ℕ) (r : List ℕ) (reads : parse words s ≡ ok f at r) (once : NoIdTwice (f .records)) (l : List Insertion) (a : AllAllowed (f .header .value) l (markRecords (f .records))) (words′ : ℕ) where
-  module _ (m : Room lengthLimit words′ f r (widened f l)) where
+-- any save that is read and defines no id twice
+any-read : {words : ℕ} {s : List ℕ} {f : BsiiFile} {at : ℕ} {r : List ℕ} → parse words s ≡ ok f at r → NoIdTwice (f .records) → Old words s f at r
+any-read reads once = record { reads = reads; once = once }
+
+module _ (claim : IndexSurvives) (w words : ℕ) (s : List ℕ) (f : BsiiFile) (at : ℕ) (r : List ℕ) (reads : parse words s ≡ ok f at r) (once : NoIdTwice (f .records)) (l : List Insertion) (a : AllAllowed (f .header .value) l (markRecords (f .records))) (words′ : ℕ) where
+  module _ (m : Room lengthLimit words′ f r (widened f l)) (held : length (newFile f r (widened f l)) ≤ 256 ^ w) where
     still : StillIndexed w words s f r words′ (widened f l)
-    still = claim w wide words s f at r (record { reads = reads; once = once }) l a words′ .0 m
+    still = claim w (length (newFile f r (widened f l))) (m .file) held words s f at r (any-read reads once) l a words′ .0 (record { file = omega arith; table = m .table })
 
     abbrev index : List ℕ
     index = indexBytes w (indexOf (newSave f (widened f l)))
@@ -50,12 +56,14 @@ module _ (claim : IndexSurvives) (w : ℕ) (wide : lengthLimit ≤ 256 ^ w) (wor
   -- ---- the last definition
 
   module _ (n p : ℕ) (d : Consumed ValuePrototype) (v : ℕ → DataValue) (b : DefinitionAllowed n p d (widened f l)) (u : shapeOf (f .header .value) (d .value .typeId) ≡ none)
-      (m : Room lengthLimit words′ f r (insert (aField n p d v) (widened f l))) where
+      (m : Room lengthLimit words′ f r (insert (aField n p d v) (widened f l))) (held : length (newFile f r (insert (aField n p d v) (widened f l))) ≤ 256 ^ w) where
     abbrev first : Option ℕ
     first = firstCarried n p (length (f .header .raw)) (newRecords (insert (aField n p d v) (widened f l)))
 
     last : IndexAfterLast w words s f r words′ (insert (aField n p d v) (widened f l)) first
-    last = claim w wide words s f at r (record { reads = reads; once = once }) l a words′ .1 n p d v b u m
+    last =
+        claim w (length (newFile f r (insert (aField n p d v) (widened f l)))) (m .file) held words s f at r (any-read reads once) l a words′ .1 n p d v b u
+        (record { file = omega arith; table = m .table })
 
     pub write-stops : (x : ℕ) → first ≡ some x → (space : List ℕ)
         → writeIndexCall w words′ (newFile f r (insert (aField n p d v) (widened f l))) space ≡ record { reply = refusal 7 x; needed = 0; output = space }
@@ -73,3 +81,14 @@ module _ (claim : IndexSurvives) (w : ℕ) (wide : lengthLimit ≤ 256 ^ w) (wor
 
     pub unused-indexed : first ≡ none → StillIndexed w words s f r words′ (insert (aField n p d v) (widened f l))
     unused-indexed = last .unused
+
+-- ---- with three bytes, within the length limit
+
+module _ (claim : OwnIndexSurvives) (words : ℕ) (s : List ℕ) (f : BsiiFile) (at : ℕ) (r : List ℕ) (reads : parse words s ≡ ok f at r) (once : NoIdTwice (f .records)) (l : List Insertion) (a : AllAllowed (f .header .value) l (markRecords (f .records))) (words′ : ℕ) where
+  pub by-three : Room 16_777_216 words′ f r (widened f l) → StillIndexed 3 words s f r words′ (widened f l)
+  by-three m = claim words s f at r (any-read reads once) l a words′ .0 m
+
+  pub last-by-three : (n p : ℕ) (d : Consumed ValuePrototype) (v : ℕ → DataValue) → DefinitionAllowed n p d (widened f l) → shapeOf (f .header .value) (d .value .typeId) ≡ none
+      → Room 16_777_216 words′ f r (insert (aField n p d v) (widened f l))
+      → IndexAfterLast 3 words s f r words′ (insert (aField n p d v) (widened f l)) (firstCarried n p (length (f .header .raw)) (newRecords (insert (aField n p d v) (widened f l))))
+  last-by-three n p d v b u m = claim words s f at r (any-read reads once) l a words′ .1 n p d v b u m

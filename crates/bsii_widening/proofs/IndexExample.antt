@@ -1,6 +1,6 @@
 -- The worked list meets the premises, and `km` is found by the old index and by the new one; a save without a text meets them too. All of it is computed.
 use mathlib.Core.Path.{_≡_, refl}
-use Prim.Native.Nat.{ℕ, _^_, _≤_}
+use Prim.Native.Nat.{ℕ}
 use mathlib.Core.List.{List, [], _∷_}
 use lib.ListN.{length, replicate}
 use lib.Dec.{lit≤}
@@ -11,7 +11,6 @@ use Rattle.bsii_format.specs.Calls.{textCall}
 use Rattle.bsii_format.specs.Worked.{u32, workedFile}
 use Rattle.bsii_format.specs.WorkedCalls.{unlistedEnumFile, carries, written, unwritten}
 use Rattle.bsii_derived.specs.IndexCalls.{writeIndexCall, checkIndexCall, indexFieldCall}
-use Rattle.bsii_derived.specs.IndexClaims.{Wide}
 use Rattle.bsii_derived.proofs.Computes.{computesIndex}
 use Rattle.bsii_widening.specs.Marks.{markRecords}
 use Rattle.bsii_widening.specs.Parts.{renumber}
@@ -22,21 +21,22 @@ use Rattle.bsii_widening.specs.Indexed.{StillIndexed, IndexAfterLast}
 use Rattle.bsii_widening.specs.IndexExample.{oldIndex, newIndex, textless}
 use Rattle.bsii_widening.proofs.Computes.{computesAll}
 use Rattle.bsii_widening.proofs.Example.{additions-allowed, room, last-allowed, last-room, carried}
-use Rattle.bsii_widening.proofs.Indexed.{index-survives}
-
--- three bytes are enough, and four are
-pub three-wide : Wide 3
-three-wide = lit≤ tt
-
-pub four-wide : Wide 4
-four-wide = lit≤ tt
+use Rattle.bsii_widening.proofs.Indexed.{index-survives, own-index-survives}
 
 old-read : Old 768 workedFile oldFile 82 []
 unfolding computesAll
 old-read = record { reads = refl; once = (tt, tt) }
 
 pub additions-indexed : StillIndexed 3 768 workedFile oldFile [] 6 (widened oldFile additions)
-additions-indexed = index-survives 3 three-wide 768 workedFile oldFile 82 [] old-read additions additions-allowed 6 .0 room
+additions-indexed = own-index-survives 768 workedFile oldFile 82 [] old-read additions additions-allowed 6 .0 room
+
+-- through numbers of one byte too: the new file has fewer than 256
+small-room : Room 256 6 oldFile [] (widened oldFile additions)
+unfolding computesAll
+small-room = record { file = lit≤ tt; table = lit≤ tt }
+
+pub additions-by-one : StillIndexed 1 768 workedFile oldFile [] 6 (widened oldFile additions)
+additions-by-one = index-survives 1 256 (lit≤ tt) (lit≤ tt) 768 workedFile oldFile 82 [] old-read additions additions-allowed 6 .0 small-room
 
 pub old-index : writeIndexCall 3 768 workedFile (replicate 12 1) ≡ written oldIndex []
 unfolding computesAll computesIndex oldIndex
@@ -58,7 +58,7 @@ km-by-new = refl
 
 pub unlisted-index : (space : List ℕ) → writeIndexCall 3 6 (newFile oldFile [] afterUnlisted) space ≡ unwritten unlistedType 122 0 space
 unfolding computesAll
-unlisted-index = index-survives 3 three-wide 768 workedFile oldFile 82 [] old-read additions additions-allowed 6 .1 7 0 unlistedField anyBytes last-allowed refl last-room .writeStops 122 carried
+unlisted-index = own-index-survives 768 workedFile oldFile 82 [] old-read additions additions-allowed 6 .1 7 0 unlistedField anyBytes last-allowed refl last-room .writeStops 122 carried
 
 -- ---- a save without a text
 
@@ -75,4 +75,4 @@ unfolding computesAll unlistedEnumFile textless
 textless-room = record { file = lit≤ tt; table = lit≤ tt }
 
 pub textless-indexed : StillIndexed 3 3 unlistedEnumFile textless [] 3 (widened textless [])
-textless-indexed = index-survives 3 three-wide 3 unlistedEnumFile textless 86 [] textless-read [] tt 3 .0 textless-room
+textless-indexed = own-index-survives 3 unlistedEnumFile textless 86 [] textless-read [] tt 3 .0 textless-room

@@ -2,13 +2,13 @@
 -- one, so what was found is found by `field-survives`; write and check read the whole file first and stop where every such call does.
 use mathlib.Core.Path.{_≡_, refl, sym, ap, _∙_, subst}
 use mathlib.Core.Logic.{_↔_}
-use Prim.Native.Nat.{ℕ, _*_, _≤_}
+use Prim.Native.Nat.{ℕ, _*_, _^_, _≤_}
 use native.Mathlib.Omega.{arith}
 use mathlib.Core.Bool.{Bool, true, false, not, cond, _||_}
 use mathlib.Core.Option.{Option, none, some}
 use mathlib.Core.List.{List, [], _∷_, _++_}
 use lib.ListN.{length}
-use lib.Dec.{T, eqb, eqb-refl}
+use lib.Dec.{T, eqb, eqb-refl, lit≤}
 use Rattle.bsii_format.specs.Replies.{Fault, Reply, gives, refuses, refusal, unlistedType, outputShort, misfit}
 use Rattle.bsii_format.specs.Reader.{ok, same, Consumed}
 use Rattle.bsii_format.specs.Types.{shapeOf}
@@ -18,20 +18,20 @@ use Rattle.bsii_format.specs.Blocks.{DataValue, findBy, getPrototype}
 use Rattle.bsii_format.specs.File.{BsiiFile, Record, prototype, block, define, defineAll, prototypesOf, fileBytes, lengthLimit, parse}
 use Rattle.bsii_format.specs.Calls.{ofFile, orAbsent, FieldAnswer, fieldOf, TextAnswer, textAnswer}
 use Rattle.bsii_format.proofs.ReplyLaws.{refuses≢gives, of-read, text-fits}
-use Rattle.bsii_derived.specs.Index.{IndexRecord, indexOf, indexBytes, indexBytesOf, agreeing}
+use Rattle.bsii_derived.specs.Index.{indexWidth, IndexRecord, indexOf, indexBytes, indexBytesOf, agreeing}
 use Rattle.bsii_derived.specs.IndexCalls.{writeIndexCall, checked, checkIndexCall, indexFieldCall, once, definesOnceCall}
-use Rattle.bsii_derived.specs.IndexClaims.{Wide}
 use Rattle.bsii_derived.proofs.Claims.{was-read, checks-exactly, looks-as-walk, fits-file}
 use Rattle.bsii_widening.specs.Marks.{MarkedRecords, newRecords, markRecords}
 use Rattle.bsii_widening.specs.Insertions.{Insertion, aField, insert, DefinitionAllowed, AllAllowed, definesId, NoIdTwice}
 use Rattle.bsii_widening.specs.Parts.{renumber}
 use Rattle.bsii_widening.specs.Claim.{widened, newSave, newFile, Room, firstCarried}
 use Rattle.bsii_widening.specs.Observers.{Observer, Old}
-use Rattle.bsii_widening.specs.Indexed.{StillIndexed, IndexAfterLast, IndexLastUnlisted, IndexSurvives}
+use Rattle.bsii_widening.specs.Indexed.{StillIndexed, IndexAfterLast, IndexLastUnlisted, IndexSurvives, OwnIndexSurvives}
 use Rattle.bsii_widening.proofs.Environments.{none≢some}
 use Rattle.bsii_widening.proofs.Once.{Apart, apart-prototype, not-both, nor-left}
 use Rattle.bsii_widening.proofs.Unlisted.{no-values}
 use Rattle.bsii_widening.proofs.Core.{widens, once-widened, all-stop}
+use Rattle.bsii_widening.proofs.Lengths.{no-shorter}
 use Rattle.bsii_widening.proofs.Survives.{field-survives}
 use Rattle.bsii_widening.proofs.Demand3.{one-more, one-more-allowed}
 use Rattle.bsii_widening.proofs.Exactly.{both-ways, number-of, not-seven}
@@ -54,14 +54,15 @@ once-counted l o = once-all l [] o (λ m q z. none≢some z) refl
 
 -- ---- after a list
 
-module _ {w : ℕ} (wide : Wide w) {words : ℕ} {s : List ℕ} {f : BsiiFile} {at : ℕ} {r : List ℕ} (o : Old words s f at r) where
+module _ (w : ℕ) {words : ℕ} {s : List ℕ} {f : BsiiFile} {at : ℕ} {r : List ℕ} (o : Old words s f at r) where
   still-indexed : (l : List Insertion) → AllAllowed (f .header .value) l (markRecords (f .records)) → (words′ : ℕ) → Room lengthLimit words′ f r (widened f l)
-      → StillIndexed w words s f r words′ (widened f l)
+      → length (newFile f r (widened f l)) ≤ 256 ^ w → StillIndexed w words s f r words′ (widened f l)
   unfolding writeIndexCall definesOnceCall
-  still-indexed l a words′ m =
+  still-indexed l a words′ m held =
       let M = widened f l in
       let new : List ℕ = newFile f r M in
       let read = widens o l a m .reads in
+      let old-held : length s ≤ 256 ^ w = omega (arith, held, no-shorter o l) in
       let written : (space : List ℕ) → writeIndexCall w words′ new space ≡ textAnswer space (gives (indexBytesOf w (newSave f M))) =
       λ space. ap (textAnswer space) (of-read (λ f at. gives (indexBytesOf w f)) (parse words′ new) read) in
       let new-once = once-counted (newRecords M) (once-widened o l a) in
@@ -71,12 +72,20 @@ module _ {w : ℕ} (wide : Wide w) {words : ℕ} {s : List ℕ} {f : BsiiFile} {
         fits = checks-exactly w words′ new (indexBytesOf w (newSave f M)) .1 (newSave f M, length (fileBytes (newSave f M)), r, read, refl);
         once = of-read (λ f at. gives (cond (once (prototypesOf (f .records))) 1 0)) (parse words′ new) read ∙ ap (λ b. gives (cond b 1 0)) new-once;
         found = λ i i′ c c′ k name b e.
-            let old-walk = looks-as-walk (was-read words s (o .reads)) w wide (once-counted (f .records) (o .once)) k name in
-            let new-walk = looks-as-walk (was-read words′ new read) w wide new-once (renumber M k) name in
+            let old-walk = looks-as-walk (was-read words s (o .reads)) w old-held (once-counted (f .records) (o .once)) k name in
+            let new-walk = looks-as-walk (was-read words′ new read) w held new-once (renumber M k) name in
             let x = field-survives k name words s f at r o b (sym old-walk ∙ ap (λ z. indexFieldCall w s z k name) (sym (fits-file w words s i c (o .reads))) ∙ e) l a tt words′ m in
             let y = sym (of-read (λ f at. orAbsent (fieldOf (renumber M k) name f)) (parse words′ new) read) ∙ x .1 in
             (x .0, ap (λ z. indexFieldCall w new z (renumber M k) name) (fits-file w words′ new i′ c′ read) ∙ new-walk ∙ y, x .2 .0, x .2 .1);
       }
+
+-- the file as the length limit has room for it
+in-limit : {limit words : ℕ} {f : BsiiFile} {r : List ℕ} {M : MarkedRecords} → limit ≤ lengthLimit → Room limit words f r M → Room lengthLimit words f r M
+in-limit h m = record { file = omega (arith, h, m .file); table = m .table }
+
+by-limit : {w limit : ℕ} → limit ≤ lengthLimit → limit ≤ 256 ^ w → {words : ℕ} {s : List ℕ} {f : BsiiFile} {at : ℕ} {r : List ℕ} → Old words s f at r → (l : List Insertion)
+    → AllAllowed (f .header .value) l (markRecords (f .records)) → (words′ : ℕ) → Room limit words′ f r (widened f l) → StillIndexed w words s f r words′ (widened f l)
+by-limit {w} short held o l a words′ m = still-indexed w o l a words′ (in-limit short m) (omega (arith, held, m .file))
 
 -- ---- after the last definition
 
@@ -88,8 +97,8 @@ checked-not-seven w l i x e = go (same (indexBytes w l) i) e
     go true z = refuses≢gives (sym z)
     go false z = let y : _≡_ {A = ℕ} misfit unlistedType = number-of z in omega arith
 
-module _ {w : ℕ} (wide : Wide w) {words : ℕ} {s : List ℕ} {f : BsiiFile} {at : ℕ} {r : List ℕ} (o : Old words s f at r) (l : List Insertion) (a : AllAllowed (f .header .value) l (markRecords (f .records))) (words′ : ℕ) where
-  index-last : IndexLastUnlisted w words s f r words′ (widened f l)
+module _ {w limit : ℕ} (short : limit ≤ lengthLimit) (held : limit ≤ 256 ^ w) {words : ℕ} {s : List ℕ} {f : BsiiFile} {at : ℕ} {r : List ℕ} (o : Old words s f at r) (l : List Insertion) (a : AllAllowed (f .header .value) l (markRecords (f .records))) (words′ : ℕ) where
+  index-last : IndexLastUnlisted w limit words s f r words′ (widened f l)
   unfolding writeIndexCall checkIndexCall textAnswer
   index-last n p d v b u m = record {
     writeStops = write-stops;
@@ -107,10 +116,10 @@ module _ {w : ℕ} (wide : Wide w) {words : ℕ} {s : List ℕ} {f : BsiiFile} {
       first = firstCarried n p (length (f .header .raw)) (newRecords M)
 
       write-stops : (x : ℕ) → first ≡ some x → (space : List ℕ) → writeIndexCall w words′ (newFile f r M) space ≡ textAnswer space (refusal unlistedType x)
-      write-stops x e space = ap (textAnswer space) (all-stop (λ f at. gives (indexBytesOf w f)) words s f at r o l a words′ n p d v b u m x e)
+      write-stops x e space = ap (textAnswer space) (all-stop (λ f at. gives (indexBytesOf w f)) words s f at r o l a words′ n p d v b u (in-limit short m) x e)
 
       check-stops : (x : ℕ) → first ≡ some x → (i : List ℕ) → checkIndexCall w words′ (newFile f r M) i ≡ refusal unlistedType x
-      check-stops x e i = all-stop (λ f at. checked w (indexOf f) i) words s f at r o l a words′ n p d v b u m x e
+      check-stops x e i = all-stop (λ f at. checked w (indexOf f) i) words s f at r o l a words′ n p d v b u (in-limit short m) x e
 
       longer : widened f (l ++ (aField n p d v ∷ [])) ≡ M
       longer = unfold widened in one-more l (aField n p d v) (markRecords (f .records))
@@ -121,14 +130,17 @@ module _ {w : ℕ} (wide : Wide w) {words : ℕ} {s : List ℕ} {f : BsiiFile} {
           (record { definition = unfold widened in b; values = unfold widened insert in no-values (f .header .value) n p d v 0 (length (f .header .raw)) (widened f l) e })
 
       unused : first ≡ none → StillIndexed w words s f r words′ M
-      unused e = subst (StillIndexed w words s f r words′) longer (still-indexed wide o (l ++ (aField n p d v ∷ [])) (longer-allowed e) words′ (subst (Room lengthLimit words′ f r) (sym longer) m))
+      unused e = subst (StillIndexed w words s f r words′) longer (by-limit short held o (l ++ (aField n p d v ∷ [])) (longer-allowed e) words′ (subst (Room limit words′ f r) (sym longer) m))
 
       -- where no block carries it, the file is read, and check gives 14 or fits
       checks-on : first ≡ none → (i : List ℕ) (x : ℕ) → checkIndexCall w words′ (newFile f r M) i ≡ refusal unlistedType x → ⊥
       checks-on e i x z =
           let q = subst (λ N. parse words′ (newFile f r N) ≡ ok (newSave f N) (length (fileBytes (newSave f N))) r) longer
-          (widens o (l ++ (aField n p d v ∷ [])) (longer-allowed e) (subst (Room lengthLimit words′ f r) (sym longer) m) .reads) in
+          (widens o (l ++ (aField n p d v ∷ [])) (longer-allowed e) (subst (Room lengthLimit words′ f r) (sym longer) (in-limit short m)) .reads) in
           checked-not-seven w (indexOf (newSave f M)) i x (sym (of-read (λ f at. checked w (indexOf f) i) (parse words′ (newFile f r M)) q) ∙ z)
 
 pub index-survives : IndexSurvives
-index-survives w wide words s f at r o l a words′ = (still-indexed wide o l a words′, index-last wide o l a words′)
+index-survives w limit short held words s f at r o l a words′ = (by-limit short held o l a words′, index-last short held o l a words′)
+
+pub own-index-survives : OwnIndexSurvives
+own-index-survives = index-survives indexWidth lengthLimit (lit≤ tt) (lit≤ tt)

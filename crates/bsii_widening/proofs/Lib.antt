@@ -10,6 +10,7 @@ pub mod Start
 pub mod Lookups
 pub mod Unlisted
 pub mod Core
+pub mod Lengths
 pub mod Survives
 pub mod Counts
 pub mod Exactly

@@ -1,8 +1,8 @@
 -- Demand 3 through an index: document 02, E1, "The ledger must get equal values through the index from a widened save and its own index." The old save need
--- not convert, only be read; `IndexSurvives` stands at the end.
+-- not convert, only be read; `IndexSurvives` and `OwnIndexSurvives` stand at the end.
 use mathlib.Core.Path.{_≡_}
 use mathlib.Core.Logic.{_↔_}
-use Prim.Native.Nat.{ℕ, _≤_}
+use Prim.Native.Nat.{ℕ, _^_, _≤_}
 use mathlib.Core.Option.{Option, none, some}
 use mathlib.Core.List.{List}
 use lib.ListN.{length}
@@ -13,9 +13,8 @@ use Rattle.bsii_format.specs.Prototypes.{ValuePrototype}
 use Rattle.bsii_format.specs.Blocks.{DataValue}
 use Rattle.bsii_format.specs.File.{BsiiFile, lengthLimit}
 use Rattle.bsii_format.specs.Calls.{FieldAnswer, textAnswer}
-use Rattle.bsii_derived.specs.Index.{indexBytesOf}
+use Rattle.bsii_derived.specs.Index.{indexWidth, indexBytesOf}
 use Rattle.bsii_derived.specs.IndexCalls.{writeIndexCall, checkIndexCall, indexFieldCall, definesOnceCall}
-use Rattle.bsii_derived.specs.IndexClaims.{Wide}
 use Rattle.bsii_widening.specs.Marks.{MarkedRecords, newRecords, markRecords}
 use Rattle.bsii_widening.specs.Insertions.{Insertion, aField, insert, DefinitionAllowed, AllAllowed}
 use Rattle.bsii_widening.specs.Parts.{renumber}
@@ -47,15 +46,23 @@ pub record IndexAfterLast (w words : ℕ) (s : List ℕ) (f : BsiiFile) (r : Lis
   pub checkExactly : (i : List ℕ) (x : ℕ) → (checkIndexCall w words′ (newFile f r M) i ≡ refusal unlistedType x) ↔ (o ≡ some x)
   pub unused : o ≡ none → StillIndexed w words s f r words′ M
 
-abbrev pub IndexLastUnlisted : (w words : ℕ) (s : List ℕ) (f : BsiiFile) (r : List ℕ) (words′ : ℕ) → MarkedRecords → Type 0
-IndexLastUnlisted w words s f r words′ M =
+abbrev pub IndexLastUnlisted : (w limit words : ℕ) (s : List ℕ) (f : BsiiFile) (r : List ℕ) (words′ : ℕ) → MarkedRecords → Type 0
+IndexLastUnlisted w limit words s f r words′ M =
     (n p : ℕ) (d : Consumed ValuePrototype) (v : ℕ → DataValue) → DefinitionAllowed n p d M → shapeOf (f .header .value) (d .value .typeId) ≡ none
-    → Room lengthLimit words′ f r (insert (aField n p d v) M)
+    → Room limit words′ f r (insert (aField n p d v) M)
     → IndexAfterLast w words s f r words′ (insert (aField n p d v) M) (firstCarried n p (length (f .header .raw)) (newRecords (insert (aField n p d v) M)))
 
--- for every list of insertions, the empty one included, and every number of bytes that holds a file's offsets
-abbrev pub IndexSurvives : Type 0
-IndexSurvives =
-    (w : ℕ) → Wide w → (words : ℕ) (s : List ℕ) (f : BsiiFile) (at : ℕ) (r : List ℕ) → Old words s f at r
+-- for every list of insertions, the empty one included, through numbers of w bytes and up to new files of `limit` bytes
+abbrev pub IndexedWithin : (w limit : ℕ) → Type 0
+IndexedWithin w limit =
+    (words : ℕ) (s : List ℕ) (f : BsiiFile) (at : ℕ) (r : List ℕ) → Old words s f at r
     → (l : List Insertion) → AllAllowed (f .header .value) l (markRecords (f .records)) → (words′ : ℕ)
-    → (Room lengthLimit words′ f r (widened f l) → StillIndexed w words s f r words′ (widened f l)) × IndexLastUnlisted w words s f r words′ (widened f l)
+    → (Room limit words′ f r (widened f l) → StillIndexed w words s f r words′ (widened f l)) × IndexLastUnlisted w limit words s f r words′ (widened f l)
+
+-- "The file stays within the length limit", and is no longer than there are numbers of w bytes; the old file is no longer than the new one
+abbrev pub IndexSurvives : Type 0
+IndexSurvives = (w limit : ℕ) → limit ≤ lengthLimit → limit ≤ 256 ^ w → IndexedWithin w limit
+
+-- at the calls' own width that is the length limit and nothing else
+abbrev pub OwnIndexSurvives : Type 0
+OwnIndexSurvives = IndexedWithin indexWidth lengthLimit
