@@ -65,20 +65,20 @@ module _ (w : ℕ) where
       let z : suc k * (4 * w) ≡ length (indexRecordBytes w r) + k * (4 * w) = rw record-length (omega (arith, suc-mul k (4 * w))) in
       ap (λ n. drop n (indexRecordBytes w r ++ indexBytes w l)) z ∙ drop-append-add (indexRecordBytes w r) (indexBytes w l) (k * (4 * w))
 
-  there : (l : List IndexRecord) (k at : ℕ) {r : IndexRecord} → getElem? l k ≡ some r → Held w r → whole w (indexRecordParser w at (drop (k * (4 * w)) (indexBytes w l))) ≡ some r
+  there : (l : List IndexRecord) (k at : ℕ) {r : IndexRecord} → getElem? l k ≡ some r → Held w r → whole (indexRecordParser w at (drop (k * (4 * w)) (indexBytes w l))) ≡ some r
   unfolding whole indexBytes
   there [] k at e h = none≢some e
   there (x ∷ l) zero at {r} e h =
       let y : x ≡ r = some-is e in
-      ap (λ z. whole w (indexRecordParser w at (drop z (indexRecordBytes w x ++ indexBytes w l)))) (zero-mul (4 * w))
-      ∙ ap (λ z. whole w (indexRecordParser w at (indexRecordBytes w z ++ indexBytes w l))) y ∙ ap (whole w) (record-fits r h .reads at (indexBytes w l))
-  there (x ∷ l) (suc k) at e h = ap (λ z. whole w (indexRecordParser w at z)) (behind-one k x l) ∙ there l k at e h
+      ap (λ z. whole (indexRecordParser w at (drop z (indexRecordBytes w x ++ indexBytes w l)))) (zero-mul (4 * w))
+      ∙ ap (λ z. whole (indexRecordParser w at (indexRecordBytes w z ++ indexBytes w l))) y ∙ ap whole (record-fits r h .reads at (indexBytes w l))
+  there (x ∷ l) (suc k) at e h = ap (λ z. whole (indexRecordParser w at z)) (behind-one k x l) ∙ there l k at e h
 
-  missing : (l : List IndexRecord) (k at : ℕ) → 0 < w → getElem? l k ≡ none → whole w (indexRecordParser w at (drop (k * (4 * w)) (indexBytes w l))) ≡ none
+  missing : (l : List IndexRecord) (k at : ℕ) → 0 < w → getElem? l k ≡ none → whole (indexRecordParser w at (drop (k * (4 * w)) (indexBytes w l))) ≡ none
   unfolding whole indexBytes indexRecordParser number bytes _<$>_ _>>=_ after
   missing [] k at h e = rw (drop-nil, is-false (leb w 0) (λ t. let z = leb→le w 0 t in omega arith)) refl
   missing (x ∷ l) zero at h e = none≢some (sym e)
-  missing (x ∷ l) (suc k) at h e = ap (λ z. whole w (indexRecordParser w at z)) (behind-one k x l) ∙ missing l k at h e
+  missing (x ∷ l) (suc k) at h e = ap (λ z. whole (indexRecordParser w at z)) (behind-one k x l) ∙ missing l k at h e
 
   pub record-there : (l : List IndexRecord) (k : ℕ) {r : IndexRecord} → getElem? l k ≡ some r → Held w r → recordAt w (indexBytes w l) k ≡ some r
   unfolding recordAt

@@ -48,6 +48,11 @@ indexFrom env (r ∷ l) = consIndex env (r .offset) (r .it) (indexFrom (consProt
 unfoldable pub indexOf : BsiiFile → List IndexRecord
 indexOf f = indexFrom [] (placedRecords f)
 
+-- what was read, if all of it was there
+unfoldable pub whole : Result IndexRecord → Option IndexRecord
+whole (ok r at l) = some r
+whole (fault f) = none
+
 module _ (w : ℕ) where
   -- ---- their bytes
 
@@ -71,10 +76,6 @@ module _ (w : ℕ) where
     c ← number w
     d ← number w
     success (record { offset = a; size = b; prototype = c; fields = d })
-
-  unfoldable pub whole : Result IndexRecord → Option IndexRecord
-  whole (ok r at l) = some r
-  whole (fault f) = none
 
   -- none "where the index has no such whole record"
   unfoldable pub recordAt : List ℕ → ℕ → Option IndexRecord

@@ -30,8 +30,8 @@ record-lacks k l w h m = let e = div-lt-iff-lt-mul {k = 4 * w} {x = l} {y = suc 
 
 module _ (w : ℕ) (s : List ℕ) where
   -- if it goes on to no record from the next number on, it goes on to none
-  number-cut : (at : ℕ) (f : ℕ → Reader IndexRecord) → 0 < w → (at + w ≤ length s → (v : ℕ) → whole w (f v (at + w) (drop (at + w) s)) ≡ none)
-      → whole w ((number w >>= f) at (drop at s)) ≡ none
+  number-cut : (at : ℕ) (f : ℕ → Reader IndexRecord) → 0 < w → (at + w ≤ length s → (v : ℕ) → whole (f v (at + w) (drop (at + w) s)) ≡ none)
+      → whole ((number w >>= f) at (drop at s)) ≡ none
   unfolding _>>=_ after whole
   number-cut at f z h =
       ⊎-elim
@@ -39,7 +39,7 @@ module _ (w : ℕ) (s : List ℕ) where
       (λ (k : at + w ≤ length s). rw (number-at w s at (omega arith)) (h k _))
       (lt-or-le (length s) (at + w))
 
-  record-there : (at : ℕ) → at + 4 * w ≤ length s → whole w (indexRecordParser w at (drop at s)) ≡ some (record {
+  record-there : (at : ℕ) → at + 4 * w ≤ length s → whole (indexRecordParser w at (drop at s)) ≡ some (record {
     offset = littleEndian (take w (drop at s));
     size = littleEndian (take w (drop (at + w) s));
     prototype = littleEndian (take w (drop (at + 2 * w) s));
@@ -58,7 +58,7 @@ module _ (w : ℕ) (s : List ℕ) where
         number-at w s (at + 3 * w) (omega arith),
       )
 
-  record-cut : (at : ℕ) → 0 < w → length s < at + 4 * w → whole w (indexRecordParser w at (drop at s)) ≡ none
+  record-cut : (at : ℕ) → 0 < w → length s < at + 4 * w → whole (indexRecordParser w at (drop at s)) ≡ none
   unfolding indexRecordParser
   record-cut at z h =
       number-cut at _ z (λ h₁ v₁.
