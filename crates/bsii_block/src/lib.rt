@@ -14,7 +14,7 @@ ghost use Rattle.bsii_block.specs.Blocks.{ValuesEnd, BlockEnd, DefinedEn
 
 // The values of a version from `start` on, one for each definition from `fields` on. Each definition has a byte at least, so the count stays below its
 // position.
-pub fn values_parser(s: &[u8], version: u32, fields: usize, start: usize) -> Counted
+fn values_parser(s: &[u8], version: u32, fields: usize, start: usize) -> Counted
     ensures { λ r. ⌜ ValuesEnd version (now (s .entry)) fields start r ⌝ }
 {
     let mut field = fields;
@@ -46,7 +46,7 @@ pub fn values_parser(s: &[u8], version: u32, fields: usize, start: usize) -> Cou
 }
 
 // A block's id and its values.
-pub fn data_block_parser(s: &[u8], version: u32, fields: usize, at: usize) -> Counted
+fn data_block_parser(s: &[u8], version: u32, fields: usize, at: usize) -> Counted
     ensures { λ r. ⌜ BlockEnd version (now (s .entry)) fields at r ⌝ }
 {
     let id = id_parser(s, at);
@@ -68,7 +68,7 @@ pub fn block_parser(s: &[u8], version: u32, prototype: usize, at: usize) -> Coun
 }
 
 // The same values where they were accepted before: nothing is checked again.
-pub fn skip_values(s: &[u8], version: u32, fields: usize, start: usize) -> Counted
+fn skip_values(s: &[u8], version: u32, fields: usize, start: usize) -> Counted
     ensures { λ r. ⌜ ValuesSkipped version (now (s .entry)) fields start r ⌝ }
 {
     let mut field = fields;
