@@ -1,13 +1,17 @@
 //! The command line.
 
 use crate::inputs;
+use crate::one_call::{Asked, Call};
 use std::ffi::OsString;
 use std::path::PathBuf;
+use std::str::FromStr;
 
 pub const USAGE: &str = "\
 Usage: benchmark [--rounds N] [--only INPUT]... [--markdown] [--plot FILE]
+       benchmark --instructions [--only INPUT]... [--markdown]
        benchmark --memory SIDE INPUT
        benchmark --convert SIDE FILE
+       benchmark --one-call SIDE CALL FILE WORDS ROOM BLOCK NAME
        benchmark --write INPUT
 
 Times the library and the unchanged Rust on the same inputs, in one process and
@@ -19,6 +23,15 @@ whole processes are timed too: the command, which has to stand beside this
 program (cargo build -p command), a program over the crate, and one over the
 Rust. The report goes to standard output.
 
+With --instructions nothing is timed: the instructions of one call are counted,
+each call in a process of its own under callgrind, for which valgrind has to be
+installed; that takes no root. The calls are reading and text as above; field,
+the field call for the first field of the block in the middle, and for the Rust
+its parse and its look-up of the same; and without the Rust, which has none, the
+calls about an index. Without --only it takes a minute or two, for save-1,
+save-7 and the hostile files but enums.
+
+  --instructions       count instructions
   --rounds N           so many rounds, from 1 up; without it 9
   --only INPUT         only this input; may be given again
   --markdown           the report as Markdown
@@ -26,21 +39,27 @@ Rust. The report goes to standard output.
   --memory SIDE INPUT  print the peak in bytes of one side, rust or ours;
                        if INPUT is -, the file is read from standard input
   --convert SIDE FILE  convert FILE to standard output, as a process that is timed
+  --one-call ...       do one call, as a process whose instructions are counted:
+                       reading, text, field, write, check, once or look-up, with
+                       a table of so many words, room for so many bytes of text,
+                       and the block and the field's name for the field call
   --write INPUT        write the input's bytes to standard output
   -h, --help           print this and exit
 
 INPUT is save-1 to save-16, a save of so many megabytes, or a hostile file:
 prototypes, falling, names, long-text, arrays, redefinition, redefinitions,
-enums; or one of 16 MiB that needs a table of more than 4,096 rows, and gets
+enums, enum-lists, a save with lists of 40 pairs, bare-string, a string of a
+megabyte; or one of 16 MiB that needs a table of more than 4,096 rows, and gets
 three words for each whole 17 bytes: rows-ORDER, prototypes alone, or
 blocks-ORDER, where the ORDER of the ids is rising, falling, random, low-equal,
-high-equal or reversed. Only with --write: triple, triples, quadruple or
-quadruples, a save of one vector type (0x09, 0x0a, 0x17, 0x18), two of which the
-Rust does not read; placement or placements, one of placements (0x19, 0x1a), and
-placement-1 or placements-1, the same in version 1, which the Rust does not read.
+high-equal or reversed. Only with --write or --instructions: triple, triples,
+quadruple or quadruples, a save of one vector type (0x09, 0x0a, 0x17, 0x18), two
+of which the Rust does not read; placement or placements, one of placements
+(0x19, 0x1a), and placement-1 or placements-1, the same in version 1, which the
+Rust does not read.
 
-Exit status: 0 if all was measured, 1 if the two texts differ or something
-failed, 2 for bad usage.
+Exit status: 0 if all was measured, 1 if the two texts differ, valgrind is
+missing or something else failed, 2 for bad usage.
 ";
 
 #[derive(Clone, Copy, Debug, PartialEq, Eq)]
@@ -73,6 +92,9 @@ pub enum Arguments {
     Run(Run),
     Memory(Side, String),
     Convert(Side, PathBuf),
+    OneCall(Side, Call, PathBuf, Asked),
+    /// The inputs, the usual ones if there are none, and whether it is Markdown.
+    Instructions(Vec<String>, bool),
     Write(String),
 }
 
@@ -84,6 +106,10 @@ pub fn parse(words: Vec<OsString>) -> Result<Arguments, String> {
         markdown: false,
         plot: None,
     };
+    let mut only = Vec::new();
+    let mut instructions = false;
+    // One that times alone have.
+    let mut of_times = None;
     let alone = words.len();
     let mut words = words.into_iter();
     while let Some(word) = words.next() {
@@ -91,7 +117,7 @@ pub fn parse(words: Vec<OsString>) -> Result<Arguments, String> {
         let mut next = |what: &str| words.next().ok_or(format!("{name} wants {what}"));
         match name.as_str() {
             "-h" | "--help" => return Ok(Arguments::Help),
-            "--memory" | "--convert" | "--write" => {
+            "--memory" | "--convert" | "--one-call" | "--write" => {
                 let (found, words) = match name.as_str() {
                     "--memory" => {
                         let side = side(&next("SIDE and INPUT")?)?;
@@ -103,6 +129,18 @@ pub fn parse(words: Vec<OsString>) -> Result<Arguments, String> {
                         let side = side(&next("SIDE and FILE")?)?;
                         (Arguments::Convert(side, next("a FILE")?.into()), 3)
                     }
+                    "--one-call" => {
+                        let side = side(&next("SIDE and more")?)?;
+                        let call = call(&next("a CALL")?)?;
+                        let path = next("a FILE")?.into();
+                        let asked = Asked {
+                            words: number(&next("WORDS")?)?,
+                            room: number(&next("ROOM")?)?,
+                            block: number(&next("a BLOCK")?)?,
+                            name: text(next("a NAME")?)?,
+                        };
+                        (Arguments::OneCall(side, call, path, asked), 8)
+                    }
                     _ => (Arguments::Write(input(next("an INPUT")?, is_written)?), 2),
                 };
                 if alone != words {
@@ -110,14 +148,45 @@ pub fn parse(words: Vec<OsString>) -> Result<Arguments, String> {
                 }
                 return Ok(found);
             }
+            "--instructions" => instructions = true,
             "--markdown" => run.markdown = true,
             "--rounds" => run.rounds = rounds(&next("a number")?)?,
-            "--only" => run.only.push(input(next("an INPUT")?, is_measured)?),
+            "--only" => only.push(next("an INPUT")?),
             "--plot" => run.plot = Some(next("a FILE")?.into()),
             _ => return Err(format!("what is {name}?")),
         }
+        if matches!(name.as_str(), "--rounds" | "--plot") {
+            of_times = Some(name);
+        }
     }
-    Ok(Arguments::Run(run))
+    let is_one = if instructions {
+        is_written
+    } else {
+        is_measured
+    };
+    for word in only {
+        run.only.push(input(word, is_one)?);
+    }
+    match (instructions, of_times) {
+        (true, Some(name)) => Err(format!("{name} does not go with --instructions")),
+        (true, None) => Ok(Arguments::Instructions(run.only, run.markdown)),
+        (false, _) => Ok(Arguments::Run(run)),
+    }
+}
+
+fn number<T: FromStr>(word: &OsString) -> Result<T, String> {
+    let text = word.to_string_lossy();
+    text.parse().map_err(|_| format!("{text} is no number"))
+}
+
+fn text(word: OsString) -> Result<String, String> {
+    let text = word.into_string();
+    text.map_err(|word| format!("{} is no text", word.to_string_lossy()))
+}
+
+fn call(word: &OsString) -> Result<Call, String> {
+    let text = word.to_string_lossy();
+    Call::by_name(&text).ok_or(format!("{text} is no call"))
 }
 
 fn rounds(word: &OsString) -> Result<usize, String> {
@@ -199,6 +268,40 @@ mod tests {
             parsed(&["--convert", "ours", "a.bsii"]),
             Ok(Arguments::Convert(Side::Ours, "a.bsii".into()))
         );
+        let asked = Asked {
+            words: 12,
+            room: 99,
+            block: 3,
+            name: "km".into(),
+        };
+        let words = [
+            "--one-call",
+            "rust",
+            "field",
+            "a.bsii",
+            "12",
+            "99",
+            "3",
+            "km",
+        ];
+        assert_eq!(
+            parsed(&words),
+            Ok(Arguments::OneCall(
+                Side::Rust,
+                Call::Field,
+                "a.bsii".into(),
+                asked
+            ))
+        );
+        assert_eq!(
+            parsed(&["--instructions"]),
+            Ok(Arguments::Instructions(Vec::new(), false))
+        );
+        let words = ["--only", "triples", "--markdown", "--instructions"];
+        assert_eq!(
+            parsed(&words),
+            Ok(Arguments::Instructions(vec!["triples".into()], true))
+        );
         assert_eq!(
             parsed(&["--write", "save-1"]),
             Ok(Arguments::Write("save-1".into()))
@@ -207,7 +310,7 @@ mod tests {
 
     #[test]
     fn badly_used() {
-        let bad: [&[&str]; 18] = [
+        let bad: [&[&str]; 26] = [
             &["save-7"],
             &["--what"],
             &["--rounds"],
@@ -225,11 +328,39 @@ mod tests {
             &["--convert", "ours", "a.bsii", "b.bsii"],
             &["--write", "-"],
             &["--only", "triples"],
+            &["--instructions", "--only", "save-17"],
+            &["--instructions", "--rounds", "3"],
+            &["--plot", "a.svg", "--instructions"],
+            &["--instructions", "--write", "save-1"],
+            &["--one-call", "ours", "text", "a.bsii", "12", "99", "3"],
+            &["--one-call", "ours", "read", "a.bsii", "12", "99", "3", ""],
+            &["--one-call", "ours", "text", "a.bsii", "-1", "99", "3", ""],
+            &[
+                "--one-call",
+                "ours",
+                "text",
+                "a.bsii",
+                "12",
+                "9",
+                "3",
+                "",
+                "a",
+            ],
             &["--markdown", "--write", "save-1"],
         ];
         for words in bad {
             assert!(parsed(words).is_err(), "{words:?}");
         }
+    }
+
+    #[test]
+    fn the_usage_says_what_instructions_are_counted_on() {
+        let hostile = ALL.into_iter().map(|(name, ..)| name);
+        let counted: Vec<&str> = ["save-1", "save-7"]
+            .into_iter()
+            .chain(hostile.filter(|name| *name != "enums"))
+            .collect();
+        assert_eq!(inputs::COUNTED.to_vec(), counted);
     }
 
     #[test]

@@ -1,6 +1,7 @@
 //! Files that are well-formed and as awkward as the format allows. Each has one cause that makes
 //! it so, and a text that fits into memory. They need at most 4,096 rows.
 
+use crate::saves;
 use generate::bytes::{array, block, choice, definition, file, floats, prototype, string};
 use generate::ids::smallest;
 use generate::Random;
@@ -18,7 +19,7 @@ type Maker = fn() -> Vec<u8>;
 /// Names, what they are, and the files.
 pub type Files<const N: usize> = [(&'static str, &'static str, Maker); N];
 
-pub const ALL: Files<8> = [
+pub const ALL: Files<10> = [
     (
         "prototypes",
         "4,096 prototypes with ids in random order, and the smallest blocks of the last one",
@@ -50,6 +51,16 @@ pub const ALL: Files<8> = [
         "enums",
         "an enum with a list of 4,096 pairs, and many values of it",
         enums,
+    ),
+    (
+        "enum-lists",
+        "a save of 1 MB whose prototypes have enums with lists of 40 pairs, among other fields",
+        saves::enum_lists,
+    ),
+    (
+        "bare-string",
+        "a string of a megabyte that needs no quotation marks",
+        bare_string,
     ),
 ];
 
@@ -192,6 +203,19 @@ pub fn enums() -> Vec<u8> {
     file(&records)
 }
 
+/// Letters of both cases, digits and `_`: all of them are looked at before it is known that the text
+/// has no quotation marks.
+pub fn bare_string() -> Vec<u8> {
+    const BARE: &[u8] = b"0123456789ABCDEFGHIJKLMNOPQRSTUVWXYZ_abcdefghijklmnopqrstuvwxyz";
+    let mut random = Random::new(SEED, 4);
+    let text: Vec<u8> = (0..SIZE).map(|_| random.pick(BARE)).collect();
+    let definitions = [definition(0x01, b"text")];
+    file(&[
+        prototype(1, b"giant", &definitions),
+        block(1, &string(&text)),
+    ])
+}
+
 #[cfg(test)]
 mod tests {
     use super::*;
@@ -265,6 +289,12 @@ mod tests {
         let (count, blocks, _) = counts(&redefinition());
         assert_eq!(count, 1);
         within(blocks, SIZE / AGAIN);
+    }
+
+    #[test]
+    fn a_string_without_quotation_marks() {
+        let text = sii_decode::to_siin(&bare_string()).unwrap();
+        assert!(text.len() > SIZE && !text.contains(&b'"'));
     }
 
     #[test]

@@ -14,6 +14,20 @@ const TABLE: [usize; 3] = [1, 7, 16];
 pub const PLOT: [usize; 7] = [1, 2, 4, 7, 10, 13, 16];
 /// The save that the bar is about.
 pub const NORMAL: &str = "save-7";
+/// Those that instructions are counted on if none are named: callgrind takes minutes for others.
+pub const COUNTED: [&str; 11] = [
+    "save-1",
+    NORMAL,
+    "prototypes",
+    "falling",
+    "names",
+    "long-text",
+    "arrays",
+    "redefinition",
+    "redefinitions",
+    "enum-lists",
+    "bare-string",
+];
 
 fn save(megabytes: usize) -> Input {
     Input {
@@ -60,7 +74,7 @@ pub fn is_larger(name: &str) -> bool {
     orders::all().any(|larger| larger.name == name)
 }
 
-/// The one of that name that can be written: one of those that are measured, or of one type.
+/// The one of that name that can be written and counted on: one of those that are timed, or of one type.
 pub fn to_write(name: &str) -> Option<Input> {
     by_name(name).or_else(|| vectors::all().find(|input| input.name == name))
 }
@@ -84,6 +98,7 @@ mod tests {
             assert_eq!(by_name(&input.name).unwrap().name, input.name);
         }
         assert!(by_name(NORMAL).is_some());
+        assert!(COUNTED.iter().all(|name| by_name(name).is_some()));
         assert!(by_name("save-0").is_none() && by_name("save-17").is_none());
         assert!(by_name("save-07").is_none() && by_name("").is_none());
         assert!(is_hostile("enums") && is_hostile("falling") && !is_hostile("save-1"));

@@ -6,9 +6,11 @@ mod arguments;
 mod hostile;
 mod index;
 mod inputs;
+mod instructions;
 mod loops;
 mod machine;
 mod memory;
+mod one_call;
 mod orders;
 mod plot;
 mod processes;
@@ -16,6 +18,7 @@ mod report;
 mod saves;
 mod sides;
 mod statistics;
+mod temporary;
 mod vectors;
 
 use arguments::{Arguments, Run, Side, USAGE};
@@ -65,6 +68,16 @@ fn answer(arguments: Arguments) -> Result<(), String> {
             };
             show(format!("{peak}\n").as_bytes())
         }
+        Arguments::OneCall(side, call, path, asked) => one_call::run(side, call, &path, &asked),
+        Arguments::Instructions(only, markdown) => {
+            let names = match only.is_empty() {
+                true => inputs::COUNTED.map(String::from).to_vec(),
+                false => only,
+            };
+            warn_of_allocator();
+            let inputs = names.iter().map(|name| input(name));
+            show(instructions::report(inputs, markdown)?.as_bytes())
+        }
         Arguments::Run(run) => measure(&run),
     }
 }
@@ -105,10 +118,14 @@ fn row(input: Input, rounds: usize) -> Result<Row, String> {
     })
 }
 
-fn measure(run: &Run) -> Result<(), String> {
+fn warn_of_allocator() {
     if oracle::LAZY {
         eprintln!("benchmark: the Rust has the allocator of the differential tests, which is not its usual one: build with -p benchmark alone");
     }
+}
+
+fn measure(run: &Run) -> Result<(), String> {
+    warn_of_allocator();
     if !processes::has_command() {
         eprintln!("benchmark: the command was not built (cargo build --release -p command): it is not timed");
     }

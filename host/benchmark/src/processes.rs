@@ -3,6 +3,7 @@
 
 use crate::arguments::Side;
 use crate::sides::{rust_text, Compared, Rounds};
+use crate::temporary::Temporary;
 use std::fs::{self, File};
 use std::io::{self, Write};
 use std::path::{Path, PathBuf};
@@ -23,15 +24,6 @@ pub fn convert(side: Side, path: &Path) -> Result<(), String> {
         Side::Rust => io::stdout().write_all(rust_text(&file)?.as_bytes()),
     };
     written.map_err(|error| format!("standard output: {error}"))
-}
-
-/// A file that is removed in the end.
-struct Temporary(PathBuf);
-
-impl Drop for Temporary {
-    fn drop(&mut self) {
-        let _ = fs::remove_file(&self.0);
-    }
 }
 
 fn failed(error: io::Error) -> String {
@@ -79,15 +71,14 @@ fn seconds(process: &mut Command) -> Result<f64, String> {
 
 /// Without the command, if it was not built.
 pub fn time(file: &[u8], rounds: usize) -> Result<Processes, String> {
-    let name = format!("sii-decode-benchmark.{}", std::process::id());
-    let path = Temporary(std::env::temp_dir().join(name));
-    fs::write(&path.0, file).map_err(failed)?;
+    let written = Temporary::new(file).map_err(failed)?;
+    let path = written.path();
     let text = rust_text(file)?;
-    let mut rust = own(Side::Rust, &path.0)?;
-    let mut ours = vec![("crate", own(Side::Ours, &path.0)?, Rounds::default())];
+    let mut rust = own(Side::Rust, path)?;
+    let mut ours = vec![("crate", own(Side::Ours, path)?, Rounds::default())];
     if let Some(command) = command()? {
         let mut process = Command::new(command);
-        process.arg(&path.0);
+        process.arg(path);
         ours.insert(0, ("command", process, Rounds::default()));
     }
     for process in ours

@@ -37,12 +37,15 @@ const LINEAR: f64 = 1.25;
 /// The longest call on a file with a larger table takes at most so many seconds.
 const LONGEST: f64 = 3.0;
 
-struct Table {
-    heads: Vec<&'static str>,
+pub struct Table {
+    pub heads: Vec<&'static str>,
     /// How many columns in front hold words and not numbers.
-    words: usize,
-    lines: Vec<Vec<String>>,
+    pub words: usize,
+    pub lines: Vec<Vec<String>>,
 }
+
+/// A title and its table.
+pub type Section = (&'static str, Table);
 
 impl Table {
     fn plain(&self) -> String {
@@ -354,7 +357,7 @@ fn bar(rows: &[Row]) -> Table {
 }
 
 /// The tables with their titles; one without a line is left out.
-fn sections(rows: &[Row]) -> Vec<(&'static str, Table)> {
+fn sections(rows: &[Row]) -> Vec<Section> {
     let (larger, others): (Vec<&Row>, Vec<&Row>) =
         rows.iter().partition(|row| is_larger(&row.name));
     let all = [
@@ -378,22 +381,26 @@ fn sections(rows: &[Row]) -> Vec<(&'static str, Table)> {
 }
 
 pub fn plain(rows: &[Row], rounds: usize) -> String {
-    let mut text = format!(
+    let head = format!(
         "{}\n{rounds} rounds in turns; median (least to most)\n",
         machine::line()
     );
-    for (title, table) in sections(rows) {
-        text += &format!("\n{title}\n{}", table.plain());
-    }
-    text
+    head + &plain_tables(&sections(rows))
+}
+
+pub fn plain_tables(sections: &[Section]) -> String {
+    let shown = |(title, table): &Section| format!("\n{title}\n{}", table.plain());
+    sections.iter().map(shown).collect()
 }
 
 pub fn markdown(rows: &[Row], rounds: usize) -> String {
-    let mut text = format!("{}; {rounds} rounds in turns.\n", machine::line());
-    for (title, table) in sections(rows) {
-        text += &format!("\n### {title}\n\n{}", table.markdown());
-    }
-    text
+    let head = format!("{}; {rounds} rounds in turns.\n", machine::line());
+    head + &markdown_tables(&sections(rows))
+}
+
+pub fn markdown_tables(sections: &[Section]) -> String {
+    let shown = |(title, table): &Section| format!("\n### {title}\n\n{}", table.markdown());
+    sections.iter().map(shown).collect()
 }
 
 #[cfg(test)]

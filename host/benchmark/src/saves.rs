@@ -74,14 +74,15 @@ const CITIES: [&str; 8] = [
     "dresden", "gdansk", "lille", "brno", "odense", "trieste", "cork", "x_42",
 ];
 
-/// A prototype and its fields' types.
+/// A prototype and its fields' types, with the numbers in the list of each of its enums.
 struct Kind {
     id: u32,
     record: Vec<u8>,
     types: Vec<u32>,
+    states: Vec<u32>,
 }
 
-/// The numbers and strings of every enum.
+/// The numbers and strings of every enum of a save.
 const STATES: [(u32, &[u8]); 5] = [
     (0, b"none"),
     (1, b"in_progress"),
@@ -89,6 +90,9 @@ const STATES: [(u32, &[u8]); 5] = [
     (5, b"delivered"),
     (9, b""),
 ];
+
+/// The pairs of every enum in the save of enum lists.
+const PAIRS: u32 = 40;
 
 fn words_joined(random: &mut Random, count: usize) -> String {
     let words: Vec<&str> = (0..count).map(|_| random.pick(&WORDS)).collect();
@@ -107,8 +111,18 @@ fn type_of_field(random: &mut Random) -> u32 {
     TYPES[0].0
 }
 
-/// Prototype `number` is the same in saves of all sizes.
-fn kind(number: usize) -> Kind {
+/// An enum with a long list of its own.
+fn long_choice(random: &mut Random, name: &[u8]) -> Vec<u8> {
+    let texts: Vec<String> = (0..PAIRS)
+        .map(|number| format!("{}_{number}", random.pick(&WORDS)))
+        .collect();
+    let pairs: Vec<(u32, &[u8])> = (0..PAIRS).zip(texts.iter().map(String::as_bytes)).collect();
+    choice(name, &pairs)
+}
+
+/// Prototype `number` is the same in saves of all sizes. In the save of enum lists every second
+/// field is an enum.
+fn kind(number: usize, has_lists: bool) -> Kind {
     let mut random = Random::new(SEED, number as u64);
     let mut fields = 3 + random.below(9);
     if random.chance(25) {
@@ -117,12 +131,17 @@ fn kind(number: usize) -> Kind {
     let mut types: Vec<u32> = (0..fields).map(|_| type_of_field(&mut random)).collect();
     // Each listed type has a field of its own, whatever was drawn.
     types[0] = TYPES[number % TYPES.len()].0;
+    if has_lists {
+        let enums = types.iter_mut().skip(1).step_by(2);
+        enums.for_each(|type_id| *type_id = 0x37);
+    }
     let id = 2 + 3 * number as u32;
     let mut definitions = Vec::new();
     for (field, type_id) in types.iter().enumerate() {
         let count = 1 + random.below(3);
         let name = format!("{}_{field}", words_joined(&mut random, count));
         definitions.push(match type_id {
+            0x37 if has_lists => long_choice(&mut random, name.as_bytes()),
             0x37 => choice(name.as_bytes(), &STATES),
             _ => definition(*type_id, name.as_bytes()),
         });
@@ -132,6 +151,10 @@ fn kind(number: usize) -> Kind {
         id,
         record: prototype(id, name.as_bytes(), &definitions),
         types,
+        states: match has_lists {
+            true => (0..PAIRS).collect(),
+            false => STATES.map(|(number, _)| number).to_vec(),
+        },
     }
 }
 
@@ -222,7 +245,7 @@ fn elements(random: &mut Random, element: impl Fn(&mut Random) -> Vec<u8>) -> Ve
     bytes
 }
 
-fn value(random: &mut Random, type_id: u32) -> Vec<u8> {
+fn value(random: &mut Random, type_id: u32, states: &[u32]) -> Vec<u8> {
     let cut =
         |width: usize| move |random: &mut Random| number(random).to_le_bytes()[..width].to_vec();
     let three = |random: &mut Random| [cut(4)(random), cut(4)(random), cut(4)(random)].concat();
@@ -253,7 +276,7 @@ fn value(random: &mut Random, type_id: u32) -> Vec<u8> {
         0x32 | 0x34 => elements(random, cut(8)),
         0x35 => flag(random),
         0x36 => elements(random, flag),
-        0x37 => random.pick(&STATES).0.to_le_bytes().to_vec(),
+        0x37 => random.pick(states).to_le_bytes().to_vec(),
         0x39 | 0x3b | 0x3d => id(random),
         _ => elements(random, id),
     }
@@ -266,7 +289,7 @@ fn block(random: &mut Random, kind: &Kind) -> Vec<u8> {
         false => id(random),
     });
     for type_id in &kind.types {
-        bytes.extend(value(random, *type_id));
+        bytes.extend(value(random, *type_id, &kind.states));
     }
     bytes
 }
@@ -284,9 +307,19 @@ fn drawn(random: &mut Random, defined: usize) -> usize {
 
 /// The save of so many megabytes, from 1 to 16.
 pub fn save(megabytes: usize) -> Vec<u8> {
+    let kinds: Vec<Kind> = (0..prototypes(megabytes)).map(|n| kind(n, false)).collect();
+    of_kinds(&kinds, blocks(megabytes), megabytes * MEGABYTE)
+}
+
+/// A save of a megabyte, as the others but for its enums.
+pub fn enum_lists() -> Vec<u8> {
+    let kinds: Vec<Kind> = (0..prototypes(1)).map(|n| kind(n, true)).collect();
+    of_kinds(&kinds, blocks(1), MEGABYTE)
+}
+
+/// So many blocks, and some so many bytes.
+fn of_kinds(kinds: &[Kind], blocks: usize, size: usize) -> Vec<u8> {
     let mut random = Random::new(SEED, BLOCKS);
-    let kinds: Vec<Kind> = (0..prototypes(megabytes)).map(kind).collect();
-    let blocks = blocks(megabytes);
     // A prototype stands in front of its first block, and all do in the first quarter.
     let apart = blocks / 4 / kinds.len();
     let mut records = Vec::with_capacity(kinds.len() + blocks);
@@ -306,7 +339,7 @@ pub fn save(megabytes: usize) -> Vec<u8> {
                 block(&mut random, &kinds[kind])
             });
             pair.sort_by_key(Vec::len);
-            let wanted = (megabytes * MEGABYTE) as u64 * number as u64 / blocks as u64;
+            let wanted = size as u64 * number as u64 / blocks as u64;
             let [short, long] = pair;
             if len as u64 > wanted {
                 short
@@ -370,10 +403,35 @@ mod tests {
 
     #[test]
     fn every_type_that_the_rust_reads() {
-        let types: HashSet<u32> = (0..prototypes(1)).flat_map(|n| kind(n).types).collect();
+        let types: HashSet<u32> = (0..prototypes(1))
+            .flat_map(|n| kind(n, false).types)
+            .collect();
         let mut read = HashSet::from(generate::LISTED);
         read.retain(|type_id| !matches!(type_id, 0x0a | 0x17));
         assert_eq!(types, read);
+    }
+
+    #[test]
+    fn lists_of_enums() {
+        let bytes = enum_lists();
+        assert!(bytes.len().abs_diff(MEGABYTE) * 20 <= MEGABYTE);
+        let parsed = oracle::parse(&bytes).expect("the Rust reads it");
+        assert_eq!(parsed.prototypes.len(), prototypes(1));
+        assert_eq!(parsed.data_blocks.len(), blocks(1));
+        for prototype in parsed.prototypes() {
+            let lists = prototype.fields().filter_map(|it| it.enum_values.as_ref());
+            let lengths: Vec<usize> = lists.map(|list| list.len()).collect();
+            assert!(lengths.len() >= prototype.fields().count() / 2);
+            assert!(lengths.iter().all(|length| *length == PAIRS as usize));
+        }
+        let values = parsed.data_blocks.iter().flat_map(|block| &block.data);
+        let numbers: HashSet<u32> = values
+            .filter_map(|value| match value {
+                oracle::DataValue::Enum(number) => Some(*number),
+                _ => None,
+            })
+            .collect();
+        assert_eq!(numbers, (0..PAIRS).collect());
     }
 
     #[test]

@@ -63,18 +63,23 @@ pub fn rust_text(file: &[u8]) -> Result<String, String> {
     oracle::to_siin(&parsed).map_err(|fault| format!("the Rust has no text of it: {fault:?}"))
 }
 
-/// Both texts, which have to be equal, then the rounds. The buffers that we are lent are allocated
-/// once and cleared in front of each round, outside of the time. What the Rust allocates belongs to
-/// its calls, so that is inside; what it frees afterwards is not.
-pub fn time(file: &[u8], rounds: usize) -> Result<Timed, String> {
+/// The table and the output that we are lent, after both texts were made, which have to be equal.
+pub fn agreed(file: &[u8]) -> Result<(Vec<u32>, Vec<u8>), String> {
     let (mut table, length) = lent(file)?;
     let mut output = vec![0; length];
     let answer = library::to_siin(file, &mut table, &mut output);
     let text = rust_text(file)?;
-    if answer.number != 0 || output != text.as_bytes() {
-        return Err("the two texts differ".into());
+    match answer.number == 0 && output == text.as_bytes() {
+        true => Ok((table, output)),
+        false => Err("the two texts differ".into()),
     }
-    drop(text);
+}
+
+/// Both texts, then the rounds. The buffers that we are lent are allocated once and cleared in front
+/// of each round, outside of the time. What the Rust allocates belongs to its calls, so that is
+/// inside; what it frees afterwards is not.
+pub fn time(file: &[u8], rounds: usize) -> Result<Timed, String> {
+    let (mut table, mut output) = agreed(file)?;
     let (mut reading, mut text) = (Rounds::default(), Rounds::default());
     for round in 0..rounds {
         // Neither side always has the machine as the other one left it.

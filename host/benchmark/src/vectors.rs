@@ -1,5 +1,5 @@
 //! Saves of one vector type each, and of placements in both versions. The Rust reads neither two of the
-//! types nor version 1, so they are not timed but written, for tools that count instructions.
+//! types nor version 1, so they are not timed, but instructions are counted on them.
 
 use crate::inputs::Input;
 use generate::bytes::{array, block, definition, file_of, floats, prototype};
