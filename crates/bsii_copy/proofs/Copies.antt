@@ -6,7 +6,7 @@ use native.Mathlib.Omega.{arith}
 use lib.ListN.{set, length, getD, take, drop, length-drop, take-append-drop}
 use lib.Seq.{sets, set-set, length-take-le, take-all, drop-cons, getD-drop, take-add}
 use Rattle.bsii_window.proofs.Laws.{more}
-use Rattle.bsii_window.proofs.Fills.{sets-before}
+use Rattle.bsii_digits.proofs.Fills.{sets-before}
 use Rattle.bsii_copy.proofs.Stores.{stored-more}
 
 -- ---- byte by byte, from an index of the text on

@@ -4,6 +4,7 @@ ghost use mathlib.Core.Path.{_≡_};
 ghost use Prim.Native.Nat.{_+_, _-_, _≤_, _<_};
 ghost use lib.ListN.{length, take, drop};
 ghost use lib.Seq.{sets};
+ghost use Rattle.bsii_window.specs.Stored.{Stored};
 
 // All loads stand in front of the stores, so that the compiler makes one of them.
 fn copy_eight(out: &mut [u8], to: usize, text: &[u8], from: usize)
@@ -129,4 +130,13 @@ pub fn copy_name(out: &mut [u8], start: usize, name: &[u8])
         return;
     }
     store(out, start, name);
+}
+
+// The index behind it too.
+pub fn store_name(out: &mut [u8], to: usize, name: &[u8]) -> usize
+    requires { ⌜ to + length (now name) ≤ length (now out) ⌝ }
+    ensures { λ r. ⌜ Stored (now (out .entry)) to (now (name .entry)) r (now (out .exit)) ⌝ }
+{
+    copy_name(out, to, name);
+    to + name.len()
 }

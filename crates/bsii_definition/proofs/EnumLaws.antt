@@ -1,5 +1,6 @@
 -- Enum lists that were accepted: the string of a number is that of its last pair.
-use mathlib.Core.Path.{_≡_, refl, sym, ap, ap₂, _∙_}
+use mathlib.Core.Path.{_≡_, refl, sym, ap, ap₂, _∙_, subst}
+use mathlib.Core.Logic.{⊎-elim}
 use Prim.Native.Nat.{ℕ, zero, suc, _+_, _-_, _≤_, _<_}
 use native.Mathlib.Omega.{arith}
 use mathlib.Core.Bool.{Bool, true, false, cond}
@@ -9,19 +10,20 @@ use lib.Dec.{eqb}
 use lib.ListN.{length, take, drop}
 use Rattle.bsii_format.specs.Replies.{Fault as Reason}
 use Rattle.bsii_format.specs.Reader.{Result, ok, fault, Reader, _>>=_, success, repeat}
-use Rattle.bsii_format.specs.Numbers.{number}
+use Rattle.bsii_format.specs.Numbers.{littleEndian, number}
 use Rattle.bsii_format.specs.Strings.{strParser}
 use Rattle.bsii_format.specs.Prototypes.{EnumValue, enumValueParser, enumValuesParser}
 use Rattle.bsii_format.specs.Text.{firstSome, enumString}
 use Rattle.bsii_format.proofs.Readers.{after-ok, fault≢ok, ok-val, ok-at, ok-rest}
 use Rattle.bsii_format.proofs.Parsers.{enumValue-exact}
-use Rattle.bsii_format.proofs.Positions.{moved, bind-fault, bind-ok}
+use Rattle.bsii_format.proofs.Lists.{lt-or-le}
+use Rattle.bsii_format.proofs.Positions.{moved, bind-fault, bind-ok, number-at, number-short}
 use Rattle.bsii_string.specs.Answers.{endOf, uncheckedStr}
 use Rattle.bsii_string.specs.declared.answers.Refusal.{Refusal}
 use Rattle.bsii_string.specs.declared.answers.Parsed.{Parsed}
 use Rattle.bsii_string.specs.declared.answers.Parsed.the-variants.{Next, Fault}
 use Rattle.bsii_string.proofs.Ends.{next≢fault, next-same}
-use Rattle.bsii_string.proofs.Texts.{str-past-next}
+use Rattle.bsii_string.proofs.Texts.{str-past-next, unchecked-cut, unchecked-whole}
 use Rattle.bsii_prototype.specs.Entries.{enumValuesWith}
 use Rattle.bsii_prototype.proofs.Unchecked.{checked-enum-value, checked-enum-values}
 use Rattle.bsii_prototype.proofs.Names.{checked, unchecked, named}
@@ -62,6 +64,40 @@ module _ (s : List ℕ) (at : ℕ) where
           let w = named unchecked s i (q .2) in
           (omega (arith, w .end), w .inside);
     }
+
+-- by the bytes that are left
+module _ (s : List ℕ) (at : ℕ) where
+  pub pair-short : length s < at + 8 → PairAt s at NoPair
+  unfolding enumValueParser _>>=_
+  pair-short h = record { is = λ p n t f. ⊎-elim (none p n t f) (some-left p n t f) (lt-or-le (length s) (at + 4)); inside = tt }
+    where
+      none : (p : EnumValue) (n : ℕ) (t : List ℕ) → enumValueParser at (drop at s) ≡ ok p n t → length s < at + 4 → ⊥
+      none p n t f l = fault≢ok (sym (bind-fault (number 4) _ (number-short 4 s at (omega arith))) ∙ f)
+
+      some-left : (p : EnumValue) (n : ℕ) (t : List ℕ) → enumValueParser at (drop at s) ≡ ok p n t → at + 4 ≤ length s → ⊥
+      some-left p n t f l =
+          let q = after-ok (strParser (at + 4) (drop (at + 4) s)) _ (sym (bind-ok (number 4) _ (number-at 4 s at (omega arith))) ∙ f) in
+          let w = named checked s (at + 4) (q .3) in
+          omega (arith, w .end, w .inside)
+
+  module _ (room : at + 8 ≤ length s) {k n : ℕ} (p : k ≡ littleEndian (take 4 (drop at s))) (q : n ≡ littleEndian (take 4 (drop (at + 4) s))) where
+    numbered : number 4 at (drop at s) ≡ ok k (at + 4) (drop (at + 4) s)
+    numbered = number-at 4 s at (omega arith) ∙ ap (λ (m : ℕ). ok m (at + 4) (drop (at + 4) s)) (sym p)
+
+    sized : number 4 (at + 4) (drop (at + 4) s) ≡ ok n (at + 8) (drop (at + 8) s)
+    sized =
+        let z : at + 4 + 4 ≡ at + 8 = omega arith in
+        number-at 4 s (at + 4) (omega arith) ∙ ap (λ (m : ℕ). ok m (at + 4 + 4) (drop (at + 4 + 4) s)) (sym q) ∙ ap (λ (i : ℕ). ok n i (drop i s)) z
+
+    pub pair-cut : length s < at + 8 + n → PairAt s at NoPair
+    unfolding endOf
+    pair-cut h = no-string s at numbered (sym (ap endOf (unchecked-cut s (at + 4) n (at + 8) sized (omega arith))))
+
+    pub pair-whole : at + 8 + n ≤ length s → PairAt s at (Pair k (at + 8) (at + 8 + n))
+    unfolding endOf
+    pair-whole h =
+        let z : at + 4 + 4 ≡ at + 8 = omega arith in
+        subst (λ (i : ℕ). PairAt s at (Pair k i (at + 8 + n))) z (a-pair s at numbered (sym (ap endOf (unchecked-whole s (at + 4) n (at + 8) sized (omega arith)))))
 
 -- ---- the walk along the list
 

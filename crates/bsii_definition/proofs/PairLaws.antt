@@ -15,8 +15,9 @@ use Rattle.bsii_prototype.specs.Answers.{entryOf}
 use Rattle.bsii_prototype.specs.declared.answers.Entry.{Entry}
 use Rattle.bsii_prototype.specs.declared.answers.Entry.the-variants.{Field}
 use Rattle.bsii_prototype.proofs.answers.Entry.{the-type}
-use Rattle.bsii_prototype.proofs.Turns.{turn-field, turn-last, turn-bad}
-use Rattle.bsii_field.proofs.Entries.{unfielded, field-inside}
+use Rattle.bsii_prototype.proofs.Turns.{turn-field, turn-last, turn-none, turn-bad}
+use Rattle.bsii_prototype.proofs.Inside.{field-inside}
+use Rattle.bsii_field.proofs.Entries.{unfielded}
 use Rattle.bsii_definition.specs.Pairs.{definition, Begins, Describes, Paired, PairIs, both, ends, last-longer, last-shorter, PairOf, WithLast, WithoutLast, SameCount}
 use Rattle.bsii_definition.specs.declared.pairs.Pair.{Pair}
 use Rattle.bsii_definition.specs.declared.pairs.Pair.the-variants.{Both, Ends, Uneven}
@@ -49,8 +50,8 @@ module _ (s : List ℕ) (at : ℕ) {type a b next : ℕ} (f : Field type a b nex
 -- ---- both lists
 
 module _ (s : List ℕ) (field : ℕ) where
-  pub same-end : (x : Entry) → OneOf (1 ∷ 2 ∷ []) (tagOf the-type x) → x ≡ entryOf (field + 8) (entryWith uncheckedStr field (drop field s)) → PairOf s field field Ends
-  same-end x h f = record { is = λ l n t e m o u g. ends (at-end s field e x h f) (at-end s field g x h f); inside = tt }
+  pub same-end : ((type a b next : ℕ) → Field type a b next ≡ entryOf (field + 8) (entryWith uncheckedStr field (drop field s)) → ⊥) → PairOf s field field Ends
+  same-end f = record { is = λ l n t e m o u g. ends (turn-none s field e f) (turn-none s field g f); inside = tt }
 
   pub same-both : {type a b next : ℕ} → Field type a b next ≡ entryOf (field + 8) (entryWith uncheckedStr field (drop field s))
       → PairOf s field field (Both type type a b next next)

@@ -1,8 +1,8 @@
 // The string of an enum value.
 use bsii_string::answers::Num;
-use bsii_string::answers::Parsed;
 use bsii_string::numbers::le_u32;
-use bsii_string::strings::skip_str;
+use bsii_string::numbers::quad;
+use bsii_string::numbers::size;
 ghost use mathlib.Core.Path.{_≡_};
 ghost use Rattle.bsii_definition.specs.Enums.{PairAt, later, LastPair, StringOf};
 
@@ -22,20 +22,24 @@ pub enum EnumPair {
     NoPair,
 }
 
+// A pair has eight bytes at least, so one test serves for its number and its string's length.
 fn enum_pair(s: &[u8], at: usize) -> EnumPair
     ensures { λ r. ⌜ PairAt (now (s .entry)) at r ⌝ }
 {
-    let number = le_u32(s, at);
-    let Num::Got(n, string) = number else {
+    if s.len() < 8 {
         return EnumPair::NoPair;
-    };
-    let end = skip_str(s, string);
-    let Parsed::Next(next) = end else {
+    }
+    if s.len() - 8 < at {
         return EnumPair::NoPair;
-    };
+    }
+    let count = size(quad(s, at + 4));
+    let next = at + 8 + count;
+    if s.len() < next {
+        return EnumPair::NoPair;
+    }
     EnumPair::Pair {
-        number: n,
-        start: string + 4,
+        number: quad(s, at),
+        start: at + 8,
         next,
     }
 }

@@ -1,4 +1,5 @@
 // Two lists of definitions side by side: those in force and the last ones of the same prototype id.
+use bsii_prototype::accepted::accepted_at;
 use bsii_prototype::answers::Entry;
 use bsii_prototype::skip::skip_value_prototype;
 ghost use Rattle.bsii_definition.specs.Pairs.{PairOf, WithLast, WithoutLast, SameCount};
@@ -28,23 +29,17 @@ pub enum Pair {
 fn same_pair(s: &[u8], field: usize) -> Pair
     ensures { λ r. ⌜ PairOf (now (s .entry)) field field r ⌝ }
 {
-    let entry = skip_value_prototype(s, field);
-    let Entry::Field {
-        type_id,
-        name,
-        name_end,
-        next,
-    } = entry
-    else {
+    let found = accepted_at(s, field);
+    if found.type_id == 0 {
         return Pair::Ends;
-    };
+    }
     Pair::Both {
-        type_id,
-        last_type: type_id,
-        name,
-        name_end,
-        next,
-        last_next: next,
+        type_id: found.type_id,
+        last_type: found.type_id,
+        name: field + 8,
+        name_end: found.name_end,
+        next: found.next,
+        last_next: found.next,
     }
 }
 

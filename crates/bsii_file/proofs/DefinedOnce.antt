@@ -1,32 +1,27 @@
 -- The table has a row for each id, so there are as many rows as prototypes if and only if no id is defined twice.
 use mathlib.Core.Path.{_≡_, refl, sym, ap, _∙_}
-use Prim.Native.Nat.{ℕ, _+_}
+use Prim.Native.Nat.{ℕ}
 use native.Mathlib.Omega.{arith}
 use mathlib.Core.Bool.{Bool, true, false}
-use mathlib.Core.List.{List, [], _∷_}
+use mathlib.Core.List.{List, []}
 use lib.ListN.{length}
 use Rattle.bsii_format.specs.Replies.{refuses}
 use Rattle.bsii_format.specs.Prototypes.{Prototype}
-use Rattle.bsii_format.specs.File.{Record, prototype, block, recordBytes, define, defineAll, distinctIds, prototypesOf}
+use Rattle.bsii_format.specs.File.{recordBytes, defineAll, distinctIds, prototypesOf}
 use Rattle.bsii_format.specs.Calls.{placedRecords, ofFile}
 use Rattle.bsii_string.specs.Answers.{faultIs}
 use Rattle.bsii_string.specs.declared.answers.Refusal.{Refusal}
 use Rattle.bsii_derived.specs.IndexCalls.{once, definesOnceCall}
 use Rattle.bsii_derived.proofs.Once.{once-counts, counts-once}
-use Rattle.bsii_parse.specs.Walks.{prototypeCount, read, unread, ReadTree}
+use Rattle.bsii_parse.specs.Walks.{read, unread, ReadTree}
 use Rattle.bsii_parse.specs.declared.walk.Totals.{Totals}
 use Rattle.bsii_parse.specs.declared.walk.Walked.{Walked}
 use Rattle.bsii_parse.specs.declared.walk.Walked.the-variants.{Done, Fault as Stopped}
+use Rattle.bsii_parse.proofs.Records.{defined-length}
 use Rattle.bsii_parse.proofs.Tables.{bare-all}
 use Rattle.bsii_parse.proofs.Whole.{done≢stopped}
 use Rattle.bsii_file.specs.Answers.{numberIs}
 use Rattle.bsii_file.specs.declared.blocks.NumberReply.the-variants.{Number, Refused}
-
-defined-length : (l : List Record) (env : List Prototype) → length (defineAll l env) ≡ prototypeCount l + length env
-unfolding defineAll define prototypeCount
-defined-length [] env = omega arith
-defined-length (prototype p ∷ l) env = defined-length l (p ∷ env) ∙ omega arith
-defined-length (block b ∷ l) env = defined-length l env
 
 once-is : (env : List Prototype) (b : Bool) → once env ≡ b → (distinctIds env ≡ length env → b ≡ true) × ((distinctIds env ≡ length env → ⊥) → b ≡ false)
 once-is env true e = ((λ h. refl), (λ h. absurd (h (once-counts env e))))

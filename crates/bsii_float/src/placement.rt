@@ -1,9 +1,11 @@
 // A placement's sums: the offset of a sector is added to a coordinate. One float holds the sectors of both coordinates.
+use crate::floats::bits_of;
+use crate::floats::float_of;
 use crate::whole::power_of_two;
 ghost use mathlib.Core.Path.{_≡_};
 ghost use Prim.Native.Nat.{_<_};
 ghost use lib.Ieee.{binary32, add, ofBits, ofInt};
-ghost use Rattle.bsii_format.specs.Floats.{floorMod, floorDiv, coefficient as coefficientOf, sectorOffset, quieted};
+ghost use Rattle.bsii_format.specs.Floats.{floorMod, floorDiv, coefficient as coefficientOf, sectorOffset, quieted, sectorSum};
 ghost use Rattle.bsii_float.specs.Cut.{cutSize};
 
 pub struct Sectors {
@@ -76,4 +78,12 @@ pub fn quiet(bits: u32) -> u32
         return bits + 0x40_0000;
     }
     bits
+}
+
+// The bits of a coordinate in its sector.
+pub fn in_sector(bits: u32, sector: u32) -> u32
+    requires { ⌜ sector < 4096 ⌝ }
+    ensures { λ r. ⌜ r ≡ sectorSum «bits» sector ⌝ }
+{
+    bits_of(sector_sum(float_of(bits), sector), quiet(bits))
 }

@@ -60,15 +60,15 @@ sectorSum-below b k h =
     (let x = add binary32 (ofBits binary32 b) (ofInt binary32 (sectorOffset k)) in
     omega (arith, toBits-lt binary32 x (add-fits binary32 (ofBits binary32 b) (ofInt binary32 (sectorOffset k)))))
 
-vec2-length : (a b : List ℕ) → length (vec2Text a b) ≡ 4 + length a + length b
+pub vec2-length : (a b : List ℕ) → length (vec2Text a b) ≡ 4 + length a + length b
 unfolding vec2Text
 vec2-length a b = simp length-append (omega arith)
 
-vec3-length : (a b c : List ℕ) → length (vec3Text a b c) ≡ 6 + length a + length b + length c
+pub vec3-length : (a b c : List ℕ) → length (vec3Text a b c) ≡ 6 + length a + length b + length c
 unfolding vec3Text
 vec3-length a b c = simp length-append (omega arith)
 
-vec4-length : (a b c d : List ℕ) → length (vec4Text a b c d) ≡ 8 + length a + length b + length c + length d
+pub vec4-length : (a b c d : List ℕ) → length (vec4Text a b c d) ≡ 8 + length a + length b + length c + length d
 unfolding vec4Text
 vec4-length a b c d = simp length-append (omega arith)
 

@@ -24,8 +24,7 @@ use Rattle.bsii_definition.specs.declared.pairs.Definition.{Definition}
 use Rattle.bsii_window.specs.Window.{Wrote}
 use Rattle.bsii_window.proofs.Laws.{then, being, same}
 use Rattle.bsii_window.proofs.Loops.{begin, end}
-use Rattle.bsii_lines.proofs.LineLaws.{open-line, opening}
-use Rattle.bsii_lines.specs.Lines.{nameOf, LinesAre, RestWritten, ElementWritten, VectorWritten, ArrayWritten, FieldWritten}
+use Rattle.bsii_lines.specs.Lines.{nameOf, LinesAre, RestWritten, SingleWritten, IndexedWritten, VectorWritten, ArrayWritten, FieldWritten}
 use Rattle.bsii_lines.specs.declared.fields.Lines.{Lines}
 use Rattle.bsii_lines.specs.declared.fields.Lines.the-variants.{Next, NotInList as Absent}
 
@@ -117,7 +116,7 @@ module _ (s : List ℕ) (start : ℕ) (k : Kind) (d : Definition) (count : ℕ) 
               ∙ x .text;
         }
 
-  pub go-absent : i < count → {new : List ℕ} → ElementWritten s at k d i out here Absent new → VectorWritten s start k d count old to Absent new
+  pub go-absent : i < count → {new : List ℕ} → IndexedWritten s at k d i out here Absent new → VectorWritten s start k d count old to Absent new
   unfolding append
   go-absent h {new} w = record {
     writes = λ l n e f q.
@@ -132,7 +131,7 @@ module _ (s : List ℕ) (start : ℕ) (k : Kind) (d : Definition) (count : ℕ) 
       stop done none more n m name a e = subst (λ (o : Option (List ℕ)). LinesAre old to o n Absent new) e tt
       stop done (some v) more n m name a e = absurd a
 
-  pub go-on : i < count → {next r : ℕ} {new : List ℕ} → ElementWritten s at k d i out here (Next next r) new → Going s start k d count old to next r (i + 1) new
+  pub go-on : i < count → {next r : ℕ} {new : List ℕ} → IndexedWritten s at k d i out here (Next next r) new → Going s start k d count old to next r (i + 1) new
   go-on h {next} {r} {new} w = record {
     rest = λ l n e f q.
         let x = next′ h e f q in
@@ -163,11 +162,6 @@ lines-behind w none n Absent new h = tt
 lines-behind w (some t) n (Next at r) new h = (h .0, then w (h .1))
 lines-behind w (some t) n Absent new h = absurd h
 
--- the count's line
-count-line : (name v : List ℕ) → (ascii "  " ++ name ++ ascii ": ") ++ v ++ (10 ∷ []) ≡ fieldLine name v
-unfolding fieldLine
-count-line name v = refl
-
 elements : (s : List ℕ) (at : ℕ) (k : Kind) {count first : ℕ} → number 4 at (drop at s) ≡ ok count first (drop first s) → {v : Value} {n : ℕ} → shapeParser (some (many k)) at (drop at s) ≡ ok v n (drop n s)
     → (l : List (Consumed Element)) × (array l ≡ v) × (repeat count (consumed (elementParser k)) first (drop first s) ≡ ok l n (drop n s))
 unfolding shapeParser
@@ -180,15 +174,15 @@ module _ (s : List ℕ) (at : ℕ) (k : Kind) (d : Definition) {old : List ℕ} 
   array-short e = record { writes = λ v n f g q. fault≢ok (sym (many-short k at (drop at s) e) ∙ f); size = refl }
 
   module _ {count first : ℕ} (e : number 4 at (drop at s) ≡ ok count first (drop first s)) where
-    pub array-lines : {p₁ p₂ p₃ : ℕ} {m₁ m₂ m₃ : List ℕ} → Wrote old to (ascii "  " ++ nameOf s d ++ ascii ": ") p₁ m₁ → Wrote m₁ p₁ (decimal count) p₂ m₂ → Wrote m₂ p₂ (10 ∷ []) p₃ m₃
-        → {r : Lines} {new : List ℕ} → VectorWritten s first k d count m₃ p₃ r new → ArrayWritten s at k d old to r new
+    pub array-lines : {p : ℕ} {mid : List ℕ} → Wrote old to (fieldLine (nameOf s d) (decimal count)) p mid → {r : Lines} {new : List ℕ} → VectorWritten s first k d count mid p r new
+        → ArrayWritten s at k d old to r new
     unfolding valueText
-    array-lines w₁ w₂ w₃ {r} {new} h = record {
+    array-lines w {r} {new} h = record {
       writes = λ v n f g q.
           let x = elements s at k e f in
-          let line = being (count-line (nameOf s d) (decimal count) ∙ ap₂ (λ (y : List ℕ) (c : ℕ). fieldLine y (decimal c)) (q .name) (sym (row-length count (consumed (elementParser k)) first (drop first s) (x .2)))) (then (then w₁ w₂) w₃) in
+          let line = being (ap₂ (λ (y : List ℕ) (c : ℕ). fieldLine y (decimal c)) (q .name) (sym (row-length count (consumed (elementParser k)) first (drop first s) (x .2)))) w in
           subst (λ (v : Value). LinesAre old to (valueText g v) n r new) (x .1) (lines-behind line (elementLines (g .name) (g .enumValues) 0 (x .0)) n r new (h .writes (x .0) n (x .2) g q));
-      size = h .size ∙ same (then (then w₁ w₂) w₃);
+      size = h .size ∙ same w;
     }
 
 module _ {version : ℕ} (s : List ℕ) (at type : ℕ) (d : Definition) {old : List ℕ} {to : ℕ} where
@@ -200,15 +194,12 @@ module _ {version : ℕ} (s : List ℕ) (at type : ℕ) (d : Definition) {old : 
   unfolding valueParser
   field-array e w = record { writes = λ v n f. w .writes v n (ap (λ (o : Option Shape). shapeParser o at (drop at s)) (sym e) ∙ f); size = w .size }
 
-  pub field-single : {k : Kind} → shapeOf version type ≡ some (one k) → {p : ℕ} {mid : List ℕ} → Wrote old to (ascii "  " ++ nameOf s d ++ ascii ": ") p mid
-      → {r : Lines} {new : List ℕ} → RestWritten s at k d mid p r new → FieldWritten version s at type d old to r new
+  pub field-single : {k : Kind} → shapeOf version type ≡ some (one k) → {r : Lines} {new : List ℕ} → SingleWritten s at k d old to r new → FieldWritten version s at type d old to r new
   unfolding valueParser shapeParser valueText
-  field-single {k} e {p} {mid} w {r} {new} h = record {
+  field-single {k} e {r} {new} h = record {
     writes = λ v n f g q.
         let x = map-ok single (consumed (elementParser k)) at (drop at s) (ap (λ (o : Option Shape). shapeParser o at (drop at s)) (sym e) ∙ f) in
         let y = step (element-exact k) s at (x .2) in
-        subst (λ (v : Value). LinesAre old to (valueText g v) n r new) (x .1)
-        (open-line (ascii "  " ++ g .name ++ ascii ": ") (fieldLine (g .name)) (opening (g .name)) old to p mid
-        (being (ap (λ (z : List ℕ). ascii "  " ++ z ++ ascii ": ") (q .name)) w) (elementText (g .enumValues) (x .0 .value)) n r new (h .writes (x .0 .value) n (y .reads) g q));
-    size = h .size ∙ same w;
+        subst (λ (v : Value). LinesAre old to (valueText g v) n r new) (x .1) (h .writes (x .0 .value) n (y .reads) g q);
+    size = h .size;
   }

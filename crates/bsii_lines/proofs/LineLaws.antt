@@ -1,22 +1,28 @@
 -- Lines from their parts.
 use mathlib.Core.Path.{_≡_, refl, sym, ap, _∙_, subst}
 use Prim.Native.Nat.{ℕ, _-_}
-use native.Mathlib.Omega.{arith}
 use mathlib.Core.Option.{Option, none, some, Option·map}
 use mathlib.Core.List.{List, [], _∷_, _++_, append-assoc}
-use lib.ListN.{length, take, drop}
-use lib.Seq.{take-at}
+use lib.ListN.{take, drop}
 use Rattle.bsii_format.specs.Ascii.{ascii}
-use Rattle.bsii_format.specs.Reader.{ok, Reader, WellFormed}
-use Rattle.bsii_format.specs.Types.{Kind}
-use Rattle.bsii_format.specs.Values.{Element, elementParser}
-use Rattle.bsii_format.specs.Text.{elementText, indexed, fieldLine}
-use Rattle.bsii_format.proofs.Readers.{Exact, fits-well-formed}
+use Rattle.bsii_format.specs.Reader.{ok, WellFormed, repeat}
+use Rattle.bsii_format.specs.Numbers.{number}
+use Rattle.bsii_format.specs.Strings.{strParser, encodedStrParser, idParser}
+use Rattle.bsii_format.specs.Types.{width, arity, Kind, numbers, string, encodedString, id}
+use Rattle.bsii_format.specs.Prototypes.{EnumValue}
+use Rattle.bsii_format.specs.Values.{Element, nums, str, word, ident, elementParser}
+use Rattle.bsii_format.specs.Text.{elementText, fieldLine}
+use Rattle.bsii_format.proofs.Readers.{map-ok}
 use Rattle.bsii_format.proofs.Parsers.{element-exact}
 use Rattle.bsii_string.specs.Answers.{endOf}
 use Rattle.bsii_string.specs.declared.answers.Refusal.{Refusal}
 use Rattle.bsii_string.specs.declared.answers.Parsed.the-variants.{Next as Past, Fault}
 use Rattle.bsii_string.proofs.Ends.{next≢fault, next-same}
+use Rattle.bsii_value.specs.Kinds.{kindIs}
+use Rattle.bsii_value.specs.declared.types.Kind.{Kind as KindCase}
+use Rattle.bsii_value.proofs.ElementTexts.{own-bytes, NoEnum, any-list}
+use Rattle.bsii_line.specs.Lines.{LineWritten}
+use Rattle.bsii_line.proofs.Laws.{opening}
 use Rattle.bsii_skip.specs.Unchecked.{uncheckedElement}
 use Rattle.bsii_skip.proofs.Values.{element-same}
 use Rattle.bsii_definition.specs.declared.pairs.Definition.{Definition}
@@ -28,23 +34,14 @@ use Rattle.bsii_lines.specs.declared.elements.Scalar.the-variants.{To, N
 use Rattle.bsii_lines.specs.declared.fields.Lines.{Lines}
 use Rattle.bsii_lines.specs.declared.fields.Lines.the-variants.{Next, NotInList as Absent}
 
--- ---- an element by its own bytes
-
-pub own-bytes : {A : Type 0} {R : Reader A} → Exact A R → (s : List ℕ) (at : ℕ) {v : A} {n : ℕ} → R at (drop at s) ≡ ok v n (drop n s) → WellFormed R v (take (n - at) (drop at s))
-own-bytes {A} {R} x s at {v} {n} e =
-    let q = x .took at (drop at s) v n (drop n s) e in
-    let size : length (q .0) ≡ n - at = omega (arith, q .1 .place) in
-    let bytes : q .0 ≡ take (n - at) (drop at s) = sym (ap (take (n - at)) (q .1 .front) ∙ take-at (q .0) (drop n s) (n - at) size) in
-    subst (WellFormed R v) bytes (fits-well-formed (q .1 .fits))
-
 -- ---- the end of a line
 
 -- a contract at the case that was answered
 pub scalar-by : {raw : List ℕ} {k : Kind} {s : List ℕ} {d : Definition} {old : List ℕ} {at : ℕ} {x r : Scalar} {new : List ℕ} → x ≡ r → ScalarWritten raw k s d old at x new → ScalarWritten raw k s d old at r new
 scalar-by {raw} {k} {s} {d} {old} {at} {x} {r} {new} e h = subst (λ (y : Scalar). ScalarWritten raw k s d old at y new) e h
 
-pub element-by : {s : List ℕ} {at : ℕ} {k : Kind} {d : Definition} {i : ℕ} {old : List ℕ} {to : ℕ} {x r : Lines} {new : List ℕ} → x ≡ r → ElementWritten s at k d i old to x new → ElementWritten s at k d i old to r new
-element-by {s} {at} {k} {d} {i} {old} {to} {x} {r} {new} e h = subst (λ (y : Lines). ElementWritten s at k d i old to y new) e h
+pub element-by : {s : List ℕ} {at : ℕ} {k : Kind} {d : Definition} {label : List ℕ → List ℕ} {old : List ℕ} {to : ℕ} {x r : Lines} {new : List ℕ} → x ≡ r → ElementWritten s at k d label old to x new → ElementWritten s at k d label old to r new
+element-by {s} {at} {k} {d} {label} {old} {to} {x} {r} {new} e h = subst (λ (y : Lines). ElementWritten s at k d label old to y new) e h
 
 end-absent : (old : List ℕ) (to : ℕ) (o : Option (List ℕ)) (n : ℕ) (new : List ℕ) → ScalarIs old to o NotInList new → LinesAre old to (lineEnd o) n Absent new
 end-absent old to none n new h = tt
@@ -89,16 +86,51 @@ open-line x y e old to p mid w none n Absent new h = tt
 open-line x y e old to p mid w (some v) n (Next at r) new h = (h .0, being (e v) (then w (h .1)))
 open-line x y e old to p mid w (some v) n Absent new h = absurd h
 
-pub opening : (name v : List ℕ) → (ascii "  " ++ name ++ ascii ": ") ++ (v ++ ascii "\n") ≡ fieldLine name v
-unfolding fieldLine
-opening name v = simp append-assoc
+-- the label's opening in front of the rest
+pub opened-line : (label : List ℕ → List ℕ) (s : List ℕ) (at : ℕ) (k : Kind) (d : Definition) {old : List ℕ} {to p : ℕ} {mid : List ℕ} → Wrote old to (ascii "  " ++ label (nameOf s d) ++ ascii ": ") p mid
+    → {r : Lines} {new : List ℕ} → RestWritten s at k d mid p r new → ElementWritten s at k d label old to r new
+opened-line label s at k d {old} {to} {p} {mid} w {r} {new} h = record {
+  writes = λ e n f g q.
+      open-line (ascii "  " ++ label (g .name) ++ ascii ": ") (fieldLine (label (g .name))) (opening (label (g .name))) old to p mid
+      (being (ap (λ (z : List ℕ). ascii "  " ++ label z ++ ascii ": ") (q .name)) w) (elementText (g .enumValues) e) n r new (h .writes e n f g q);
+  size = h .size ∙ same w;
+}
 
-module _ (s : List ℕ) (at : ℕ) (k : Kind) (d : Definition) {old : List ℕ} {to p : ℕ} {mid : List ℕ} where
-  pub element-line : (i : ℕ) → Wrote old to (ascii "  " ++ indexed (nameOf s d) i ++ ascii ": ") p mid → {r : Lines} {new : List ℕ} → RestWritten s at k d mid p r new
-      → ElementWritten s at k d i old to r new
-  element-line i w {r} {new} h = record {
-    writes = λ e n f g q.
-        open-line (ascii "  " ++ indexed (g .name) i ++ ascii ": ") (fieldLine (indexed (g .name) i)) (opening (indexed (g .name) i)) old to p mid
-        (being (ap (λ (z : List ℕ). ascii "  " ++ indexed z i ++ ascii ": ") (q .name)) w) (elementText (g .enumValues) e) n r new (h .writes e n f g q);
-    size = h .size ∙ same w;
+-- ---- a line by an element's own bytes
+
+-- kinds whose text asks for no list
+abbrev pub NoList : Kind → Type 0
+NoList (numbers k) = NoEnum k
+NoList string = Unit {0}
+NoList encodedString = Unit {0}
+NoList id = Unit {0}
+
+listless : (k : Kind) → NoList k → {e : Element} (raw : List ℕ) → WellFormed (elementParser k) e raw → (enums : List EnumValue)
+    → (x : List ℕ) × (elementText [] e ≡ some x) × (elementText enums e ≡ some x)
+unfolding elementParser elementText
+listless (numbers k) h raw f enums =
+    let p = map-ok (nums k) (repeat (arity k) (number (width k))) 0 raw f in
+    let x = any-list k h enums (p .0) in
+    (x .0, ap (elementText []) (sym (p .1)) ∙ x .1, ap (elementText enums) (sym (p .1)) ∙ x .2)
+listless string h raw f enums = let p = map-ok str strParser 0 raw f in (_, ap (elementText []) (sym (p .1)), ap (elementText enums) (sym (p .1)))
+listless encodedString h raw f enums = let p = map-ok word encodedStrParser 0 raw f in (_, ap (elementText []) (sym (p .1)), ap (elementText enums) (sym (p .1)))
+listless id h raw f enums = let p = map-ok ident idParser 0 raw f in (_, ap (elementText []) (sym (p .1)), ap (elementText enums) (sym (p .1)))
+
+module _ (label : List ℕ → List ℕ) (s : List ℕ) (at : ℕ) (k : Kind) (d : Definition) {old : List ℕ} {to : ℕ} where
+  pub line-refused : {f : Refusal} → Fault f ≡ endOf (uncheckedElement k at (drop at s)) → ElementWritten s at k d label old to Absent old
+  line-refused e = record { writes = λ x n f g h. next≢fault (sym (element-same k at (drop at s) f) ∙ sym e); size = refl }
+
+  pub own-line : NoList k → {next : ℕ} → Past next ≡ endOf (uncheckedElement k at (drop at s)) → {r : ℕ} {new : List ℕ}
+      → LineWritten (label (nameOf s d)) (take (next - at) (drop at s)) k old to r new → ElementWritten s at k d label old to (Next next r) new
+  own-line h {next} e {r} {new} w = record {
+    writes = λ v n f g q.
+        let o = own s at k d old to e f in
+        let x = listless k h (take (next - at) (drop at s)) o (g .enumValues) in
+        subst (λ (t : Option (List ℕ)). LinesAre old to (Option·map (fieldLine (label (g .name))) t) n (Next next r) new) (sym (x .2))
+        (behind s at k d old to e f, subst (λ (z : List ℕ). Wrote old to (fieldLine (label z) (x .0)) r new) (q .name) (w .writes v o (x .0) (x .1)));
+    size = w .size;
   }
+
+-- a contract at the kind that was told
+pub kind-by : {s : List ℕ} {at : ℕ} {k j : KindCase} {d : Definition} {label : List ℕ → List ℕ} {old : List ℕ} {to : ℕ} {r : Lines} {new : List ℕ} → j ≡ k → ElementWritten s at (kindIs j) d label old to r new → ElementWritten s at (kindIs k) d label old to r new
+kind-by {s} {at} {k} {j} {d} {label} {old} {to} {r} {new} e h = subst (λ (i : KindCase). ElementWritten s at (kindIs i) d label old to r new) e h

@@ -3,26 +3,19 @@ use mathlib.Core.Path.{_≡_, refl, sym, ap, _∙_, subst}
 use Prim.Native.Nat.{ℕ, _-_, _≤_, _<_}
 use native.Mathlib.Omega.{arith}
 use mathlib.Core.Bool.{true}
-use mathlib.Core.Option.{Option, some, Option·map}
-use mathlib.Core.List.{List, [], _∷_}
-use types.Run.{OneOf}
-use denote.Enum.Declared.{tagOf}
-use lib.Dec.{ltb}
+use mathlib.Core.Option.{Option, Option·map}
+use mathlib.Core.List.{List, []}
 use lib.ListN.{length, take, drop, getD}
 use Rattle.bsii_format.specs.Reader.{ok, WellFormed, repeat, verify, _<$>_}
 use Rattle.bsii_format.specs.Numbers.{number, leU64}
 use Rattle.bsii_format.specs.Strings.{strParser, spelled, low63, encodedStrParser, idParser}
-use Rattle.bsii_format.specs.Types.{Numeric, float, floatVec2, floatVec3, floatVec4, floatVec7, floatVec8, int32, int32Vec3, uint32, uint16, int64, uint64, bool, enum, width, arity, numbers, string, encodedString, id}
+use Rattle.bsii_format.specs.Types.{Numeric, enum, width, arity, numbers, string, encodedString, id}
 use Rattle.bsii_format.specs.Values.{Element, nums, str, word, ident, elementParser}
 use Rattle.bsii_format.specs.Prototypes.{EnumValue}
 use Rattle.bsii_format.specs.Text.{stringText, enumString, numericText, elementText}
 use Rattle.bsii_format.proofs.Readers.{map-ok, ok-val, after-ok, cond-ok, is-true}
-use Rattle.bsii_value.specs.Kinds.{numericIs}
-use Rattle.bsii_value.specs.declared.types.Numeric.{Numeric as Number}
-use Rattle.bsii_value.specs.declared.types.Numeric.the-variants.{Float, FloatVec2, FloatVec3, FloatVec4, FloatVec7, FloatVec8, Int32, Int32Vec3, UInt32, UInt16, Int64, UInt64, Bool as Truth, Enum}
-use Rattle.bsii_value.proofs.types.Numeric.{the-type}
-use Rattle.bsii_string.proofs.Keys.{every, keyed}
-use Rattle.bsii_prototype.proofs.Names.{checked, named}
+use Rattle.bsii_value.proofs.ElementTexts.{NoEnum, any-list}
+use Rattle.bsii_line.proofs.Laws.{string-is}
 use Rattle.bsii_string.specs.NumbersAt.{numberAt}
 use Rattle.bsii_string.proofs.NumbersAt.{number-is, numbers-are, first-number}
 use Rattle.bsii_definition.specs.Enums.{StringOf}
@@ -32,47 +25,13 @@ use Rattle.bsii_definition.specs.declared.pairs.Definition.{Definition}
 use Rattle.bsii_window.specs.Window.{Wrote}
 use Rattle.bsii_window.proofs.Laws.{being, same, rest}
 use Rattle.bsii_numeric.specs.Written.{NumericWritten}
-use Rattle.bsii_write_word.specs.Words.{encodedText}
+use Rattle.bsii_text_length.specs.Words.{encodedText}
 use Rattle.bsii_write_word.specs.Ids.{IdWritten}
-use Rattle.bsii_write_word.proofs.WordLaws.{encoded-spelling}
+use Rattle.bsii_text_length.proofs.WordLaws.{encoded-spelling}
 use Rattle.bsii_lines.specs.Lines.{ScalarIs, ScalarWritten}
 use Rattle.bsii_lines.specs.declared.elements.Scalar.the-variants.{To, NotInList}
 
 -- ---- numbers
-
-abbrev pub NoEnum : Numeric → Type 0
-NoEnum float = Unit {0}
-NoEnum floatVec2 = Unit {0}
-NoEnum floatVec3 = Unit {0}
-NoEnum floatVec4 = Unit {0}
-NoEnum floatVec7 = Unit {0}
-NoEnum floatVec8 = Unit {0}
-NoEnum int32 = Unit {0}
-NoEnum int32Vec3 = Unit {0}
-NoEnum uint32 = Unit {0}
-NoEnum uint16 = Unit {0}
-NoEnum int64 = Unit {0}
-NoEnum uint64 = Unit {0}
-NoEnum bool = Unit {0}
-NoEnum enum = ⊥
-
--- their text asks for no list
-any-list : (k : Numeric) → NoEnum k → (enums : List EnumValue) (l : List ℕ) → (x : List ℕ) × (numericText [] k l ≡ some x) × (numericText enums k l ≡ some x)
-unfolding numericText
-any-list float h enums l = (_, refl, refl)
-any-list floatVec2 h enums l = (_, refl, refl)
-any-list floatVec3 h enums l = (_, refl, refl)
-any-list floatVec4 h enums l = (_, refl, refl)
-any-list floatVec7 h enums l = (_, refl, refl)
-any-list floatVec8 h enums l = (_, refl, refl)
-any-list int32 h enums l = (_, refl, refl)
-any-list int32Vec3 h enums l = (_, refl, refl)
-any-list uint32 h enums l = (_, refl, refl)
-any-list uint16 h enums l = (_, refl, refl)
-any-list int64 h enums l = (_, refl, refl)
-any-list uint64 h enums l = (_, refl, refl)
-any-list bool h enums l = (_, refl, refl)
-any-list enum h enums l = absurd h
 
 -- the answer about an enum's string, with its number and its case known
 pub found : (s : List ℕ) (d : Definition) {n m : ℕ} → n ≡ m → {x r : EnumString} → x ≡ r → StringOf s (d .«name_end») (d .«type_id») n x → StringOf s (d .«name_end») (d .«type_id») m r
@@ -87,13 +46,6 @@ module _ (raw : List ℕ) where
       let p = map-ok (nums enum) (repeat (arity enum) (number (width enum))) 0 raw f in
       let n : numberAt 4 raw 0 ≡ getD (p .0) 0 0 = sym (first-number 0 4 raw 0) ∙ ap (λ (l : List ℕ). getD l 0 0) (numbers-are 1 4 raw 0 (p .2)) in
       ap (elementText enums) (sym (p .1)) ∙ ap (λ (n : ℕ). Option·map stringText (enumString n enums)) (sym n)
-
-  string-is : {e : Element} → WellFormed (elementParser string) e raw → (4 ≤ length raw) × (e ≡ str (drop 4 raw))
-  unfolding elementParser
-  string-is f =
-      let p = map-ok str strParser 0 raw f in
-      let w = named checked raw 0 (p .2) in
-      (omega (arith, w .end), sym (p .1) ∙ ap str (w .place ∙ rest 4 raw))
 
   word-is : {e : Element} → WellFormed (elementParser encodedString) e raw → (n : ℕ) × (word n ≡ e) × (spelled n ≡ true) × (low63 (numberAt 8 raw 0) ≡ n)
   unfolding elementParser encodedStrParser verify
@@ -158,26 +110,6 @@ module _ (raw s : List ℕ) (d : Definition) {old : List ℕ} {at : ℕ} where
   scalar-id {r} {new} h = record {
     writes = λ e f g q.
         let p = map-ok ident idParser 0 raw f in
-        subst (λ (e : Element). ScalarIs old at (elementText (g .enumValues) e) (To r) new) (p .1) (h .writes (p .0) (length raw) [] (p .2));
+        subst (λ (e : Element). ScalarIs old at (elementText (g .enumValues) e) (To r) new) (p .1) (h .writes (p .0) (p .2));
     size = h .size;
   }
-
--- ---- the kind by its case
-
--- every case but the enum's
-pub other : (n : Number) → OneOf (0 ∷ 1 ∷ 2 ∷ 3 ∷ 4 ∷ 5 ∷ 6 ∷ 7 ∷ 8 ∷ 9 ∷ 10 ∷ 11 ∷ 12 ∷ []) (tagOf the-type n) → NoEnum (numericIs n)
-unfolding every
-other Enum h = keyed (λ x. ltb x 13) (0 ∷ 1 ∷ 2 ∷ 3 ∷ 4 ∷ 5 ∷ 6 ∷ 7 ∷ 8 ∷ 9 ∷ 10 ∷ 11 ∷ 12 ∷ []) 13 tt h
-other Float h = tt
-other FloatVec2 h = tt
-other FloatVec3 h = tt
-other FloatVec4 h = tt
-other FloatVec7 h = tt
-other FloatVec8 h = tt
-other Int32 h = tt
-other Int32Vec3 h = tt
-other UInt32 h = tt
-other UInt16 h = tt
-other Int64 h = tt
-other UInt64 h = tt
-other Truth h = tt

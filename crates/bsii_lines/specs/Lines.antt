@@ -55,11 +55,17 @@ pub record RestWritten (s : List ℕ) (at : ℕ) (k : Kind) (d : Definition) (ol
   pub writes : (e : Element) (n : ℕ) → elementParser k at (drop at s) ≡ ok e n (drop n s) → (f : ValuePrototype) → Describes s d f → LinesAre old to (lineEnd (elementText (f .enumValues) e)) n r new
   pub size : length new ≡ length old
 
--- its whole line, as the element i of an array
-pub record ElementWritten (s : List ℕ) (at : ℕ) (k : Kind) (d : Definition) (i : ℕ) (old : List ℕ) (to : ℕ) (r : Lines) (new : List ℕ) : Type 0 where
+-- its whole line, with a label made of the field's name: the name itself, or as the element i of an array
+pub record ElementWritten (s : List ℕ) (at : ℕ) (k : Kind) (d : Definition) (label : List ℕ → List ℕ) (old : List ℕ) (to : ℕ) (r : Lines) (new : List ℕ) : Type 0 where
   pub writes : (e : Element) (n : ℕ) → elementParser k at (drop at s) ≡ ok e n (drop n s) → (f : ValuePrototype) → Describes s d f
-      → LinesAre old to (Option·map (fieldLine (indexed (f .name) i)) (elementText (f .enumValues) e)) n r new
+      → LinesAre old to (Option·map (fieldLine (label (f .name))) (elementText (f .enumValues) e)) n r new
   pub size : length new ≡ length old
+
+abbrev pub SingleWritten : List ℕ → ℕ → Kind → Definition → List ℕ → ℕ → Lines → List ℕ → Type 0
+SingleWritten s at k d old to r new = ElementWritten s at k d (λ (x : List ℕ). x) old to r new
+
+abbrev pub IndexedWritten : List ℕ → ℕ → Kind → Definition → ℕ → List ℕ → ℕ → Lines → List ℕ → Type 0
+IndexedWritten s at k d i old to r new = ElementWritten s at k d (λ (x : List ℕ). indexed x i) old to r new
 
 -- the elements of an array
 pub record VectorWritten (s : List ℕ) (start : ℕ) (k : Kind) (d : Definition) (count : ℕ) (old : List ℕ) (to : ℕ) (r : Lines) (new : List ℕ) : Type 0 where

@@ -2,17 +2,25 @@
 use crate::elements::Scalar;
 use crate::elements::write_scalar_data_value;
 use bsii_definition::pairs::Definition;
+use bsii_line::lines::count_line;
+use bsii_line::lines::id_element;
+use bsii_line::lines::id_line;
+use bsii_line::lines::number_element;
+use bsii_line::lines::number_line;
+use bsii_line::lines::string_line;
 use bsii_opening::openings::put_index;
 use bsii_opening::openings::put_opening;
 use bsii_skip::skip_element;
+use bsii_skip::skip_id;
 use bsii_string::answers::Num;
 use bsii_string::answers::Parsed;
 use bsii_string::numbers::le_u32;
+use bsii_string::strings::skip_str;
 use bsii_value::types::Kind;
+use bsii_value::types::Numeric;
 use bsii_value::types::Shape;
 use bsii_value::types::shape_of;
 use bsii_value::values::numeric_end;
-use bsii_window::digits::write_decimal;
 use bsii_window::window::put;
 ghost use mathlib.Core.Path.{_≡_};
 ghost use mathlib.Core.List.{_++_};
@@ -22,9 +30,10 @@ ghost use Rattle.bsii_format.specs.Ascii.{ascii};
 ghost use Rattle.bsii_format.specs.Text.{indexed};
 ghost use Rattle.bsii_window.specs.Window.{Wrote};
 ghost use Rattle.bsii_string.specs.Answers.{endOf};
-ghost use Rattle.bsii_value.specs.Kinds.{kindIs};
+ghost use Rattle.bsii_format.specs.Types.{numbers, string, id};
+ghost use Rattle.bsii_value.specs.Kinds.{numericIs, kindIs};
 ghost use Rattle.bsii_skip.specs.Unchecked.{uncheckedElement};
-ghost use Rattle.bsii_lines.specs.Lines.{nameOf, InFile, RestWritten, ElementWritten, VectorWritten, ArrayWritten, FieldWritten};
+ghost use Rattle.bsii_lines.specs.Lines.{nameOf, InFile, RestWritten, SingleWritten, IndexedWritten, VectorWritten, ArrayWritten, FieldWritten};
 
 // The offset behind the value, and the position behind its text; or what `Scalar` says of a value that is not written.
 pub enum Lines {
@@ -84,6 +93,138 @@ fn write_rest(out: &mut [u8], to: usize, s: &[u8], at: usize, kind: Kind, d: Def
     }
 }
 
+// A value whose kind has no way of its own: a word, an enum value; a string in an array.
+fn write_single(out: &mut [u8], to: usize, s: &[u8], at: usize, kind: Kind, d: Definition) -> Lines
+    requires { ⌜ InFile (now s) d ⌝ }
+    ensures { λ r. ⌜ SingleWritten (now (s .entry)) at (kindIs kind) d (now (out .entry)) to r (now (out .exit)) ⌝ }
+{
+    let next = write_opening(out, to, s, d);
+    write_rest(out, next, s, at, kind, d)
+}
+
+fn write_indexed(
+    out: &mut [u8],
+    to: usize,
+    s: &[u8],
+    at: usize,
+    kind: Kind,
+    d: Definition,
+    i: u32,
+) -> Lines
+    requires { ⌜ InFile (now s) d ⌝ }
+    ensures { λ r. ⌜ IndexedWritten (now (s .entry)) at (kindIs kind) d i (now (out .entry)) to r (now (out .exit)) ⌝ }
+{
+    let next = write_index(out, to, s, d, i);
+    write_rest(out, next, s, at, kind, d)
+}
+
+// Numbers, which are most values: their whole line.
+fn write_number(out: &mut [u8], to: usize, s: &[u8], at: usize, n: Numeric, d: Definition) -> Lines
+    requires { ⌜ InFile (now s) d ⌝ }
+    ensures { λ r. ⌜ SingleWritten (now (s .entry)) at (numbers (numericIs n)) d (now (out .entry)) to r (now (out .exit)) ⌝ }
+{
+    match n {
+        Numeric::Enum => return write_single(out, to, s, at, Kind::Numbers(n), d),
+        _ => {}
+    }
+    let end = numeric_end(s, at, n);
+    match end {
+        Parsed::Fault(_) => return Lines::NotInList,
+        Parsed::Next(next) => {
+            let name = d.name;
+            let name_end = d.name_end;
+            return Lines::Next {
+                at: next,
+                to: number_line(out, to, &s[name..name_end], &s[at..next], n),
+            };
+        }
+    }
+}
+
+fn write_number_element(
+    out: &mut [u8],
+    to: usize,
+    s: &[u8],
+    at: usize,
+    n: Numeric,
+    d: Definition,
+    i: u32,
+) -> Lines
+    requires { ⌜ InFile (now s) d ⌝ }
+    ensures { λ r. ⌜ IndexedWritten (now (s .entry)) at (numbers (numericIs n)) d i (now (out .entry)) to r (now (out .exit)) ⌝ }
+{
+    match n {
+        Numeric::Enum => return write_indexed(out, to, s, at, Kind::Numbers(n), d, i),
+        _ => {}
+    }
+    let end = numeric_end(s, at, n);
+    match end {
+        Parsed::Fault(_) => return Lines::NotInList,
+        Parsed::Next(next) => {
+            let name = d.name;
+            let name_end = d.name_end;
+            return Lines::Next {
+                at: next,
+                to: number_element(out, to, &s[name..name_end], i, &s[at..next], n),
+            };
+        }
+    }
+}
+
+fn write_string_value(out: &mut [u8], to: usize, s: &[u8], at: usize, d: Definition) -> Lines
+    requires { ⌜ InFile (now s) d ⌝ }
+    ensures { λ r. ⌜ SingleWritten (now (s .entry)) at string d (now (out .entry)) to r (now (out .exit)) ⌝ }
+{
+    let end = skip_str(s, at);
+    match end {
+        Parsed::Fault(_) => return Lines::NotInList,
+        Parsed::Next(next) => {
+            let name = d.name;
+            let name_end = d.name_end;
+            return Lines::Next {
+                at: next,
+                to: string_line(out, to, &s[name..name_end], &s[at..next]),
+            };
+        }
+    }
+}
+
+fn write_id_value(out: &mut [u8], to: usize, s: &[u8], at: usize, d: Definition) -> Lines
+    requires { ⌜ InFile (now s) d ⌝ }
+    ensures { λ r. ⌜ SingleWritten (now (s .entry)) at id d (now (out .entry)) to r (now (out .exit)) ⌝ }
+{
+    let end = skip_id(s, at);
+    match end {
+        Parsed::Fault(_) => return Lines::NotInList,
+        Parsed::Next(next) => {
+            let name = d.name;
+            let name_end = d.name_end;
+            return Lines::Next {
+                at: next,
+                to: id_line(out, to, &s[name..name_end], &s[at..next]),
+            };
+        }
+    }
+}
+
+fn write_id_element(out: &mut [u8], to: usize, s: &[u8], at: usize, d: Definition, i: u32) -> Lines
+    requires { ⌜ InFile (now s) d ⌝ }
+    ensures { λ r. ⌜ IndexedWritten (now (s .entry)) at id d i (now (out .entry)) to r (now (out .exit)) ⌝ }
+{
+    let end = skip_id(s, at);
+    match end {
+        Parsed::Fault(_) => return Lines::NotInList,
+        Parsed::Next(next) => {
+            let name = d.name;
+            let name_end = d.name_end;
+            return Lines::Next {
+                at: next,
+                to: id_element(out, to, &s[name..name_end], i, &s[at..next]),
+            };
+        }
+    }
+}
+
 fn write_element(
     out: &mut [u8],
     to: usize,
@@ -94,10 +235,13 @@ fn write_element(
     i: u32,
 ) -> Lines
     requires { ⌜ InFile (now s) d ⌝ }
-    ensures { λ r. ⌜ ElementWritten (now (s .entry)) at (kindIs kind) d i (now (out .entry)) to r (now (out .exit)) ⌝ }
+    ensures { λ r. ⌜ IndexedWritten (now (s .entry)) at (kindIs kind) d i (now (out .entry)) to r (now (out .exit)) ⌝ }
 {
-    let next = write_index(out, to, s, d, i);
-    write_rest(out, next, s, at, kind, d)
+    match kind {
+        Kind::Numbers(n) => return write_number_element(out, to, s, at, n, d, i),
+        Kind::Id => return write_id_element(out, to, s, at, d, i),
+        _ => return write_indexed(out, to, s, at, kind, d, i),
+    }
 }
 
 // `count` elements, the first one at an offset.
@@ -139,9 +283,9 @@ fn write_array(out: &mut [u8], to: usize, s: &[u8], at: usize, kind: Kind, d: De
     match count {
         Num::Short(_) => return Lines::NotInList,
         Num::Got(n, first) => {
-            let next = write_opening(out, to, s, d);
-            let line_end = write_decimal(out, next, n as u64);
-            let lines = put(out, line_end, b'\n');
+            let name = d.name;
+            let name_end = d.name_end;
+            let lines = count_line(out, to, &s[name..name_end], n);
             return write_vector_data_value(out, lines, s, first, kind, d, n);
         }
     }
@@ -163,16 +307,13 @@ pub fn write_field(
     let shape = shape_of(version, type_id);
     match shape {
         Shape::Unlisted => return Lines::NotInList,
-        Shape::One(kind) => {
-            let next = write_opening(out, to, s, d);
-            // Told apart here, a kind need not be read as a whole from where its parts were stored a moment before.
-            match kind {
-                Kind::Numbers(n) => return write_rest(out, next, s, at, Kind::Numbers(n), d),
-                Kind::String => return write_rest(out, next, s, at, Kind::String, d),
-                Kind::EncodedString => return write_rest(out, next, s, at, Kind::EncodedString, d),
-                Kind::Id => return write_rest(out, next, s, at, Kind::Id, d),
-            }
-        }
+        // Told apart here, a kind need not be read as a whole from where its parts were stored a moment before.
+        Shape::One(kind) => match kind {
+            Kind::Numbers(n) => return write_number(out, to, s, at, n, d),
+            Kind::String => return write_string_value(out, to, s, at, d),
+            Kind::EncodedString => return write_single(out, to, s, at, Kind::EncodedString, d),
+            Kind::Id => return write_id_value(out, to, s, at, d),
+        },
         Shape::Many(kind) => return write_array(out, to, s, at, kind, d),
     }
 }

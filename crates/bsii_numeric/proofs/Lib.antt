@@ -1,2 +1,1 @@
 pub mod NumericLaws
-pub mod TextLaws

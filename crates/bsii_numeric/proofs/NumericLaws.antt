@@ -1,43 +1,33 @@
--- An accepted element that is numbers, by the numbers that stand in its bytes.
-use Prim.Native.Nat.{ℕ}
-use mathlib.Core.Path.{_≡_, refl, sym, ap, _∙_}
+-- What is stored of an accepted element that is numbers, by the numbers that stand in its bytes.
+use Prim.Native.Nat.{ℕ, _+_, _≤_}
+use mathlib.Core.Path.{_≡_, refl, ap, _∙_}
 use mathlib.Core.Option.{some}
 use mathlib.Core.List.{List, []}
 use native.Mathlib.Omega.{arith}
-use Rattle.bsii_format.specs.Reader.{ok, repeat}
-use Rattle.bsii_format.specs.Numbers.{number}
-use Rattle.bsii_format.specs.Types.{Numeric, enum, width, arity, numbers}
-use Rattle.bsii_format.specs.Values.{Element, nums, elementParser}
-use Rattle.bsii_format.specs.Text.{enumString, numericText, elementText}
-use Rattle.bsii_format.proofs.Readers.{map-ok}
+use Rattle.bsii_format.specs.Types.{width, arity}
+use Rattle.bsii_format.specs.Text.{numericText}
 use Rattle.bsii_string.specs.NumbersAt.{numbersAt}
-use Rattle.bsii_string.proofs.NumbersAt.{numbers-are}
-use Rattle.bsii_window.specs.Window.{Wrote}
-use Rattle.bsii_window.proofs.Laws.{being, same}
-use Rattle.bsii_numeric.specs.Written.{NumericWritten}
-
-numbers-text : (k : Numeric) (s : List ℕ) (e : Element) (n : ℕ) (t : List ℕ) → elementParser (numbers k) 0 s ≡ ok e n t
-    → numericText [] k (numbersAt (arity k) (width k) s 0) ≡ elementText [] e
-unfolding elementParser elementText
-numbers-text k s e n t h =
-    let m = map-ok (nums k) (repeat (arity k) (number (width k))) 0 s h in
-    ap (numericText [] k) (numbers-are (arity k) (width k) s 0 (m .2)) ∙ ap (elementText []) (m .1)
+use Rattle.bsii_value.specs.declared.types.Numeric.{Numeric}
+use Rattle.bsii_value.specs.declared.types.Numeric.the-variants.{Enum}
+use Rattle.bsii_value.specs.Kinds.{numericIs}
+use Rattle.bsii_value.proofs.NumericTexts.{same-text, no-text}
+use Rattle.bsii_window.specs.Stored.{Stored}
+use Rattle.bsii_window.proofs.Stores.{stored-being, stored-same}
+use Rattle.bsii_numeric.specs.Written.{NumericStored}
 
 -- a text that the numbers have
-pub written : {k j : Numeric} {raw old new x : List ℕ} {at r : ℕ}
-    → j ≡ k → numericText [] k (numbersAt (arity k) (width k) raw 0) ≡ some x → Wrote old at x r new → NumericWritten j raw old at r new
-written {k} {j} {raw} {old} {new} {x} {at} {r} z e w = rw z (record {
-  writes = λ el n t h y f. being (let g : some x ≡ some y = sym e ∙ numbers-text k raw el n t h ∙ f in let i : x ≡ y = cc in i) w;
-  size = same w;
-})
-
-enum-none : (l : List ℕ) (x : List ℕ) {P : Type 0} → numericText [] enum l ≡ some x → P
-unfolding numericText enumString
-enum-none l x e = let z : _≡_ {A = ℕ} 0 1 = cc in absurd (omega arith)
+pub accepted : {A : Type 0} (text : A → List ℕ) {v w : A} {k j : Numeric} {raw old new : List ℕ} {to r : ℕ}
+    → j ≡ k → v ≡ w → numericText [] (numericIs k) (numbersAt (arity (numericIs k)) (width (numericIs k)) raw 0) ≡ some (text w) → Stored old to (text v) r new → r ≤ to + 201
+    → NumericStored (numericIs j) raw old to r new
+accepted text {k = k} {raw = raw} z p e f m =
+    rw z
+    (record {
+      stores = λ el n t h y g. stored-being (ap text p ∙ same-text (numericIs k) raw h e g) f;
+      least = omega (arith, f .next);
+      most = m;
+      size = stored-same f;
+    })
 
 -- without a list no enum has a text
-pub unwritten : {j : Numeric} {raw old : List ℕ} {at r : ℕ} → j ≡ enum → NumericWritten j raw old at r old
-unwritten {j} {raw} {old} z = rw z (record {
-  writes = λ el n t h y f. enum-none (numbersAt (arity enum) (width enum) raw 0) y (numbers-text enum raw el n t h ∙ f);
-  size = refl;
-})
+pub unstored : {j : Numeric} {raw old : List ℕ} {to : ℕ} → j ≡ Enum → NumericStored (numericIs j) raw old to to old
+unstored {raw = raw} z = rw z (record { stores = λ el n t h y g. no-text raw h g; least = omega arith; most = omega arith; size = refl })

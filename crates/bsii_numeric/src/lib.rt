@@ -1,3 +1,2 @@
-// Writers of floats, of the values that are made of several numbers, and of any value that is numbers by the bytes that were accepted for it.
-pub mod floats;
+// Any value that is numbers, by the bytes that were accepted for it.
 pub mod numeric;

@@ -1,29 +1,33 @@
 -- The text call: measured, written, answered.
 use mathlib.Core.Path.{_≡_, refl, sym, ap, ap₂, _∙_, subst}
-use Prim.Native.Nat.{ℕ, _+_, _-_, _/_, _≤_, _<_}
+use Prim.Native.Nat.{ℕ, zero, suc, _-_, _/_, _≤_, _<_}
 use native.Mathlib.Nat.{zero-add}
 use native.Mathlib.Omega.{arith}
 use mathlib.Core.List.{List, [], _∷_, _++_}
 use lib.ListN.{length, getD, drop}
 use lib.Seq.{sets-eq}
 use borrow.Author.Tests.{le-leb, lt-leb}
-use Rattle.bsii_format.specs.Replies.{Reply, gives, refuses, outputShort}
+use Rattle.bsii_format.specs.Replies.{Fault, Reply, gives, refuses, outputShort, enumValue}
+use Rattle.bsii_format.proofs.ReplyLaws.{refuses≢gives, gives-inj, refuses-inj}
 use Rattle.bsii_format.specs.Prototypes.{Prototype}
 use Rattle.bsii_format.specs.File.{Record, prototypesOf}
 use Rattle.bsii_format.specs.Text.{valueText}
 use Rattle.bsii_format.specs.BlockText.{joined, fileOpening, closing, recordsText, fileText}
-use Rattle.bsii_format.specs.Calls.{textAnswer, textOf, textCall}
+use Rattle.bsii_format.specs.Calls.{ofFile, textAnswer, textOf, textCall}
 use Rattle.bsii_string.specs.Answers.{faultIs, refusedAt}
 use Rattle.bsii_string.specs.declared.answers.Refusal.{Refusal}
 use Rattle.bsii_table.specs.Relation.{Entered}
 use Rattle.bsii_block.specs.Blocks.{DefinedAt}
 use Rattle.bsii_parse.specs.Walks.{ReadFile}
 use Rattle.bsii_parse.specs.declared.walk.Totals.{Totals}
-use Rattle.bsii_parse.specs.declared.walk.Walked.{Walked}
-use Rattle.bsii_parse.specs.declared.walk.Walked.the-variants.{Done, Fault as Stopped}
 use Rattle.bsii_parse.proofs.Whole.{file-parts}
 use Rattle.bsii_walk.specs.Seek.{WalkAt, Readable}
-use Rattle.bsii_file.proofs.Lookups.{was-read, read-answers, unread-refuses}
+use Rattle.bsii_file.proofs.Lookups.{WasRead, was-read, read-answers, unread-refuses}
+use Rattle.bsii_measure_block.specs.Sums.{measureOf, sumIs}
+use Rattle.bsii_measure_block.specs.declared.sums.Sum.{Sum}
+use Rattle.bsii_measure.specs.Files.{readingOf, FileSum, MeasuresFile}
+use Rattle.bsii_measure.specs.declared.walk.Measuring.{Measuring}
+use Rattle.bsii_measure.specs.declared.walk.Measuring.the-variants.{Done as Summed, Fault as Unmeasured}
 use Rattle.bsii_file.proofs.Rereading.{walk-first}
 use Rattle.bsii_length.proofs.Bounded.{text-bounded}
 use Rattle.bsii_window.specs.Window.{Wrote}
@@ -31,7 +35,7 @@ use Rattle.bsii_window.proofs.Laws.{capped-less, written-in}
 use Rattle.bsii_text.specs.Records.{TextsAre, BsiiWritten}
 use Rattle.bsii_text.specs.declared.records.Texts.{Texts}
 use Rattle.bsii_text.specs.declared.records.Texts.the-variants.{To, Refused as Not}
-use Rattle.bsii_output.specs.Answers.{textIs, framedText, TextWritten, TextRead}
+use Rattle.bsii_output.specs.Answers.{textIs, framedText, TextWritten, TextSummed, TextRead}
 use Rattle.bsii_output.specs.declared.text.TextReply.{TextReply}
 use Rattle.bsii_output.specs.declared.text.TextReply.the-variants.{Text, Refused}
 
@@ -66,22 +70,15 @@ fitting : (old x new : List ℕ) → length x ≤ length old → new ≡ x ++ dr
 unfolding textAnswer
 fitting old x new h e = rw (le-leb (length x) (length old) h) (ap (λ (o : List ℕ). record { reply = gives (length x); needed = 0; output = o }) e)
 
-module _ {version : ℕ} (s t : List ℕ) (rows : ℕ) (old : List ℕ) (end : ℕ) where
-  pub measured-early : end < 0x8000_0000_0000_0000 → (r : TextReply) → TextWritten version s t rows old end r old
-  measured-early h r = record { answers = λ rooms last rest w x e f. absurd (omega arith) }
-
-  pub measured-long : {f : Refusal} → f ≡ refusedAt outputShort 0 → length old < end - 0x8000_0000_0000_0000 → TextWritten version s t rows old end (Refused f (end - 0x8000_0000_0000_0000)) old
+module _ {version : ℕ} (s t : List ℕ) (rows : ℕ) (old : List ℕ) (n : ℕ) where
+  pub measured-long : {f : Refusal} → f ≡ refusedAt outputShort 0 → length old < n → TextWritten version s t rows old n (Refused f n) old
   measured-long a h = record {
-    answers = λ rooms last rest w x e f.
-        let z : end - 0x8000_0000_0000_0000 ≡ length x = omega arith in
-        ap₂ (λ (f : Refusal) (n : ℕ). textIs (Refused f n) old) a z ∙ too-long old x (omega arith);
+    answers = λ rooms last rest w x e z. ap₂ (λ (f : Refusal) (n : ℕ). textIs (Refused f n) old) a z ∙ too-long old x (omega arith);
   }
 
-  pub measured-fits : 0x8000_0000_0000_0000 ≤ end → end - 0x8000_0000_0000_0000 ≤ length old → {r : Texts} {t′ new : List ℕ} → BsiiWritten version s 8 t rows old r t′ new
-      → TextWritten version s t rows old end (Text (end - 0x8000_0000_0000_0000)) new
-  measured-fits a h {r} {t′} {new} b = record {
-    answers = λ rooms last rest w x e f.
-        let z : end - 0x8000_0000_0000_0000 ≡ length x = omega arith in
+  pub measured-fits : n ≤ length old → {r : Texts} {t′ new : List ℕ} → BsiiWritten version s 8 t rows old r t′ new → TextWritten version s t rows old n (Text n) new
+  measured-fits h {r} {t′} {new} b = record {
+    answers = λ rooms last rest w x e z.
         ap (λ (n : ℕ). textIs (Text n) new) z
         ∙ fitting old x new (omega arith) (go r x (subst (λ (o : Reply (List ℕ)). TextsAre old 0x8000_0000_0000_0000 o r new) e (b .writes rooms last rest w .0)) (omega arith));
   }
@@ -89,6 +86,33 @@ module _ {version : ℕ} (s t : List ℕ) (rows : ℕ) (old : List ℕ) (end : �
       go : (r : Texts) (x : List ℕ) → TextsAre old 0x8000_0000_0000_0000 (gives x) r new → length x ≤ length old → new ≡ x ++ drop (length x) old
       go (To n) x w l = whole old x l w
       go (Not f) x w l = absurd w
+
+-- a contract at an equal length
+pub length-by : {version : ℕ} {s t : List ℕ} {rows : ℕ} {old : List ℕ} {n k : ℕ} {r : TextReply} {new : List ℕ} → n ≡ k → TextWritten version s t rows old n r new → TextWritten version s t rows old k r new
+length-by {version} {s} {t} {rows} {old} {n} {k} {r} {new} e h = subst (λ (m : ℕ). TextWritten version s t rows old m r new) e h
+
+-- ---- the text that was measured while the file was read
+
+module _ {version : ℕ} (s t : List ℕ) (rows : ℕ) (old : List ℕ) (m : Sum) where
+  -- an enum value that is not in its list is the text's refusal
+  pub summed-missing : (0 ≡ m .missing → ⊥) → {f : Refusal} → f ≡ refusedAt enumValue (m .missing) → TextSummed version s t rows old m (Refused f 0) old
+  unfolding textAnswer measureOf sumIs
+  summed-missing h {f} a = record { answers = λ rooms last rest w e. go (m .missing) h a (framedText last rest) e }
+    where
+      go : (o : ℕ) → (0 ≡ o → ⊥) → f ≡ refusedAt enumValue o → (x : Reply (List ℕ)) → sumIs (m .to) o ≡ measureOf x → textIs (Refused f 0) old ≡ textAnswer old x
+      go zero h a x e = absurd (h refl)
+      go (suc o) h a (gives x) e = refuses≢gives e
+      go (suc o) h a (refuses x) e = ap (λ (f : Refusal). textIs (Refused f 0) old) a ∙ ap (λ (f : Fault). textAnswer old (refuses f)) (refuses-inj e)
+
+  -- else the sum is its length
+  pub summed-whole : 0 ≡ m .missing → {r : TextReply} {new : List ℕ} → TextWritten version s t rows old (m .to) r new → TextSummed version s t rows old m r new
+  unfolding textAnswer measureOf sumIs
+  summed-whole h {r} {new} v = record { answers = λ rooms last rest w e. go rooms last rest w (framedText last rest) refl (ap (sumIs (m .to)) h ∙ e) }
+    where
+      go : (rooms : ℕ) (last : List Prototype) (rest : List Record) → WalkAt version s rooms rows last t 8 [] rest → (x : Reply (List ℕ)) → framedText last rest ≡ x → gives (m .to) ≡ measureOf x
+          → textIs r new ≡ textAnswer old x
+      go rooms last rest w (gives x) q e = v .answers rooms last rest w x q (gives-inj e)
+      go rooms last rest w (refuses f) q e = refuses≢gives (sym e)
 
 -- ---- the text of a file that was read
 
@@ -116,7 +140,7 @@ module _ {version : ℕ} (s t : List ℕ) (rows : ℕ) (old : List ℕ) {m : Tex
       go (gives x) a = absurd a
       go (refuses x) a = rw (a, untouched) refl
 
-  pub text-measured : {e : ℕ} → m ≡ To e → {r : TextReply} {new : List ℕ} → TextWritten version s t′ rows (lent ++ old) e r new
+  pub text-measured : {e : ℕ} → m ≡ To e → {r : TextReply} {new : List ℕ} → TextWritten version s t′ rows (lent ++ old) (e - 0x8000_0000_0000_0000) r new
       → TextRead version s t rows old r new
   text-measured {e} z {r} {new} v = record { answers = λ rooms last rest w b. go rooms last rest w b (framedText last rest) refl (walk-by z h .writes rooms last rest w .0) }
     where
@@ -125,28 +149,43 @@ module _ {version : ℕ} (s t : List ℕ) (rows : ℕ) (old : List ℕ) {m : Tex
       go rooms last rest w b (refuses f) q a = absurd a
       go rooms last rest w b (gives x) q a =
           let l = b x q in
-          v .answers rooms last rest (serves (walk-by z h) w) x q (a .next ∙ capped-less 0x8000_0000_0000_0000 (length x) (omega arith)) ∙ ap (λ (o : List ℕ). textAnswer o (gives x)) untouched
+          let end = a .next ∙ capped-less 0x8000_0000_0000_0000 (length x) (omega arith) in
+          v .answers rooms last rest (serves (walk-by z h) w) x q (omega (arith, end)) ∙ ap (λ (o : List ℕ). textAnswer o (gives x)) untouched
 
 -- ---- the call
 
-module _ (s t out : List ℕ) {r : Walked} {t′ : List ℕ} (h : ReadFile s t r t′) where
-  pub call-refused : {f : Refusal} → r ≡ Stopped f → textIs (Refused f 0) out ≡ textCall (length t) s out
-  unfolding textCall textOf textAnswer
-  call-refused z = ap (textAnswer out) (sym (unread-refuses (λ f at. fileText valueText f) h z))
+module _ (s t out : List ℕ) {r : Measuring} {t′ : List ℕ} (k : MeasuresFile s t r t′) where
+  reads-as : {x : Measuring} → r ≡ x → ReadFile s t (readingOf x) t′
+  reads-as z = subst (λ (x : Measuring). ReadFile s t (readingOf x) t′) z (k .reads)
 
-  module _ {n : Totals} (z : r ≡ Done n) where
+  pub call-refused : {f : Refusal} → r ≡ Unmeasured f → textIs (Refused f 0) out ≡ textCall (length t) s out
+  unfolding textCall textOf textAnswer
+  call-refused z = ap (textAnswer out) (sym (unread-refuses (λ f at. fileText valueText f) (reads-as z) refl))
+
+  module _ {n : Totals} {m : Sum} (z : r ≡ Summed n m) where
+    pub walk-read : WasRead s t n t′
+    walk-read = was-read (reads-as z) refl
+
     -- the file's text, from the records that the walk starts from
-    file-is : let w = was-read h z in textOf (length t) s ≡ framedText (prototypesOf (w .file .records)) (w .file .records)
+    file-is : textOf (length t) s ≡ framedText (prototypesOf (walk-read .file .records)) (walk-read .file .records)
     unfolding textOf fileText
     file-is =
-        let w = was-read h z in
-        read-answers (λ f at. fileText valueText f) w
-        ∙ ap (λ (k : ℕ). joined (joined (gives fileOpening) (recordsText valueText (prototypesOf (w .file .records)) k (w .file .records))) (gives closing)) (file-parts (length t) s (w .parsed) .header)
+        read-answers (λ f at. fileText valueText f) walk-read
+        ∙ ap (λ (k : ℕ). joined (joined (gives fileOpening) (recordsText valueText (prototypesOf (walk-read .file .records)) k (walk-read .file .records))) (gives closing)) (file-parts (length t) s (walk-read .parsed) .header)
 
-    pub call-answers : ((i : ℕ) → getD s i 0 < 256) → {reply : TextReply} {new : List ℕ} → TextRead (n .version) s t′ (n .rows) out reply new → textIs reply new ≡ textCall (length t) s out
+    pub call-again : ((i : ℕ) → getD s i 0 < 256) → {reply : TextReply} {new : List ℕ} → TextRead (n .version) s t′ (n .rows) out reply new → textIs reply new ≡ textCall (length t) s out
     unfolding textCall
-    call-answers bytes v =
-        let w = was-read h z in
+    call-again bytes v =
+        let w = walk-read in
         let short = file-parts (length t) s (w .parsed) .short in
         v .answers (length t / 3) (prototypesOf (w .file .records)) (w .file .records) (walk-first w) (λ x e. text-bounded (length t) s x bytes short (file-is ∙ e))
+        ∙ ap (textAnswer out) (sym file-is)
+
+    pub call-summed : n .rows ≡ n .prototypes → {reply : TextReply} {new : List ℕ} → TextSummed (n .version) s t′ (n .rows) out m reply new → textIs reply new ≡ textCall (length t) s out
+    unfolding textCall textOf ofFile
+    call-summed e v =
+        let w = walk-read in
+        let sum : sumIs (m .to) (m .missing) ≡ measureOf (fileText valueText (w .file)) = subst (FileSum (w .file)) z (k .sums (w .file) _ (w .parsed)) e in
+        v .answers (length t / 3) (prototypesOf (w .file .records)) (w .file .records) (walk-first w)
+        (sum ∙ ap measureOf (sym (read-answers (λ f at. fileText valueText f) w) ∙ file-is))
         ∙ ap (textAnswer out) (sym file-is)

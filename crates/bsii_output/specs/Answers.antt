@@ -1,6 +1,6 @@
 -- What the text call's answer means, and what its parts answer for a file that was read.
 use mathlib.Core.Path.{_≡_}
-use Prim.Native.Nat.{ℕ, _+_, _<_}
+use Prim.Native.Nat.{ℕ, _<_}
 use mathlib.Core.List.{List, []}
 use lib.ListN.{length}
 use Rattle.bsii_format.specs.Replies.{Reply, gives, refuses}
@@ -11,6 +11,8 @@ use Rattle.bsii_format.specs.BlockText.{joined, fileOpening, closing, recordsTe
 use Rattle.bsii_format.specs.Calls.{TextAnswer, textAnswer}
 use Rattle.bsii_string.specs.Answers.{faultIs}
 use Rattle.bsii_walk.specs.Seek.{WalkAt}
+use Rattle.bsii_measure_block.specs.Sums.{measureOf, sumIs}
+use Rattle.bsii_measure_block.specs.declared.sums.Sum.{Sum}
 use Rattle.bsii_output.specs.declared.text.TextReply.{TextReply}
 use Rattle.bsii_output.specs.declared.text.TextReply.the-variants.{Text, Refused}
 
@@ -23,10 +25,15 @@ textIs (Refused f needed) output = record { reply = refuses (faultIs f); needed 
 abbrev pub framedText : List Prototype → List Record → Reply (List ℕ)
 framedText last l = joined (joined (gives fileOpening) (recordsText valueText last 8 l)) (gives closing)
 
--- a text x, which was measured to end at `end`
-pub record TextWritten (version : ℕ) (s t : List ℕ) (rows : ℕ) (old : List ℕ) (end : ℕ) (r : TextReply) (new : List ℕ) : Type 0 where
+-- a text x of n bytes
+pub record TextWritten (version : ℕ) (s t : List ℕ) (rows : ℕ) (old : List ℕ) (n : ℕ) (r : TextReply) (new : List ℕ) : Type 0 where
   pub answers : (rooms : ℕ) (last : List Prototype) (rest : List Record) → WalkAt version s rooms rows last t 8 [] rest → (x : List ℕ) → framedText last rest ≡ gives x
-      → end ≡ 0x8000_0000_0000_0000 + length x → textIs r new ≡ textAnswer old (gives x)
+      → n ≡ length x → textIs r new ≡ textAnswer old (gives x)
+
+-- a text that was measured
+pub record TextSummed (version : ℕ) (s t : List ℕ) (rows : ℕ) (old : List ℕ) (sum : Sum) (r : TextReply) (new : List ℕ) : Type 0 where
+  pub answers : (rooms : ℕ) (last : List Prototype) (rest : List Record) → WalkAt version s rooms rows last t 8 [] rest → sumIs (sum .to) (sum .missing) ≡ measureOf (framedText last rest)
+      → textIs r new ≡ textAnswer old (framedText last rest)
 
 -- a text that is short enough for its positions to be exact
 pub record TextRead (version : ℕ) (s t : List ℕ) (rows : ℕ) (old : List ℕ) (r : TextReply) (new : List ℕ) : Type 0 where

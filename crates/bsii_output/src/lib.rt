@@ -1,5 +1,5 @@
 // The text call.
 //
-// The file is read first, and the text is written by one walk that is made twice: with an empty window it measures and meets refusals 8 and 9, and
-// then it writes.
+// One walk reads the file and measures its text, one writes it. Where an id is defined again, the last definitions are known only once the file is read:
+// then the writing walk is made twice, first with an empty window, to measure and to meet refusals 8 and 9.
 pub mod text;

@@ -16,7 +16,7 @@ use Rattle.bsii_format.proofs.Readers.{fault≢ok, ok-val, ok-move}
 use Rattle.bsii_string.specs.Answers.{faultIs}
 use Rattle.bsii_string.specs.declared.answers.Refusal.{Refusal}
 use Rattle.bsii_block.specs.Blocks.{Assured}
-use Rattle.bsii_parse.specs.Walks.{blockCount, prototypeCount, behind, recordsAt, bare, Growing, Ready, Goes, behind-prototype, behind-block, StepMeets, passed, ended, refused}
+use Rattle.bsii_parse.specs.Walks.{blockCount, prototypeCount, behind, recordsAt, bare, Growing, Ready, past, Goes, behind-prototype, behind-block, PastRecord, StepMeets, passed, ended, refused}
 use Rattle.bsii_parse.specs.declared.walk.Progress.{Progress}
 use Rattle.bsii_parse.specs.declared.walk.ReadStep.{ReadStep}
 use Rattle.bsii_parse.specs.declared.walk.Under.{Under}
@@ -144,43 +144,38 @@ module _ {version : ℕ} {s : List ℕ} {start : ℕ} {t₀ : List ℕ} {p : Pro
   from-here : {q : Result Records} → recordsAt version (length t / 3) (bare (defsFrom start (a .so))) (p .at) s ≡ q → recordsAt version (length t₀ / 3) [] start s ≡ behind (a .so) q
   from-here e = a .rest ∙ ap (behind (a .so)) (ap (λ m. recordsAt version m (bare (defsFrom start (a .so))) (p .at) s) (sym rooms) ∙ e)
 
-  along-step : {r : ReadStep} {t′ : List ℕ} → StepMeets version s p t (defsFrom start (a .so)) r t′ → {q : Progress} → Went r q
-      → Further version s start t₀ p (a .so) r q t′
+  -- one more record
+  pub along-passed : (i : Record) {n rows : ℕ} {t′ : List ℕ} → PastRecord version s p t (defsFrom start (a .so)) i n rows t′
+      → (b : Along version s start t₀ (past p i n rows) t′) × (b .so ≡ a .so ++ (i ∷ []))
   unfolding blockCount prototypeCount
-  along-step {r} {t′ = t′} (passed i {n = n} {rows = rows} e on inside place kept size goes) z =
+  along-passed i {n} {rows} {t′} w =
       let defs : defsFrom start (a .so ++ (i ∷ [])) ≡ consPrototype (p .at) i (defsFrom start (a .so)) =
-      defs-snoc start (a .so) i [] ∙ ap (λ m. consPrototype m i (defsFrom start (a .so))) (sym (a .place)) in
-      subst (λ w. Further version s start t₀ p (a .so) r w t′) (went goes z) (record {
-        on = on;
-        one = i;
-        so-far = refl;
-        long = place;
-        counts = refl;
-        goes = goes;
-        along = record {
+      defs-snoc start (a .so) i [] ∙ ap (λ m. consPrototype m i (defsFrom start (a .so))) (sym (a .place)) in (
+        record {
           so = a .so ++ (i ∷ []);
-          place = place ∙ rw bytes-snoc (omega (arith, a .place));
-          inside = inside;
-          counted = more-blocks i (p .blocks) (a .counted) on;
+          place = w .long ∙ rw bytes-snoc (omega (arith, a .place));
+          inside = w .inside;
+          counted = more-blocks i (p .blocks) (a .counted) (w .on);
           blocks = ap (λ m. m + blockCount (i ∷ [])) (a .blocks) ∙ sym (blockCount-append (a .so) (i ∷ []));
-          defined = more-prototypes i (p .prototypes) (a .defined) on;
+          defined = more-prototypes i (p .prototypes) (a .defined) (w .on);
           prototypes = ap (λ m. m + prototypeCount (i ∷ [])) (a .prototypes) ∙ sym (prototypeCount-append (a .so) (i ∷ []));
-          size = size ∙ a .size;
+          size = w .size ∙ a .size;
           few = omega (
             arith,
-            kept .holds .count,
+            w .kept .holds .count,
             a .kept .holds .count,
             ap distinctIds (bare-cons (p .at) i (defsFrom start (a .so))),
             distinct-more i (bare (defsFrom start (a .so))),
             a .few,
-            on,
+            w .on,
           );
-          kept = subst (λ w. Growing s t′ rows w) (sym defs) kept;
-          rest = from-here (e ∙ ap (λ m. behind (i ∷ []) (recordsAt version m (bare (consPrototype (p .at) i (defsFrom start (a .so)))) n s)) rooms)
+          kept = subst (λ d. Growing s t′ rows d) (sym defs) (w .kept);
+          rest = from-here (w .records ∙ ap (λ m. behind (i ∷ []) (recordsAt version m (bare (consPrototype (p .at) i (defsFrom start (a .so)))) n s)) rooms)
               ∙ behind-behind (a .so) (i ∷ []) (recordsAt version (length t₀ / 3) (bare (consPrototype (p .at) i (defsFrom start (a .so)))) n s)
-              ∙ ap (λ w. behind (a .so ++ (i ∷ [])) (recordsAt version (length t₀ / 3) (bare w) n s)) (sym defs);
-        };
-      })
+              ∙ ap (λ d. behind (a .so ++ (i ∷ [])) (recordsAt version (length t₀ / 3) (bare d) n s)) (sym defs);
+        },
+        refl,
+      )
     where
       more-blocks : (i : Record) (b : ℕ) {at n : ℕ} → b ≤ at → at < n → b + blockCount (i ∷ []) ≤ n
       more-blocks (prototype x) b h k = unfold blockCount in omega arith
@@ -189,6 +184,13 @@ module _ {version : ℕ} {s : List ℕ} {start : ℕ} {t₀ : List ℕ} {p : Pro
       more-prototypes : (i : Record) (b : ℕ) {at n : ℕ} → b ≤ at → at < n → b + prototypeCount (i ∷ []) ≤ n
       more-prototypes (prototype x) b h k = unfold prototypeCount in omega arith
       more-prototypes (block x) b h k = unfold prototypeCount in omega arith
+
+  along-step : {r : ReadStep} {t′ : List ℕ} → StepMeets version s p t (defsFrom start (a .so)) r t′ → {q : Progress} → Went r q
+      → Further version s start t₀ p (a .so) r q t′
+  along-step {r} {t′ = t′} (passed i w goes) z =
+      let b = along-passed i w in
+      subst (λ q. Further version s start t₀ p (a .so) r q t′) (went goes z)
+      (record { on = w .on; along = b .0; one = i; so-far = b .1; long = w .long; counts = refl; goes = goes })
   along-step (ended e) z = absurd z
   along-step (refused e l) z = absurd z
 
@@ -208,7 +210,7 @@ module _ {version : ℕ} {s : List ℕ} {start : ℕ} {t₀ : List ℕ} {p : Pro
     pub size : length t′ ≡ length t₀
 
   pub along-all : {r : ReadStep} {t′ : List ℕ} → StepMeets version s p t (defsFrom start (a .so)) r t′ → {n : ℕ} → r ≡ End n → Ends n t′
-  along-all (passed i e on inside place kept size goes) z = goes≢end goes z
+  along-all (passed i w goes) z = goes≢end goes z
   along-all (refused e l) z = end≢refused (sym z)
   along-all (ended {l = l} {n = m} e) {n} z =
       let here : m ≡ n = cc in
@@ -220,7 +222,7 @@ module _ {version : ℕ} {s : List ℕ} {start : ℕ} {t₀ : List ℕ} {p : Pro
   pub along-refused : {r : ReadStep} {t′ : List ℕ} → StepMeets version s p t (defsFrom start (a .so)) r t′ → {f : Refusal} → r ≡ Refused f
       → (recordsAt version (length t₀ / 3) [] start s ≡ fault (faultIs f)) × (length t′ ≡ length t₀)
   unfolding behind
-  along-refused (passed i e on inside place kept size goes) z = goes≢refused goes z
+  along-refused (passed i w goes) z = goes≢refused goes z
   along-refused (ended e) z = end≢refused z
   along-refused (refused {f = x} e l) {f} z = let same : x ≡ f = cc in (from-here e ∙ ap (λ w. fault (faultIs w)) same, l ∙ a .size)
 

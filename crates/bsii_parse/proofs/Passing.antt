@@ -39,7 +39,7 @@ use Rattle.bsii_prototype.specs.declared.answers.Counted.the-variants.{Fields a
 use Rattle.bsii_prototype.specs.declared.answers.Head.{Head as HeadAnswer}
 use Rattle.bsii_prototype.specs.declared.answers.Head.the-variants.{End as HeadEnd, Prototype as HeadPrototype, Block as HeadBlock, BadHead}
 use Rattle.bsii_block.specs.Blocks.{DefinedAt, countedEnd, Assured}
-use Rattle.bsii_parse.specs.Walks.{blockCount, prototypeCount, behind, recordsAt, bare, Growing, overPrototype, overBlock, Goes, behind-prototype, behind-block, StepMeets, passed, ended as atEnd, refused, Stepped, Defining, Carrying}
+use Rattle.bsii_parse.specs.Walks.{blockCount, prototypeCount, behind, recordsAt, bare, Growing, overPrototype, overBlock, past, Goes, behind-prototype, behind-block, PastRecord, StepMeets, passed, ended as atEnd, refused, Stepped, Defining, Carrying}
 use Rattle.bsii_parse.specs.declared.walk.Progress.{Progress}
 use Rattle.bsii_parse.specs.declared.walk.ReadStep.{ReadStep}
 use Rattle.bsii_parse.specs.declared.walk.ReadStep.the-variants.{Prototype as WentPrototype, Block as WentBlock, End, Refused}
@@ -114,18 +114,25 @@ module _ {version : ℕ} {s : List ℕ} {p : Progress} {t : List ℕ} {env : Lis
   step-fault : {f : Refusal} {t′ : List ℕ} → recordParser version (bare env) (p .at) (drop (p .at) s) ≡ fault (faultIs f) → length t′ ≡ length t → StepMeets version s p t env (Refused f) t′
   step-fault e l = refused (records-fault version (length t / 3) (bare env) (p .at) s e) l
 
-  step-passed : (i : Record) {n rows : ℕ} {r : ReadStep} {t′ : List ℕ} → recordParser version (bare env) (p .at) (drop (p .at) s) ≡ ok (more i) n (drop n s)
-      → hasRoom (length t / 3) (bare env) i ≡ true → Growing s t′ rows (consPrototype (p .at) i env) → length t′ ≡ length t
-      → Goes env (record { at = n; rows = rows; blocks = p .blocks + blockCount (i ∷ []); prototypes = p .prototypes + prototypeCount (i ∷ []) }) i r
-      → StepMeets version s p t env r t′
+  pub past-record : (i : Record) {n rows : ℕ} {t′ : List ℕ} → recordParser version (bare env) (p .at) (drop (p .at) s) ≡ ok (more i) n (drop n s)
+      → hasRoom (length t / 3) (bare env) i ≡ true → Growing s t′ rows (consPrototype (p .at) i env) → length t′ ≡ length t → PastRecord version s p t env i n rows t′
   unfolding stepBytes
-  step-passed i {n} e h k l g =
+  past-record i {n} e h k l =
       let m = moved-on (record-exact version (bare env)) (record-empty version (bare env) 0) s (p .at) e in
-      let d = record-good (bare env) (p .at) (drop (p .at) s) (more i) n (drop n s) e in
-      passed i
-      (records-more version (length t / 3) (bare env) (p .at) s e h
-      ∙ ap (λ z. behind (i ∷ []) (recordsAt version (length t / 3) z n s)) (sym (bare-cons (p .at) i env)))
-      (m .0) (m .1) (d .place) k l g
+      record {
+        records = records-more version (length t / 3) (bare env) (p .at) s e h
+            ∙ ap (λ z. behind (i ∷ []) (recordsAt version (length t / 3) z n s)) (sym (bare-cons (p .at) i env));
+        on = m .0;
+        inside = m .1;
+        long = record-good (bare env) (p .at) (drop (p .at) s) (more i) n (drop n s) e .place;
+        kept = k;
+        size = l;
+      }
+
+  step-passed : (i : Record) {n rows : ℕ} {r : ReadStep} {t′ : List ℕ} → recordParser version (bare env) (p .at) (drop (p .at) s) ≡ ok (more i) n (drop n s)
+      → hasRoom (length t / 3) (bare env) i ≡ true → Growing s t′ rows (consPrototype (p .at) i env) → length t′ ≡ length t → Goes env (past p i n rows) i r
+      → StepMeets version s p t env r t′
+  step-passed i e h k l g = passed i (past-record i e h k l) g
 
   -- ---- by the head
 

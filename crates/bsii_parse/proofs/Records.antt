@@ -105,3 +105,10 @@ unfolding prototypeCount
 prototypeCount-append [] b = omega arith
 prototypeCount-append (prototype p ∷ a) b = omega (arith, prototypeCount-append a b)
 prototypeCount-append (block x ∷ a) b = prototypeCount-append a b
+
+-- each prototype is a definition
+pub defined-length : (l : List Record) (env : List Prototype) → length (defineAll l env) ≡ prototypeCount l + length env
+unfolding defineAll define prototypeCount
+defined-length [] env = omega arith
+defined-length (prototype p ∷ l) env = defined-length l (p ∷ env) ∙ omega arith
+defined-length (block b ∷ l) env = defined-length l env

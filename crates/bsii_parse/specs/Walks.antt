@@ -93,20 +93,29 @@ abbrev pub overBlock : Progress → ℕ → Counted → ReadStep
 overBlock p o (Many c n) = WentBlock (record { at = n; rows = p .rows; blocks = p .blocks + 1; prototypes = p .prototypes }) (record { offset = o; fields = c })
 overBlock p o (Bad f) = Refused f
 
--- how the walk goes on behind the record i: behind a block with the definition that was in force for it
+-- how far the walk is behind the record i, which ends at n
+abbrev pub past : Progress → Record → ℕ → ℕ → Progress
+past p i n rows = record { at = n; rows = rows; blocks = p .blocks + blockCount (i ∷ []); prototypes = p .prototypes + prototypeCount (i ∷ []) }
+
+-- how it goes on there: behind a block with the definition that was in force for it
 pub data Goes (env : List (Placed Prototype)) (q : Progress) : Record → ReadStep → Type 0 where
   behind-prototype : {p : Prototype} → Goes env q (prototype p) (WentPrototype q)
   behind-block : {b : DataBlock} (p : Placed Prototype) → findBy (λ (x : Placed Prototype). x .it .id) (b .prototypeId) env ≡ some p
       → Goes env q (block b) (WentBlock q (record { offset = p .offset; fields = length (p .it .fields) }))
 
--- For the definitions that the table holds: the records from here on are the one that was passed and those from there on; or they are the end
--- record; or they are refused. Behind the step the table holds the definitions with the record's.
+-- for the definitions that the table holds: the records from here on are i, which ends at n, and those from there on, and the table holds the definitions
+-- with the record's
+pub record PastRecord (version : ℕ) (s : List ℕ) (p : Progress) (t : List ℕ) (env : List (Placed Prototype)) (i : Record) (n rows : ℕ) (t′ : List ℕ) : Type 0 where
+  pub records : recordsAt version (length t / 3) (bare env) (p .at) s ≡ behind (i ∷ []) (recordsAt version (length t / 3) (bare (consPrototype (p .at) i env)) n s)
+  pub on : p .at < n
+  pub inside : n ≤ length s
+  pub long : n ≡ p .at + length (recordBytes i)
+  pub kept : Growing s t′ rows (consPrototype (p .at) i env)
+  pub size : length t′ ≡ length t
+
+-- a record was passed; or the records from here on are the end record; or they are refused
 pub data StepMeets (version : ℕ) (s : List ℕ) (p : Progress) (t : List ℕ) (env : List (Placed Prototype)) : ReadStep → List ℕ → Type 0 where
-  passed : (i : Record) {n rows : ℕ} {r : ReadStep} {t′ : List ℕ}
-      → recordsAt version (length t / 3) (bare env) (p .at) s ≡ behind (i ∷ []) (recordsAt version (length t / 3) (bare (consPrototype (p .at) i env)) n s)
-      → p .at < n → n ≤ length s → n ≡ p .at + length (recordBytes i) → Growing s t′ rows (consPrototype (p .at) i env) → length t′ ≡ length t
-      → Goes env (record { at = n; rows = rows; blocks = p .blocks + blockCount (i ∷ []); prototypes = p .prototypes + prototypeCount (i ∷ []) }) i r
-      → StepMeets version s p t env r t′
+  passed : (i : Record) {n rows : ℕ} {r : ReadStep} {t′ : List ℕ} → PastRecord version s p t env i n rows t′ → Goes env (past p i n rows) i r → StepMeets version s p t env r t′
   ended : {l : List ℕ} {n : ℕ} → recordsAt version (length t / 3) (bare env) (p .at) s ≡ ok (record { records = []; end = l }) n (drop n s) → StepMeets version s p t env (End n) t
   refused : {f : Refusal} {t′ : List ℕ} → recordsAt version (length t / 3) (bare env) (p .at) s ≡ fault (faultIs f) → length t′ ≡ length t → StepMeets version s p t env (Refused f) t′
 

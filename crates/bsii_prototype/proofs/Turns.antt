@@ -169,6 +169,15 @@ module _ (s : List ℕ) (at : ℕ) {l : Fields} {n : ℕ} {r : List ℕ} (read :
       go (done f g) = let z : Last next ≡ Last n = e ∙ unchecked-entry f in (g, cc)
       go (step d i m f g h) = field≢last (sym (e ∙ unchecked-entry f))
 
+  -- with no field there, the list is at its end
+  pub turn-none : ((t a b i : ℕ) → Field t a b i ≡ entryOf (at + 8) (entryWith uncheckedStr at (drop at s)) → ⊥) → l .fields ≡ []
+  unfolding entryOf
+  turn-none h = go (turn s at read)
+    where
+      go : Turn s at l n r → l .fields ≡ []
+      go (done f g) = g
+      go (step d i m f g k) = absurd (h (d .typeId) (at + 8) (at + 8 + length (d .name)) i (sym (unchecked-entry f)))
+
   -- what was accepted is not refused
   pub turn-bad : {P : Type 0} {f : Refusal} → Bad f ≡ entryOf (at + 8) (entryWith uncheckedStr at (drop at s)) → P
   unfolding entryOf

@@ -1,6 +1,6 @@
 -- A block from its parts.
 use mathlib.Core.Path.{_≡_, refl, sym, ap, ap₂, _∙_, subst}
-use Prim.Native.Nat.{ℕ, suc, _+_, _-_}
+use Prim.Native.Nat.{ℕ, suc, _+_, _-_, _≤_, _<_}
 use native.Mathlib.Omega.{arith}
 use mathlib.Core.Bool.{Bool, true, false, not}
 use mathlib.Core.Option.{some}
@@ -34,10 +34,15 @@ use Rattle.bsii_skip.proofs.Blocks.{turn, done}
 use Rattle.bsii_block.specs.Blocks.{DefinedAt}
 use Rattle.bsii_walk.proofs.Naming.{head-ends, standing}
 use Rattle.bsii_definition.specs.Pairs.{SameCount}
-use Rattle.bsii_lines.proofs.LineLaws.{own-bytes}
+use Rattle.bsii_value.proofs.ElementTexts.{own-bytes}
 use Rattle.bsii_window.specs.Window.{Wrote}
+use Rattle.bsii_window.specs.Stored.{Stored}
+use Rattle.bsii_window.specs.Overlaps.{OverlapOf}
+use Rattle.bsii_window.specs.declared.window.Overlap.{Overlap}
+use Rattle.bsii_window.specs.declared.window.Overlap.the-variants as place
+use Rattle.bsii_window.proofs.Stores.{stored-then, stored-same, stored-inside}
 use Rattle.bsii_window.proofs.Laws.{then, same}
-use Rattle.bsii_write_word.specs.Ids.{IdWritten}
+use Rattle.bsii_write_word.specs.Ids.{IdStored, IdWritten}
 use Rattle.bsii_text.proofs.FieldLaws.{behind-text}
 use Rattle.bsii_text.specs.Blocks.{WrittenIs, FieldsWritten, OpeningWritten, BodyWritten, SameFields, BlockWritten}
 use Rattle.bsii_text.specs.declared.blocks.Written.{Written}
@@ -49,8 +54,18 @@ pub opened : {name raw old : List ℕ} {to a b c r : ℕ} {m₁ m₂ m₃ new : 
     → OpeningWritten name raw old to r new
 unfolding blockOpening
 opened {name = name} {raw = raw} w₁ w₂ w₃ w₄ = record {
-  writes = λ i e. then (then (then w₁ w₂) (w₃ .writes i (length raw) [] e)) w₄;
+  writes = λ i e. then (then (then w₁ w₂) (w₃ .writes i e)) w₄;
   size = same w₄ ∙ w₃ .size ∙ same w₂ ∙ same w₁;
+}
+
+-- stored, where the longest lies inside
+pub opened-inside : {name raw old : List ℕ} {to start a b c r : ℕ} {m₁ m₂ m₃ new : List ℕ} (n : ℕ) {o : Overlap} → o ≡ place.Inside start → OverlapOf (length old) to n o
+    → Stored old start name a m₁ → Stored m₁ a (ascii " : ") b m₂ → IdStored raw m₂ b c m₃ → Stored m₃ c (ascii " {\n") r new → r ≤ start + n → length old < 0x8000_0000_0000_0000
+    → OpeningWritten name raw old to (r + 0x8000_0000_0000_0000) new
+unfolding blockOpening
+opened-inside n q h w₁ w₂ w₃ w₄ k l = record {
+  writes = λ i e. stored-inside n q h (stored-then (stored-then (stored-then w₁ w₂) (w₃ .stores i e)) w₄) k l;
+  size = stored-same w₄ ∙ w₃ .size ∙ stored-same w₂ ∙ stored-same w₁;
 }
 
 -- ---- the fields between the opening and the end

@@ -48,7 +48,7 @@ pub fn numbers_end(s: &[u8], at: usize, count: usize, width: u32) -> Parsed
 }
 
 // A product of two counts of 32 bits fits.
-fn product(n: u32, m: u32) -> usize
+pub fn product(n: u32, m: u32) -> usize
     ensures { λ r. ⌜ r ≡ n * m ⌝ }
 {
     (n as usize) * (m as usize)

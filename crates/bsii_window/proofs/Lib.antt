@@ -1,5 +1,3 @@
 pub mod Laws
-pub mod DigitLaws
+pub mod Stores
 pub mod Loops
-pub mod Fills
-pub mod Counts

@@ -1,3 +1,3 @@
 pub mod Window
+pub mod Stored
 pub mod Overlaps
-pub mod Counts

@@ -1,10 +1,11 @@
 // Bytes into a window.
 ghost use mathlib.Core.Path.{_≡_};
 ghost use mathlib.Core.List.{[], _∷_};
-ghost use Prim.Native.Nat.{_≤_, min};
+ghost use Prim.Native.Nat.{_+_, _≤_, _<_, min};
 ghost use lib.ListN.{length};
 ghost use lib.Seq.{sets};
 ghost use Rattle.bsii_window.specs.Window.{capped, Wrote};
+ghost use Rattle.bsii_window.specs.Stored.{Stored};
 ghost use Rattle.bsii_window.specs.Overlaps.{OverlapOf};
 
 // Where a text lies: all of it in the window, from an index on; past the window's end; or, for all that is known, across an edge.
@@ -71,6 +72,28 @@ pub fn store(out: &mut [u8], start: usize, text: &[u8])
         out[start + i] = text[i];
         i += 1;
     }
+}
+
+// Where there is room for it.
+pub fn store_byte(out: &mut [u8], to: usize, byte: u8) -> usize
+    requires { ⌜ to < length (now out) ⌝ }
+    ensures { λ r. ⌜ Stored (now (out .entry)) to (byte ∷ []) r (now (out .exit)) ⌝ }
+{
+    out[to] = byte;
+    to + 1
+}
+
+// Without a test for its room, a fixed text takes a store or two.
+pub fn store_text(out: &mut [u8], to: usize, text: &[u8]) -> usize
+    requires { ⌜ to + length (now text) ≤ length (now out) ⌝ }
+    ensures { λ r. ⌜ Stored (now (out .entry)) to (now (text .entry)) r (now (out .exit)) ⌝ }
+{
+    let mut i = 0;
+    while i < text.len() {
+        out[to + i] = text[i];
+        i += 1;
+    }
+    to + text.len()
 }
 
 // As much of it as falls into the window, for a text across an edge.

@@ -28,16 +28,18 @@ fn short_spelled(n: u64) -> bool
     n % 38 != 0
 }
 
-// Whether no digit to base 38 is 0. Two digits a turn, 1444 being the square of 38: half as many divisions wait for the one before.
+// Whether no digit to base 38 is 0. Two digits a turn, 1444 being the square of 38: half as many divisions wait for the one before, and the digits are
+// those of a remainder below 1444.
 pub fn spelled(n: u64) -> bool
     ensures { λ r. ⌜ r ≡ spelledOf n ⌝ }
 {
     let mut rest = n;
     while 1443 < rest {
-        if rest % 38 == 0 {
+        let pair = rest % 1444;
+        if pair % 38 == 0 {
             return false;
         }
-        if rest / 38 % 38 == 0 {
+        if pair < 38 {
             return false;
         }
         rest = rest / 1444;

@@ -1,53 +1,14 @@
 // Strings.
+use bsii_text_length::strings::worst;
 use bsii_window::digits::write_hex_padded;
 use bsii_window::window::put;
 use bsii_window::window::put_all;
 ghost use mathlib.Core.Path.{_≡_};
 ghost use Prim.Native.Nat.{_≤_};
 ghost use lib.ListN.{length};
-ghost use Rattle.bsii_format.specs.Text.{isBare, allBare, escaped, stringText};
+ghost use Rattle.bsii_format.specs.Text.{escaped, stringText};
 ghost use Rattle.bsii_window.specs.Window.{Wrote};
-ghost use Rattle.bsii_write.specs.Runs.{escape, runEnd, run};
-
-fn is_bare(b: u8) -> bool
-    ensures { λ r. ⌜ r ≡ isBare b ⌝ }
-{
-    if b < 48 {
-        return false;
-    }
-    if b < 58 {
-        return true;
-    }
-    if b < 65 {
-        return false;
-    }
-    if b < 91 {
-        return true;
-    }
-    if b == 95 {
-        return true;
-    }
-    if b < 97 {
-        return false;
-    }
-    if b < 123 {
-        return true;
-    }
-    false
-}
-
-fn all_bare(bytes: &[u8]) -> bool
-    ensures { λ r. ⌜ r ≡ allBare (now (bytes .entry)) ⌝ }
-{
-    let mut i = 0;
-    while i < bytes.len() {
-        if !is_bare(bytes[i]) {
-            return false;
-        }
-        i += 1;
-    }
-    true
-}
+ghost use Rattle.bsii_write.specs.Runs.{runEnd, run};
 
 // The end of the run of raw bytes, those from 32 to 127, that starts at an index.
 fn run_end(bytes: &[u8], start: usize) -> usize
@@ -67,22 +28,15 @@ fn run_end(bytes: &[u8], start: usize) -> usize
     i
 }
 
-// `\x` and two digits.
-fn write_escape(out: &mut [u8], at: usize, b: u8) -> usize
-    ensures { λ r. ⌜ Wrote (now (out .entry)) at (escape b) r (now (out .exit)) ⌝ }
-{
-    let next = put_all(out, at, b"\\x");
-    write_hex_padded(out, next, b as u64, 2)
-}
-
-// The raw bytes from start to end, and the escaped byte behind them, if there is one.
+// The raw bytes from start to end, and the byte behind them, if there is one, as `\x` and two digits.
 fn write_run(out: &mut [u8], at: usize, bytes: &[u8], start: usize, end: usize) -> usize
     requires { ⌜ (start ≤ end) × (end ≤ length (now bytes)) ⌝ }
     ensures { λ r. ⌜ Wrote (now (out .entry)) at (run (now (bytes .entry)) start end) r (now (out .exit)) ⌝ }
 {
     let next = put_all(out, at, &bytes[start..end]);
     if end < bytes.len() {
-        return write_escape(out, next, bytes[end]);
+        let digits = put_all(out, next, b"\\x");
+        return write_hex_padded(out, digits, bytes[end] as u64, 2);
     }
     next
 }
@@ -100,16 +54,22 @@ fn write_escaped(out: &mut [u8], at: usize, bytes: &[u8]) -> usize
     to
 }
 
+// Looked through once, unless it has escapes.
 pub fn write_string(out: &mut [u8], at: usize, bytes: &[u8]) -> usize
     ensures { λ r. ⌜ Wrote (now (out .entry)) at (stringText (now (bytes .entry))) r (now (out .exit)) ⌝ }
 {
     if bytes.len() == 0 {
         return put_all(out, at, b"\"\"");
     }
-    if all_bare(bytes) {
+    let class = worst(bytes);
+    if class == 0 {
         return put_all(out, at, bytes);
     }
     let first = put(out, at, b'"');
+    if class == 1 {
+        let last = put_all(out, first, bytes);
+        return put(out, last, b'"');
+    }
     let last = write_escaped(out, first, bytes);
     put(out, last, b'"')
 }

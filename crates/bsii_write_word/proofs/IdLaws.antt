@@ -2,28 +2,30 @@
 use Prim.Native.Nat.{ℕ, zero, suc, _+_, _-_, _*_, _/_, _%_, _<_, _≤_}
 use mathlib.Core.Path.{_≡_, refl, sym, ap, ap₂, _∙_}
 use mathlib.Core.Logic.{⊎-elim}
-use mathlib.Core.Bool.{Bool, true, false, cond}
-use mathlib.Core.List.{List, [], _++_, append-assoc}
+use mathlib.Core.Bool.{Bool, cond}
+use mathlib.Core.List.{List, [], _∷_, _++_, append-assoc}
 use native.Mathlib.Omega.{arith}
-use lib.ListN.{length, drop, length-append}
+use lib.ListN.{length, drop, getD, length-append}
 use lib.Dec.{eqb}
 use borrow.Author.Tests.{eq-eqb, ne-eqb, lt-ltb, le-ltb}
 use Rattle.bsii_format.specs.Ascii.{ascii}
-use Rattle.bsii_format.specs.Reader.{ok, verify, success, repeat, _>>=_, _<$>_}
-use Rattle.bsii_format.specs.Numbers.{number, leU64}
+use Rattle.bsii_format.specs.Reader.{Reader, ok, verify, success, repeat, _>>=_, _<$>_, WellFormed}
+use Rattle.bsii_format.specs.Numbers.{littleEndian, number, leU64}
 use Rattle.bsii_format.specs.Strings.{low63, spelled, characters, encodedStrParser, Id, nameless, named, idParser}
 use Rattle.bsii_format.specs.Digits.{hexadecimal, hexPadded}
 use Rattle.bsii_format.specs.Text.{groups, dotted, idText}
+use Rattle.bsii_format.proofs.Positions.{number-at, number-short}
 use Rattle.bsii_format.proofs.Readers.{after-ok, map-ok, cond-ok, is-true, ok-val, ok-at, ok-rest}
-use Rattle.bsii_string.specs.NumbersAt.{numberAt}
+use Rattle.bsii_string.specs.NumbersAt.{orZero, numberAt}
 use Rattle.bsii_string.proofs.NumbersAt.{split, number-is, number-moves}
-use Rattle.bsii_window.specs.Window.{Wrote}
-use Rattle.bsii_window.proofs.Laws.{lt-or-le, being, same}
-use Rattle.bsii_window.proofs.DigitLaws.{length-more, some-digit, sixteen, padded-length, padded-whole}
-use Rattle.bsii_window.proofs.Counts.{hex-below}
-use Rattle.bsii_write_word.specs.Words.{spelling}
-use Rattle.bsii_write_word.specs.Ids.{wordAt, dottedAt, IdWritten}
-use Rattle.bsii_write_word.proofs.WordLaws.{characters-spelling}
+use Rattle.bsii_window.specs.Stored.{Stored}
+use Rattle.bsii_window.proofs.Laws.{lt-or-le}
+use Rattle.bsii_window.proofs.Stores.{stored-being, stored-same}
+use Rattle.bsii_digits.proofs.DigitLaws.{length-more, some-digit, sixteen, padded-length, padded-whole}
+use Rattle.bsii_digits.proofs.Counts.{hex-below}
+use Rattle.bsii_text_length.specs.Words.{spelling}
+use Rattle.bsii_write_word.specs.Ids.{wordAt, dottedAt, IdStored, IdLength}
+use Rattle.bsii_text_length.proofs.WordLaws.{characters-spelling}
 
 -- ---- groups of 16 bits
 
@@ -116,10 +118,11 @@ nameless-length n d h e =
     let g : Long 3 n = long-more 3 0x1_0000_0000_0000 (omega arith) (long-more 2 0x1_0000_0000 (omega arith) (long-more 1 0x1_0000 (omega arith) (long-small 0))) n h in
     nameless-behind n ∙ omega (arith, g, e)
 
-pub nameless-most : (n : ℕ) → n < 0x1_0000_0000_0000_0000 → length (idText (nameless n)) ≤ 29
-nameless-most n h = omega (arith, nameless-length n (length (hexadecimal n)) h refl, hex-below 15 n h)
-
 -- ---- words
+
+pub word-text : {v : ℕ} (s : List ℕ) (at : ℕ) → v ≡ numberAt 8 s at → spelling (v % 0x8000_0000_0000_0000) ≡ wordAt s at
+unfolding wordAt low63
+word-text s at e = ap (λ (n : ℕ). spelling (n % 0x8000_0000_0000_0000)) e
 
 -- what an accepted word at a place is
 record Word (s : List ℕ) (at w e : ℕ) (r : List ℕ) : Type 0 where
@@ -141,15 +144,14 @@ word-at s at w e r h =
       rest = sym (ok-rest (v .1)) ∙ m .1;
     }
 
-dotted-at : (n : ℕ) (s : List ℕ) (at : ℕ) {l : List ℕ} {e : ℕ} {r : List ℕ} → repeat n encodedStrParser at (drop at s) ≡ ok l e r → dotted l ≡ dottedAt n s at
+dotted-at : (n : ℕ) (s : List ℕ) (at : ℕ) {l : List ℕ} {e : ℕ} {r : List ℕ} → repeat n encodedStrParser at (drop at s) ≡ ok l e r → (dotted l ≡ dottedAt n s at) × (e ≡ at + 8 * n)
 unfolding repeat success dotted dottedAt
-dotted-at zero s at h = ap dotted (sym (ok-val h))
+dotted-at zero s at h = (ap dotted (sym (ok-val h)), omega (arith, ok-at h))
 dotted-at (suc n) s at h =
     let p = split n encodedStrParser at (drop at s) h in
     let w = word-at s at (p .first) (p .next) (p .rest) (p .front) in
-    ap dotted (sym (p .whole))
-    ∙ ap₂ (λ (x y : List ℕ). ascii "." ++ x ++ y) (w .text)
-    (dotted-at n s (at + 8) (ap₂ (λ (i : ℕ) (t : List ℕ). repeat n encodedStrParser i t) (sym (w .moved)) (sym (w .rest)) ∙ p .back))
+    let d = dotted-at n s (at + 8) (ap₂ (λ (i : ℕ) (t : List ℕ). repeat n encodedStrParser i t) (sym (w .moved)) (sym (w .rest)) ∙ p .back) in
+    (ap dotted (sym (p .whole)) ∙ ap₂ (λ (x y : List ℕ). ascii "." ++ x ++ y) (w .text) (d .0), omega (arith, d .1))
 
 pub dotted-more : (n : ℕ) (s : List ℕ) (at : ℕ) → 0 < n → dottedAt n s at ≡ ascii "." ++ wordAt s at ++ dottedAt (n - 1) s (at + 8)
 unfolding dottedAt
@@ -163,50 +165,66 @@ dotted-none (suc n) s at h = absurd (omega arith)
 
 -- ---- ids
 
-module _ (s : List ℕ) (i : Id) (n : ℕ) (t : List ℕ) (h : idParser 0 s ≡ ok i n t) where
-  body : (b : Bool) → eqb (numberAt 1 s 0) 0xff ≡ b → cond b (nameless <$> leU64) (named <$> repeat (numberAt 1 s 0) encodedStrParser) 1 (drop 1 s) ≡ ok i n t
+-- what an accepted id is by its first byte
+module _ (s : List ℕ) {n : ℕ} (b : n ≡ numberAt 1 s 0) where
+  body : (i : Id) → WellFormed idParser i s → cond (eqb n 0xff) (nameless <$> leU64) (named <$> repeat n encodedStrParser) 1 (drop 1 s) ≡ ok i (length s) []
   unfolding idParser _>>=_
-  body b e =
-      let q = after-ok (number 1 0 s) (λ (n : ℕ). cond (eqb n 0xff) (nameless <$> leU64) (named <$> repeat n encodedStrParser)) h in
+  body i h =
+      let f : ℕ → Reader Id = λ n. cond (eqb n 0xff) (nameless <$> leU64) (named <$> repeat n encodedStrParser) in
+      let q = after-ok (number 1 0 s) f h in
       let m = number-moves 1 s 0 (q .3) in
-      let v = number-is 1 s 0 (q .3) in
-      ap (λ (b : Bool). cond b (nameless <$> leU64) (named <$> repeat (numberAt 1 s 0) encodedStrParser) 1 (drop 1 s)) (sym e)
-      ∙ ap (λ (n : ℕ). cond (eqb n 0xff) (nameless <$> leU64) (named <$> repeat n encodedStrParser) 1 (drop 1 s)) v
-      ∙ ap₂ (λ (j : ℕ) (r : List ℕ). cond (eqb (q .0) 0xff) (nameless <$> leU64) (named <$> repeat (q .0) encodedStrParser) j r) (sym (m .0)) (sym (m .1))
-      ∙ q .4
+      ap (λ (k : ℕ). f k 1 (drop 1 s)) (b ∙ number-is 1 s 0 (q .3)) ∙ ap₂ (f (q .0)) (sym (m .0)) (sym (m .1)) ∙ q .4
 
-  pub nameless-text : numberAt 1 s 0 ≡ 0xff → idText (nameless (numberAt 8 s 1)) ≡ idText i
-  nameless-text e =
-      let u = map-ok nameless leU64 1 (drop 1 s) (body true (eq-eqb (numberAt 1 s 0) 0xff e)) in
-      ap idText (ap nameless (number-is 8 s 1 (u .2)) ∙ u .1)
+  digits : n ≡ 0xff → (i : Id) → WellFormed idParser i s → (v : ℕ) × (nameless v ≡ i) × (leU64 1 (drop 1 s) ≡ ok v (length s) [])
+  digits e i h = map-ok nameless leU64 1 (drop 1 s) (rw (eq-eqb n 0xff e) at (body i h))
 
-  words : (k : ℕ) → numberAt 1 s 0 ≡ k → (k ≡ 0xff → ⊥) → (l : List ℕ) × (named l ≡ i) × (repeat k encodedStrParser 1 (drop 1 s) ≡ ok l n t)
-  words k z e =
-      let u = map-ok named (repeat (numberAt 1 s 0) encodedStrParser) 1 (drop 1 s) (body false (ne-eqb (numberAt 1 s 0) 0xff (λ (x : numberAt 1 s 0 ≡ 0xff). e (sym z ∙ x)))) in
-      (u .0, u .1, ap (λ (k : ℕ). repeat k encodedStrParser 1 (drop 1 s)) (sym z) ∙ u .2)
+  words : (n ≡ 0xff → ⊥) → (i : Id) → WellFormed idParser i s → (l : List ℕ) × (named l ≡ i) × (repeat n encodedStrParser 1 (drop 1 s) ≡ ok l (length s) [])
+  words e i h = map-ok named (repeat n encodedStrParser) 1 (drop 1 s) (rw (ne-eqb n 0xff e) at (body i h))
 
-  pub null-text : numberAt 1 s 0 ≡ 0 → ascii "null" ≡ idText i
+  pub nameless-text : {v : ℕ} → n ≡ 0xff → v ≡ numberAt 8 s 1 → (i : Id) → WellFormed idParser i s → idText (nameless v) ≡ idText i
+  nameless-text e f i h = let u = digits e i h in ap idText (ap nameless (f ∙ number-is 8 s 1 (u .2)) ∙ u .1)
+
+  pub null-text : n ≡ 0 → (i : Id) → WellFormed idParser i s → ascii "null" ≡ idText i
   unfolding repeat success idText
-  null-text e =
-      let u = words 0 e (λ (x : 0 ≡ 0xff). omega arith) in
-      ap idText (ap named (ok-val (u .2)) ∙ u .1)
+  null-text e i h =
+      let u = words (λ f. omega (arith, e, f)) i h in
+      ap idText (ap named (ok-val (ap (λ (k : ℕ). repeat k encodedStrParser 1 (drop 1 s)) (sym e) ∙ u .2)) ∙ u .1)
 
-  named-by : (k : ℕ) → numberAt 1 s 0 ≡ suc k → (suc k ≡ 0xff → ⊥) → wordAt s 1 ++ dottedAt k s 9 ≡ idText i
+  pub named-text : {v : ℕ} → (n ≡ 0xff → ⊥) → (n ≡ 0 → ⊥) → v ≡ numberAt 8 s 1 → (i : Id) → WellFormed idParser i s
+      → spelling (v % 0x8000_0000_0000_0000) ++ dottedAt (n - 1) s 9 ≡ idText i
   unfolding idText
-  named-by k z e =
-      let u = words (suc k) z e in
-      let p = split k encodedStrParser 1 (drop 1 s) (u .2) in
+  named-text e o f i h =
+      let u = words e i h in
+      let y : suc (n - 1) ≡ n = omega (arith, o) in
+      let p = split (n - 1) encodedStrParser 1 (drop 1 s) (ap (λ (k : ℕ). repeat k encodedStrParser 1 (drop 1 s)) y ∙ u .2) in
       let w = word-at s 1 (p .first) (p .next) (p .rest) (p .front) in
-      ap₂ (λ (x y : List ℕ). x ++ y) (sym (w .text))
-      (sym (dotted-at k s 9 (ap₂ (λ (i : ℕ) (t : List ℕ). repeat k encodedStrParser i t) (sym (w .moved)) (sym (w .rest)) ∙ p .back)))
-      ∙ ap idText (ap named (p .whole) ∙ u .1)
+      let d = dotted-at (n - 1) s 9 (ap₂ (λ (i : ℕ) (t : List ℕ). repeat (n - 1) encodedStrParser i t) (sym (w .moved)) (sym (w .rest)) ∙ p .back) in
+      ap₂ (λ (x y : List ℕ). x ++ y) (word-text s 1 f ∙ sym (w .text)) (sym (d .0)) ∙ ap idText (ap named (p .whole) ∙ u .1)
 
-  pub named-text : (v : ℕ) → numberAt 1 s 0 ≡ v → (v ≡ 0xff → ⊥) → (v ≡ 0 → ⊥) → wordAt s 1 ++ dottedAt (v - 1) s 9 ≡ idText i
-  named-text v z e o =
-      let y : v ≡ suc (v - 1) = omega (arith, o) in
-      named-by (v - 1) (z ∙ y) (λ (x : suc (v - 1) ≡ 0xff). e (y ∙ x))
+  pub named-length : (n ≡ 0xff → ⊥) → (i : Id) → WellFormed idParser i s → length s ≡ 1 + 8 * n
+  named-length e i h = dotted-at n s 1 (words e i h .2) .1
 
--- a text that an accepted id has
-pub written : {raw old new x : List ℕ} {at r : ℕ}
-    → ((i : Id) (n : ℕ) (t : List ℕ) → idParser 0 raw ≡ ok i n t → x ≡ idText i) → Wrote old at x r new → IdWritten raw old at r new
-written f w = record { writes = λ i n t h. being (f i n t h) w; size = same w }
+  id-short : n < 0x100 → (i : Id) → WellFormed idParser i s → length s ≤ 2033
+  id-short l i h =
+      ⊎-elim
+      (λ k. omega (arith, named-length (λ e. omega (arith, e)) i h))
+      (λ k. omega (arith, number-moves 8 s 1 (digits (omega arith) i h .2) .0))
+      (lt-or-le n 0xff)
+
+first-byte : (s : List ℕ) → numberAt 1 s 0 ≤ getD s 0 0
+unfolding numberAt orZero littleEndian
+first-byte [] = omega (arith, ap orZero (number-short 1 [] 0 (omega arith)))
+first-byte (x ∷ s) = omega (arith, number-is 1 (x ∷ s) 0 (number-at 1 (x ∷ s) 0 (omega arith)))
+
+-- no id has more bytes: 254 words behind their count
+pub most-bytes : (s : List ℕ) → getD s 0 0 < 0x100 → (i : Id) → WellFormed idParser i s → length s ≤ 2033
+most-bytes s l = id-short s refl (omega (arith, first-byte s))
+
+-- ---- contracts
+
+module _ {s : List ℕ} {x : List ℕ} (f : (i : Id) → WellFormed idParser i s → x ≡ idText i) where
+  pub id-stored : {old new : List ℕ} {to r : ℕ} → Stored old to x r new → r ≤ to + 29 + 2 * length s → IdStored s old to r new
+  id-stored w m = record { stores = λ i h. stored-being (f i h) w; after = omega (arith, w .next); most = m; size = stored-same w }
+
+  pub id-counted : {r : ℕ} → r ≡ length x → r ≤ 29 + 2 * length s → IdLength s r
+  id-counted e m = record { counts = λ i h. e ∙ ap length (f i h); most = m }

@@ -1,2 +1,2 @@
-pub mod IdLaws
 pub mod WordLaws
+pub mod IdLaws

@@ -1,28 +1,30 @@
 // Ids.
-use crate::words::write_word;
+use crate::words::store_word;
+use bsii_digits::fill_four;
+use bsii_digits::fill_hex;
+use bsii_digits::hex_count;
 use bsii_string::at::u8_at;
 use bsii_string::at::u64_at;
-use bsii_window::digits::fill_hex;
-use bsii_window::digits::hex_count;
+use bsii_text_length::words::word_length;
 use bsii_window::window::Overlap;
 use bsii_window::window::further;
 use bsii_window::window::overlap_of;
-use bsii_window::window::put;
 use bsii_window::window::put_all;
-use bsii_window::window::store;
+use bsii_window::window::store_byte;
+use bsii_window::window::store_text;
 ghost use mathlib.Core.Path.{_≡_};
 ghost use mathlib.Core.List.{_++_};
-ghost use Prim.Native.Nat.{_+_, _-_, _≤_};
+ghost use Prim.Native.Nat.{_+_, _-_, _*_, _≤_};
 ghost use lib.ListN.{length};
 ghost use lib.Seq.{sets};
 ghost use Rattle.bsii_format.specs.Ascii.{ascii};
 ghost use Rattle.bsii_format.specs.Digits.{hexPadded};
 ghost use Rattle.bsii_format.specs.Text.{groups, idText};
 ghost use Rattle.bsii_format.specs.Strings.{nameless};
-ghost use Rattle.bsii_window.specs.Window.{Wrote};
-ghost use Rattle.bsii_write_word.specs.Ids.{wordAt, dottedAt, IdWritten};
+ghost use Rattle.bsii_window.specs.Stored.{Stored};
+ghost use Rattle.bsii_write_word.specs.Ids.{dottedAt, IdStored, IdLength, IdWritten};
 
-// A dot and the last `count` digits, up to an index.
+// A dot and the last `count` digits, up to an index: the first group, without leading zeros.
 fn fill_group(out: &mut [u8], end: usize, n: u64, count: u32)
     requires { ⌜ (count + 1 ≤ end) × (end ≤ length (now out)) ⌝ }
     ensures { λ _. ⌜ now (out .exit) ≡ sets (now (out .entry)) (end - (count + 1)) (ascii "." ++ hexPadded count n) ⌝ }
@@ -30,6 +32,15 @@ fn fill_group(out: &mut [u8], end: usize, n: u64, count: u32)
     let width = count as usize;
     out[end - (width + 1)] = b'.';
     fill_hex(out, end, n, count);
+}
+
+// A dot and four digits, without a loop.
+fn fill_later_group(out: &mut [u8], end: usize, n: u64)
+    requires { ⌜ (5 ≤ end) × (end ≤ length (now out)) ⌝ }
+    ensures { λ _. ⌜ now (out .exit) ≡ sets (now (out .entry)) (end - 5) (ascii "." ++ hexPadded 4 n) ⌝ }
+{
+    out[end - 5] = b'.';
+    fill_four(out, end - 4, n);
 }
 
 // The groups up to an index, from the last one on: a dot and four digits for each division.
@@ -40,95 +51,115 @@ fn fill_groups(out: &mut [u8], end: usize, n: u64)
     let mut i = end;
     let mut rest = n;
     while 0xffff < rest {
-        fill_group(out, i, rest % 0x1_0000, 4);
+        fill_later_group(out, i, rest % 0x1_0000);
         i -= 5;
         rest = rest / 0x1_0000;
     }
     fill_group(out, i, rest, hex_count(rest));
 }
 
-// How long `_nameless` and the groups are: the digits, and a dot for every four of them.
-fn nameless_count(n: u64) -> usize
-    ensures { λ r. ⌜ r ≡ length (idText (nameless n)) ⌝ }
+// `_nameless`, the digits, and a dot for every four of them.
+pub fn nameless_length(n: u64) -> usize
+    ensures { λ r. ⌜ (r ≡ length (idText (nameless n))) × (r ≤ 29) ⌝ }
 {
     let digits = hex_count(n) as usize;
     9 + digits + (digits + 3) / 4
 }
 
-// All of its text, of `count` bytes, from an index on.
-fn fill_nameless(out: &mut [u8], start: usize, n: u64, count: usize)
-    requires { ⌜ (count ≡ length (idText (nameless n))) × (start + count ≤ length (now out)) ⌝ }
-    ensures { λ _. ⌜ now (out .exit) ≡ sets (now (out .entry)) start (idText (nameless n)) ⌝ }
+fn store_nameless(out: &mut [u8], to: usize, n: u64) -> usize
+    requires { ⌜ to + 29 ≤ length (now out) ⌝ }
+    ensures { λ r. ⌜ Stored (now (out .entry)) to (idText (nameless n)) r (now (out .exit)) × (r ≤ to + 29) ⌝ }
 {
-    store(out, start, b"_nameless");
-    fill_groups(out, start + count, n);
+    store_text(out, to, b"_nameless");
+    let end = to + nameless_length(n);
+    fill_groups(out, end, n);
+    end
 }
 
-// By a copy, for a text across an edge of the window. The longest has four dots and 16 digits behind `_nameless`.
-fn put_nameless(out: &mut [u8], at: usize, n: u64, count: usize) -> usize
-    requires { ⌜ count ≡ length (idText (nameless n)) ⌝ }
-    ensures { λ r. ⌜ Wrote (now (out .entry)) at (idText (nameless n)) r (now (out .exit)) ⌝ }
-{
-    let mut text = [0u8; 29];
-    fill_nameless(&mut text, 0, n, count);
-    put_all(out, at, &text[..count])
-}
-
-fn write_nameless(out: &mut [u8], at: usize, n: u64) -> usize
-    ensures { λ r. ⌜ Wrote (now (out .entry)) at (idText (nameless n)) r (now (out .exit)) ⌝ }
-{
-    let count = nameless_count(n);
-    let place = overlap_of(out.len(), at, count);
-    match place {
-        Overlap::Past => return further(at, count),
-        Overlap::Across => return put_nameless(out, at, n, count),
-        Overlap::Inside(start) => {
-            fill_nameless(out, start, n, count);
-            return at + count;
-        }
-    }
-}
-
-// The word at a place, without its bit 63.
-fn write_word_at(out: &mut [u8], at: usize, raw: &[u8], place: usize) -> usize
-    ensures { λ r. ⌜ Wrote (now (out .entry)) at (wordAt (now (raw .entry)) place) r (now (out .exit)) ⌝ }
-{
-    write_word(out, at, u64_at(raw, place) % 0x8000_0000_0000_0000)
-}
-
-fn write_dotted_word(out: &mut [u8], at: usize, raw: &[u8], place: usize) -> usize
-    ensures { λ r. ⌜ Wrote (now (out .entry)) at (ascii "." ++ wordAt (now (raw .entry)) place) r (now (out .exit)) ⌝ }
-{
-    let next = put(out, at, b'.');
-    write_word_at(out, next, raw, place)
-}
-
-// `count` words behind the first one, each with a dot in front.
-fn write_dotted(out: &mut [u8], at: usize, raw: &[u8], count: u32) -> usize
-    ensures { λ r. ⌜ Wrote (now (out .entry)) at (dottedAt count (now (raw .entry)) 9) r (now (out .exit)) ⌝ }
+// `count` words behind the first one, without their bit 63, each with a dot in front.
+fn store_dotted(out: &mut [u8], to: usize, raw: &[u8], count: u32) -> usize
+    requires { ⌜ to + 14 * count ≤ length (now out) ⌝ }
+    ensures { λ r. ⌜ Stored (now (out .entry)) to (dottedAt count (now (raw .entry)) 9) r (now (out .exit)) × (r ≤ to + 14 * count) ⌝ }
 {
     let mut left = count;
     let mut place = 9;
-    let mut to = at;
+    let mut here = to;
     while 0 < left {
-        to = write_dotted_word(out, to, raw, place);
+        let next = store_byte(out, here, b'.');
+        here = store_word(out, next, u64_at(raw, place) % 0x8000_0000_0000_0000);
         place += 8;
         left -= 1;
     }
-    to
+    here
 }
 
-// The id of these bytes, which were accepted.
-pub fn write_id(out: &mut [u8], at: usize, raw: &[u8]) -> usize
-    ensures { λ r. ⌜ IdWritten (now (raw .entry)) (now (out .entry)) at r (now (out .exit)) ⌝ }
+// The id of these bytes, which were accepted. Fewer bytes than the words need are no id.
+pub fn store_id(out: &mut [u8], to: usize, raw: &[u8]) -> usize
+    requires { ⌜ to + 29 + 2 * length (now raw) ≤ length (now out) ⌝ }
+    ensures { λ r. ⌜ IdStored (now (raw .entry)) (now (out .entry)) to r (now (out .exit)) ⌝ }
 {
     let n = u8_at(raw, 0);
     if n == 0xff {
-        return write_nameless(out, at, u64_at(raw, 1));
+        return store_nameless(out, to, u64_at(raw, 1));
     }
     if n == 0 {
-        return put_all(out, at, b"null");
+        return store_text(out, to, b"null");
     }
-    let next = write_word_at(out, at, raw, 1);
-    write_dotted(out, next, raw, n - 1)
+    if raw.len() / 8 < n as usize {
+        return to;
+    }
+    let next = store_word(out, to, u64_at(raw, 1) % 0x8000_0000_0000_0000);
+    store_dotted(out, next, raw, n - 1)
+}
+
+fn dotted_length(raw: &[u8], count: u32) -> usize
+    ensures { λ r. ⌜ (r ≡ length (dottedAt count (now (raw .entry)) 9)) × (r ≤ 14 * count) ⌝ }
+{
+    let mut left = count;
+    let mut place: usize = 9;
+    let mut long: usize = 0;
+    while 0 < left {
+        long += 1 + word_length(u64_at(raw, place) % 0x8000_0000_0000_0000);
+        place += 8;
+        left -= 1;
+    }
+    long
+}
+
+pub fn id_length(raw: &[u8]) -> usize
+    ensures { λ r. ⌜ IdLength (now (raw .entry)) r ⌝ }
+{
+    let n = u8_at(raw, 0);
+    if n == 0xff {
+        return nameless_length(u64_at(raw, 1));
+    }
+    if n == 0 {
+        return 4;
+    }
+    if raw.len() / 8 < n as usize {
+        return 0;
+    }
+    word_length(u64_at(raw, 1) % 0x8000_0000_0000_0000) + dotted_length(raw, n - 1)
+}
+
+// No id has more than 254 words, so longer bytes are none. Across an edge of the window it is put from an array.
+pub fn write_id(out: &mut [u8], at: usize, raw: &[u8]) -> usize
+    ensures { λ r. ⌜ IdWritten (now (raw .entry)) (now (out .entry)) at r (now (out .exit)) ⌝ }
+{
+    if 2033 < raw.len() {
+        return at;
+    }
+    let place = overlap_of(out.len(), at, 29 + 2 * raw.len());
+    match place {
+        Overlap::Past => return further(at, id_length(raw)),
+        Overlap::Across => {
+            let mut text = [0u8; 4096];
+            let end = store_id(&mut text, 0, raw);
+            return put_all(out, at, &text[..end]);
+        }
+        Overlap::Inside(start) => {
+            let end = store_id(out, start, raw);
+            return end + 0x8000_0000_0000_0000;
+        }
+    }
 }

@@ -6,7 +6,8 @@ use native.Mathlib.Omega.{arith}
 use Prim.Native.Nat.{_-_, _≤_}
 use lib.ListN.{length, take, drop}
 use denote.Ref.{now}
-use Rattle.bsii_field.proofs.Entries.{unfielded, field-inside}
+use Rattle.bsii_prototype.proofs.Inside.{field-inside}
+use Rattle.bsii_field.proofs.Entries.{unfielded}
 use Rattle.bsii_field.proofs.Names.{byte-more, bytes-all, byte-other, size-other, Seeking, seek-start, seek-last, seek-bad, seek-here, seek-on}
 use Rattle.bsii_field.proofs.field_index.Statement.{statement}
 use Rattle.bsii_field.proofs.field_index.Tie as tie

@@ -6,7 +6,8 @@ use native.Mathlib.Omega.{arith}
 use Prim.Native.Nat.{_-_, _≤_}
 use lib.ListN.{length}
 use denote.Ref.{now}
-use Rattle.bsii_field.proofs.Entries.{unfielded, field-inside}
+use Rattle.bsii_prototype.proofs.Inside.{field-inside}
+use Rattle.bsii_field.proofs.Entries.{unfielded}
 use Rattle.bsii_field.proofs.Values.{Going, go-start, go-last, go-bad, go-fault, go-here, go-on}
 use Rattle.bsii_field.proofs.value_at.Statement.{statement}
 use Rattle.bsii_field.proofs.value_at.Tie as tie

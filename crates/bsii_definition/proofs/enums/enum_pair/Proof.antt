@@ -1,69 +1,61 @@
--- A pair that enumValueParser accepts has a number and a string, whose end the unchecked string has too: so NoPair is met at no accepted pair,
--- and the text stands behind the string's four bytes of length, up to that end.
-use mathlib.Core.Path.{sym, ap, _∙_}
+-- A pair that enumValueParser accepts has eight bytes and those of its string: with fewer nothing is accepted, and with them its parts are these.
+use mathlib.Core.Path.{refl, _∙_}
 use native.Mathlib.Omega.{arith}
 use denote.Ref.{now}
-use Rattle.bsii_string.specs.Answers.{numOf}
-use Rattle.bsii_definition.proofs.EnumLaws.{no-number, no-string, a-pair}
+use Rattle.bsii_definition.proofs.EnumLaws.{pair-short, pair-cut, pair-whole}
 use borrow.Author.Needs.{needs}
 use Rattle.bsii_definition.proofs.enums.enum_pair.Statement.{statement}
 use Rattle.bsii_definition.proofs.enums.enum_pair.Tie as tie
 
-le-u32-requires : tie.Need-le-u32-requires
-le-u32-requires c κs = search needs
-
-enum-known-number : tie.Need-enum-known-number
-enum-known-number c = search needs
-
-enum-told : tie.Need-enum-told
-enum-told c = search needs
-
 returns : tie.Need-returns
-returns c =
-    let a = c .before .before .before .before .args in
-    no-number (now (a .s)) (a .at) (sym (c .before .before .le-u32 .ensures) ∙ ap (numOf (now (a .s))) (c .enum-told .given .1))
+returns c = let a = c .before .before .args in pair-short (now (a .s)) (a .at) (omega arith)
 
-skip-str-requires : tie.Need-skip-str-requires
-skip-str-requires c κs = search needs
-
-enum-known-end : tie.Need-enum-known-end
-enum-known-end c = search needs
-
-enum-told-2 : tie.Need-enum-told-2
-enum-told-2 c = search needs
+sub-if2 : tie.Need-sub-if2
+sub-if2 c = search needs
 
 returns-2 : tie.Need-returns-2
-returns-2 c =
-    let k = c .before .before .before in
-    let a = k .before .before .before .before .before .args in
-    let e = sym (k .before .before .before .le-u32 .ensures) ∙ ap (numOf (now (a .s))) (k .before .number .given .1) in
-    no-string (now (a .s)) (a .at) e (sym (c .enum-told2 .given .1) ∙ c .before .before .skip-str .ensures)
+returns-2 c = let a = c .before .before .before .args in pair-short (now (a .s)) (a .at) (omega arith)
 
-add-t8 : tie.Need-add-t8
-add-t8 c =
-    let k = c .before .before .before .before in
-    let a = k .before .before .before .before .before .args in
-    let e = sym (k .before .before .before .le-u32 .ensures) ∙ ap (numOf (now (a .s))) (k .before .number .given .1) in
-    omega (arith, a-pair (now (a .s)) (a .at) e (sym (c .before .end .given .1) ∙ c .before .before .before .skip-str .ensures) .inside)
+add-quad : tie.Need-add-quad
+add-quad c = search needs
+
+quad-requires : tie.Need-quad-requires
+quad-requires c κs = search needs
+
+size-requires : tie.Need-size-requires
+size-requires c κs = search needs
+
+add-next : tie.Need-add-next
+add-next c = search needs
+
+add-next-2 : tie.Need-add-next-2
+add-next-2 c = search needs
 
 returns-3 : tie.Need-returns-3
-returns-3 c =
-    let k = c .before .before .before .before in
-    let a = k .before .before .before .before .before .args in
-    let e = sym (k .before .before .before .le-u32 .ensures) ∙ ap (numOf (now (a .s))) (k .before .number .given .1) in
-    a-pair (now (a .s)) (a .at) e (sym (c .before .end .given .1) ∙ c .before .before .before .skip-str .ensures)
+returns-3 c = let a = c .before .before .before .before .before .before .args in pair-cut (now (a .s)) (a .at) (omega arith) refl (c .before .size .ensures ∙ c .before .before .quad .ensures) (omega arith)
+
+quad-requires-2 : tie.Need-quad-requires-2
+quad-requires-2 c κs = search needs
+
+add-t7 : tie.Need-add-t7
+add-t7 c = search needs
+
+returns-4 : tie.Need-returns-4
+returns-4 c = let a = c .before .before .before .before .before .before .before .args in pair-whole (now (a .s)) (a .at) (omega arith) (c .quad2 .ensures) (c .before .before .size .ensures ∙ c .before .before .before .quad .ensures) (omega arith)
 
 pub enum-pair-spec : {M : Type 1} → statement M
 enum-pair-spec =
     tie.close
     (tie.spec
-    le-u32-requires
-    enum-known-number
-    enum-told
     returns
-    skip-str-requires
-    enum-known-end
-    enum-told-2
+    sub-if2
     returns-2
-    add-t8
-    returns-3)
+    add-quad
+    quad-requires
+    size-requires
+    add-next
+    add-next-2
+    returns-3
+    quad-requires-2
+    add-t7
+    returns-4)

@@ -6,7 +6,7 @@ use Prim.Native.Nat.{_-_}
 use lib.ListN.{length}
 use denote.Ref.{now}
 use Rattle.bsii_block.proofs.Values.{InStep, step-start, step-last, step-bad, step-fault, step-next}
-use Rattle.bsii_field.proofs.Entries.{field-inside}
+use Rattle.bsii_prototype.proofs.Inside.{field-inside}
 use Rattle.bsii_index_field.proofs.Values.{Keeping, keep-start, keep-last, keep-next, values-read, values-bad}
 use borrow.Author.Needs.{needs}
 use Rattle.bsii_index_field.proofs.blocks.block_values.Statement.{statement}

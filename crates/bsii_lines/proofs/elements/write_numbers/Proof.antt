@@ -1,7 +1,8 @@
 -- Only an enum's text depends on the definition's list: any other kind has the text that it has with the empty list, which write_numeric writes.
 use mathlib.Core.Path.{sym, subst}
 use denote.Ref.{now}
-use Rattle.bsii_lines.proofs.ScalarLaws.{other, scalar-numeric}
+use Rattle.bsii_value.proofs.ElementTexts.{other}
+use Rattle.bsii_lines.proofs.ScalarLaws.{scalar-numeric}
 use Rattle.bsii_format.specs.Types.{numbers}
 use Rattle.bsii_value.specs.Kinds.{numericIs}
 use Rattle.bsii_lines.specs.Lines.{ScalarWritten}

@@ -7,7 +7,7 @@ use Prim.Native.Nat.{_%_}
 use Rattle.bsii_format.specs.Strings.{low63}
 use Rattle.bsii_value.specs.Kinds.{kindIs}
 use Rattle.bsii_window.proofs.Laws.{being}
-use Rattle.bsii_write_word.specs.Words.{encodedText}
+use Rattle.bsii_text_length.specs.Words.{encodedText}
 use Rattle.bsii_lines.specs.Lines.{ScalarWritten}
 use Rattle.bsii_lines.specs.declared.elements.Scalar.the-variants.{To}
 use borrow.Author.Needs.{needs}

@@ -21,17 +21,17 @@ returns c = let a = c .before .before .before .before .before .args in array-sho
 enum-known-count : tie.Need-enum-known-count
 enum-known-count c = search needs
 
-write-opening-requires : tie.Need-write-opening-requires
-write-opening-requires c κs = search needs
+sub-count-line : tie.Need-sub-count-line
+sub-count-line c = search needs
 
-cast-write-decimal : tie.Need-cast-write-decimal
-cast-write-decimal c = search needs
+part-count-line-start : tie.Need-part-count-line-start
+part-count-line-start c = search needs
 
-write-decimal-requires : tie.Need-write-decimal-requires
-write-decimal-requires c κs = search needs
+part-count-line-end : tie.Need-part-count-line-end
+part-count-line-end c = search needs
 
-put-requires : tie.Need-put-requires
-put-requires c κs = search needs
+count-line-requires : tie.Need-count-line-requires
+count-line-requires c κs = search needs
 
 write-vector-data-value-requires : tie.Need-write-vector-data-value-requires
 write-vector-data-value-requires c κs = search needs
@@ -41,9 +41,8 @@ same-length c = search needs
 
 returns-2 : tie.Need-returns-2
 returns-2 c =
-    let a = c .before .before .before .before .before .before .before .before .before .before .before .before .before .before .before .before .before .before .before .before .before .before .args in
-    array-lines (now (a .s)) (a .at) (kindIs (a .kind)) (a .d) (sym (c .before .before .before .before .before .before .before .before .before .before .before .before .before .before .before .before .before .before .before .le-u32 .ensures) ∙ ap (numOf (now (a .s))) (c .before .before .before .before .before .before .before .before .before .before .before .before .before .before .before .before .before .count .given .1))
-    (c .before .before .before .before .before .before .before .before .before .before .before .before .before .before .write-opening .ensures) (c .before .before .before .before .before .before .before .before .before .before .write-decimal .ensures) (c .before .before .before .before .before .before .put .ensures) (c .before .before .write-vector-data-value .ensures)
+    let a = c .before .before .before .before .before .before .before .before .before .before .before .before .before .before .before .args in
+    array-lines (now (a .s)) (a .at) (kindIs (a .kind)) (a .d) (sym (c .before .before .before .before .before .before .before .before .before .before .before .before .le-u32 .ensures) ∙ ap (numOf (now (a .s))) (c .before .before .before .before .before .before .before .before .before .before .count .given .1)) (c .before .before .before .before .before .before .count-line .ensures) (c .before .before .write-vector-data-value .ensures)
 
 pub write-array-spec : {M : Type 1} → statement M
 write-array-spec =
@@ -53,10 +52,10 @@ write-array-spec =
     enum-told
     returns
     enum-known-count
-    write-opening-requires
-    cast-write-decimal
-    write-decimal-requires
-    put-requires
+    sub-count-line
+    part-count-line-start
+    part-count-line-end
+    count-line-requires
     write-vector-data-value-requires
     same-length
     returns-2)

@@ -1,22 +1,55 @@
+use mathlib.Core.Path.{sym}
 use denote.Ref.{now}
-use Rattle.bsii_value.specs.Kinds.{kindIs}
-use Rattle.bsii_lines.proofs.LineLaws.{element-line}
+use Rattle.bsii_lines.proofs.LineLaws.{kind-by}
 use borrow.Author.Needs.{needs}
 use Rattle.bsii_lines.proofs.fields.write_element.Statement.{statement}
 use Rattle.bsii_lines.proofs.fields.write_element.Tie as tie
 
-write-index-requires : tie.Need-write-index-requires
-write-index-requires c κs = search needs
+enum-known-kind : tie.Need-enum-known-kind
+enum-known-kind c = search needs
 
-write-rest-requires : tie.Need-write-rest-requires
-write-rest-requires c κs = search needs
+write-number-element-requires : tie.Need-write-number-element-requires
+write-number-element-requires c κs = search needs
 
 same-length : tie.Need-same-length
 same-length c = search needs
 
 returns : tie.Need-returns
-returns c = let a = c .before .before .before .before .before .before .before .before .before .before .args in element-line (now (a .s)) (a .at) (kindIs (a .kind)) (a .d) (a .i) (c .before .before .before .before .before .before .write-index .ensures) (c .before .before .write-rest .ensures)
+returns c = kind-by (sym (c .before .before .before .before .before .kind .given .1)) (c .before .before .write-number-element .ensures)
+
+enum-told : tie.Need-enum-told
+enum-told c = search needs
+
+write-id-element-requires : tie.Need-write-id-element-requires
+write-id-element-requires c κs = search needs
+
+same-length-2 : tie.Need-same-length-2
+same-length-2 c = search needs
+
+returns-2 : tie.Need-returns-2
+returns-2 c = kind-by (sym (c .before .before .before .before .enum-told .given .1)) (c .before .before .write-id-element .ensures)
+
+write-indexed-requires : tie.Need-write-indexed-requires
+write-indexed-requires c κs = search needs
+
+same-length-3 : tie.Need-same-length-3
+same-length-3 c = search needs
+
+returns-3 : tie.Need-returns-3
+returns-3 c = search needs
 
 pub write-element-spec : {M : Type 1} → statement M
 write-element-spec =
-    tie.close (tie.spec write-index-requires write-rest-requires same-length returns)
+    tie.close
+    (tie.spec
+    enum-known-kind
+    write-number-element-requires
+    same-length
+    returns
+    enum-told
+    write-id-element-requires
+    same-length-2
+    returns-2
+    write-indexed-requires
+    same-length-3
+    returns-3)

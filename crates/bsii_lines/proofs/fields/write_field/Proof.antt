@@ -1,15 +1,15 @@
--- The shape of the type says which value valueParser accepts: a single one is the opening with the rest of its line, whatever its kind; an array is
--- write_array's; a type without a shape has no value.
+-- The shape of the type says which value valueParser accepts: a single one has the line of its kind; an array is write_array's; a type without a shape
+-- has no value.
 use mathlib.Core.Path.{sym, ap, _∙_}
+use mathlib.Core.Option.{some}
 use denote.Ref.{now}
+use Rattle.bsii_format.specs.Types.{one}
 use Rattle.bsii_value.specs.Kinds.{kindIs, shapeIs}
+use Rattle.bsii_value.specs.declared.types.Kind.{Kind}
 use Rattle.bsii_lines.proofs.ArrayLaws.{field-unlisted, field-single, field-array}
 use borrow.Author.Needs.{needs}
 use Rattle.bsii_lines.proofs.fields.write_field.Statement.{statement}
 use Rattle.bsii_lines.proofs.fields.write_field.Tie as tie
-use mathlib.Core.Option.{some}
-use Rattle.bsii_format.specs.Types.{one}
-use Rattle.bsii_value.specs.declared.types.Kind.{Kind}
 
 shape-of-requires : tie.Need-shape-of-requires
 shape-of-requires c κs = search needs
@@ -23,64 +23,53 @@ returns c = let a = c .before .before .before .before .before .args in field-unl
 enum-known-shape : tie.Need-enum-known-shape
 enum-known-shape c = search needs
 
-write-opening-requires : tie.Need-write-opening-requires
-write-opening-requires c κs = search needs
-
 enum-known-kind : tie.Need-enum-known-kind
 enum-known-kind c = search needs
 
-write-rest-requires : tie.Need-write-rest-requires
-write-rest-requires c κs = search needs
+write-number-requires : tie.Need-write-number-requires
+write-number-requires c κs = search needs
 
 same-length : tie.Need-same-length
 same-length c = search needs
 
 returns-2 : tie.Need-returns-2
-returns-2 c =
-    let a = c .before .before .before .before .before .before .before .before .before .before .before .before .before .before .before .before .before .args in
-    field-single (now (a .s)) (a .at) (a .type-id) (a .d) (sym (c .before .before .before .before .before .before .before .before .before .before .before .before .before .before .shape-of .ensures) ∙ ap shapeIs (c .before .before .before .before .before .before .before .before .before .before .before .before .shape .given .1) ∙ ap (λ (k : Kind). some (one (kindIs k))) (c .before .before .before .before .before .kind .given .1)) (c .before .before .before .before .before .before .before .before .before .write-opening .ensures) (c .before .before .write-rest .ensures)
+returns-2 c = let a = c .before .before .before .before .before .before .before .before .before .before .before .before .before .args in field-single (now (a .s)) (a .at) (a .type-id) (a .d) (sym (c .before .before .before .before .before .before .before .before .before .before .shape-of .ensures) ∙ ap shapeIs (c .before .before .before .before .before .before .before .before .shape .given .1) ∙ ap (λ (k : Kind). some (one (kindIs k))) (c .before .before .before .before .before .kind .given .1)) (c .before .before .write-number .ensures)
 
 enum-told-2 : tie.Need-enum-told-2
 enum-told-2 c = search needs
 
-write-rest-requires-2 : tie.Need-write-rest-requires-2
-write-rest-requires-2 c κs = search needs
+write-string-value-requires : tie.Need-write-string-value-requires
+write-string-value-requires c κs = search needs
 
 same-length-2 : tie.Need-same-length-2
 same-length-2 c = search needs
 
 returns-3 : tie.Need-returns-3
-returns-3 c =
-    let a = c .before .before .before .before .before .before .before .before .before .before .before .before .before .before .before .before .args in
-    field-single (now (a .s)) (a .at) (a .type-id) (a .d) (sym (c .before .before .before .before .before .before .before .before .before .before .before .before .before .shape-of .ensures) ∙ ap shapeIs (c .before .before .before .before .before .before .before .before .before .before .before .shape .given .1) ∙ ap (λ (k : Kind). some (one (kindIs k))) (c .before .before .before .before .enum-told2 .given .1)) (c .before .before .before .before .before .before .before .before .write-opening .ensures) (c .before .before .write-rest2 .ensures)
+returns-3 c = let a = c .before .before .before .before .before .before .before .before .before .before .before .before .args in field-single (now (a .s)) (a .at) (a .type-id) (a .d) (sym (c .before .before .before .before .before .before .before .before .before .shape-of .ensures) ∙ ap shapeIs (c .before .before .before .before .before .before .before .shape .given .1) ∙ ap (λ (k : Kind). some (one (kindIs k))) (c .before .before .before .before .enum-told2 .given .1)) (c .before .before .write-string-value .ensures)
 
 enum-told-3 : tie.Need-enum-told-3
 enum-told-3 c = search needs
 
-write-rest-requires-3 : tie.Need-write-rest-requires-3
-write-rest-requires-3 c κs = search needs
+write-single-requires : tie.Need-write-single-requires
+write-single-requires c κs = search needs
 
 same-length-3 : tie.Need-same-length-3
 same-length-3 c = search needs
 
 returns-4 : tie.Need-returns-4
-returns-4 c =
-    let a = c .before .before .before .before .before .before .before .before .before .before .before .before .before .before .before .before .args in
-    field-single (now (a .s)) (a .at) (a .type-id) (a .d) (sym (c .before .before .before .before .before .before .before .before .before .before .before .before .before .shape-of .ensures) ∙ ap shapeIs (c .before .before .before .before .before .before .before .before .before .before .before .shape .given .1) ∙ ap (λ (k : Kind). some (one (kindIs k))) (c .before .before .before .before .enum-told3 .given .1)) (c .before .before .before .before .before .before .before .before .write-opening .ensures) (c .before .before .write-rest3 .ensures)
+returns-4 c = let a = c .before .before .before .before .before .before .before .before .before .before .before .before .args in field-single (now (a .s)) (a .at) (a .type-id) (a .d) (sym (c .before .before .before .before .before .before .before .before .before .shape-of .ensures) ∙ ap shapeIs (c .before .before .before .before .before .before .before .shape .given .1) ∙ ap (λ (k : Kind). some (one (kindIs k))) (c .before .before .before .before .enum-told3 .given .1)) (c .before .before .write-single .ensures)
 
 enum-told-4 : tie.Need-enum-told-4
 enum-told-4 c = search needs
 
-write-rest-requires-4 : tie.Need-write-rest-requires-4
-write-rest-requires-4 c κs = search needs
+write-id-value-requires : tie.Need-write-id-value-requires
+write-id-value-requires c κs = search needs
 
 same-length-4 : tie.Need-same-length-4
 same-length-4 c = search needs
 
 returns-5 : tie.Need-returns-5
-returns-5 c =
-    let a = c .before .before .before .before .before .before .before .before .before .before .before .before .before .before .before .before .args in
-    field-single (now (a .s)) (a .at) (a .type-id) (a .d) (sym (c .before .before .before .before .before .before .before .before .before .before .before .before .before .shape-of .ensures) ∙ ap shapeIs (c .before .before .before .before .before .before .before .before .before .before .before .shape .given .1) ∙ ap (λ (k : Kind). some (one (kindIs k))) (c .before .before .before .before .enum-told4 .given .1)) (c .before .before .before .before .before .before .before .before .write-opening .ensures) (c .before .before .write-rest4 .ensures)
+returns-5 c = let a = c .before .before .before .before .before .before .before .before .before .before .before .before .args in field-single (now (a .s)) (a .at) (a .type-id) (a .d) (sym (c .before .before .before .before .before .before .before .before .before .shape-of .ensures) ∙ ap shapeIs (c .before .before .before .before .before .before .before .shape .given .1) ∙ ap (λ (k : Kind). some (one (kindIs k))) (c .before .before .before .before .enum-told4 .given .1)) (c .before .before .write-id-value .ensures)
 
 enum-known-shape-2 : tie.Need-enum-known-shape-2
 enum-known-shape-2 c = search needs
@@ -102,21 +91,20 @@ write-field-spec =
     enum-told
     returns
     enum-known-shape
-    write-opening-requires
     enum-known-kind
-    write-rest-requires
+    write-number-requires
     same-length
     returns-2
     enum-told-2
-    write-rest-requires-2
+    write-string-value-requires
     same-length-2
     returns-3
     enum-told-3
-    write-rest-requires-3
+    write-single-requires
     same-length-3
     returns-4
     enum-told-4
-    write-rest-requires-4
+    write-id-value-requires
     same-length-4
     returns-5
     enum-known-shape-2

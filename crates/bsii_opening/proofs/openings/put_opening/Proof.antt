@@ -1,43 +1,19 @@
--- `count` is the text's length (`opening-length`), so what `overlap_of` answered decides: past the end nothing is stored (`past`), inside all of it is.
--- Across an edge the other function's contract is the answer.
+-- Where overlap_of answers that the text lies inside, the store's answer is the position behind it (`stored-inside`); else three pieces are one write.
 use Prim.Native.Nat.{_+_}
 use native.Mathlib.Omega.{arith}
 use denote.Ref.{now}
 use lib.ListN.{length}
-use Rattle.bsii_window.proofs.Laws.{past, starts, inside-sum}
-use Rattle.bsii_opening.proofs.Stores.{opening-length}
+use Rattle.bsii_window.proofs.Laws.{then, starts}
+use Rattle.bsii_window.proofs.Stores.{stored-inside}
 use borrow.Author.Needs.{needs}
 use Rattle.bsii_opening.proofs.openings.put_opening.Statement.{statement}
 use Rattle.bsii_opening.proofs.openings.put_opening.Tie as tie
 
-add-count : tie.Need-add-count
-add-count c = search needs
+add-overlap-of : tie.Need-add-overlap-of
+add-overlap-of c = search needs
 
 overlap-of-requires : tie.Need-overlap-of-requires
 overlap-of-requires c κs = search needs
-
-enum-told : tie.Need-enum-told
-enum-told c = search needs
-
-further-requires : tie.Need-further-requires
-further-requires c κs = search needs
-
-returns : tie.Need-returns
-returns c =
-    let a = c .before .before .before .before .before .before .args in
-    past (c .before .enum-told .given .1) (c .before .before .before .overlap-of .ensures) (opening-length (now (a .name))) (c .further .ensures) (omega arith)
-
-enum-told-2 : tie.Need-enum-told-2
-enum-told-2 c = search needs
-
-put-opening-across-requires : tie.Need-put-opening-across-requires
-put-opening-across-requires c κs = search needs
-
-same-length : tie.Need-same-length
-same-length c = search needs
-
-returns-2 : tie.Need-returns-2
-returns-2 c = search needs
 
 enum-known-place : tie.Need-enum-known-place
 enum-known-place c = search needs
@@ -46,31 +22,50 @@ store-opening-requires : tie.Need-store-opening-requires
 store-opening-requires c κs = starts (length (now (c .before .before .before .before .before .before .before .args .name)) + 4) (c .before .before .place .given .1) (c .before .before .before .before .overlap-of .ensures) .1
 
 add-result : tie.Need-add-result
-add-result c = omega (arith, starts (length (now (c .before .before .before .before .before .before .before .before .before .before .args .name)) + 4) (c .before .before .before .before .before .place .given .1) (c .before .before .before .before .before .before .before .overlap-of .ensures))
+add-result c = omega (arith, starts (length (now (c .before .before .before .before .before .before .before .before .before .before .args .name)) + 4) (c .before .before .before .before .before .place .given .1) (c .before .before .before .before .before .before .before .overlap-of .ensures), c .before .before .store-opening .ensures .1)
+
+same-length : tie.Need-same-length
+same-length c = search needs
+
+returns : tie.Need-returns
+returns c = stored-inside (length (now (c .before .before .before .before .before .before .before .before .before .before .args .name)) + 4) (c .before .before .before .before .before .place .given .1) (c .before .before .before .before .before .before .before .overlap-of .ensures) (c .before .before .store-opening .ensures .0) (c .before .before .store-opening .ensures .1) (omega arith)
+
+slice-aggregate-put-all : tie.Need-slice-aggregate-put-all
+slice-aggregate-put-all c = search needs
+
+put-all-requires : tie.Need-put-all-requires
+put-all-requires c κs = search needs
+
+put-all-requires-2 : tie.Need-put-all-requires-2
+put-all-requires-2 c κs = search needs
+
+slice-aggregate-put-all-2 : tie.Need-slice-aggregate-put-all-2
+slice-aggregate-put-all-2 c = search needs
+
+put-all-requires-3 : tie.Need-put-all-requires-3
+put-all-requires-3 c κs = search needs
 
 same-length-2 : tie.Need-same-length-2
 same-length-2 c = search needs
 
-returns-3 : tie.Need-returns-3
-returns-3 c =
-    let a = c .before .before .before .before .before .before .before .before .before .before .args in
-    inside-sum (c .before .before .before .before .before .place .given .1) (c .before .before .before .before .before .before .before .overlap-of .ensures) (opening-length (now (a .name))) (c .before .before .store-opening .ensures) (omega arith)
+returns-2 : tie.Need-returns-2
+returns-2 c = then (then (c .before .before .before .before .before .before .before .before .before .before .before .put-all .ensures) (c .before .before .before .before .before .before .before .put-all2 .ensures)) (c .before .before .put-all3 .ensures)
 
 pub put-opening-spec : {M : Type 1} → statement M
 put-opening-spec =
     tie.close
     (tie.spec
-    add-count
+    add-overlap-of
     overlap-of-requires
-    enum-told
-    further-requires
-    returns
-    enum-told-2
-    put-opening-across-requires
-    same-length
-    returns-2
     enum-known-place
     store-opening-requires
     add-result
+    same-length
+    returns
+    slice-aggregate-put-all
+    put-all-requires
+    put-all-requires-2
+    slice-aggregate-put-all-2
+    put-all-requires-3
     same-length-2
-    returns-3)
+    returns-2)

@@ -5,7 +5,7 @@ use lib.ListN.{take}
 use lib.Seq.{length-take-le}
 use Rattle.bsii_format.specs.Digits.{decimal}
 use Rattle.bsii_window.proofs.Laws.{being, stored}
-use Rattle.bsii_window.proofs.Counts.{at-most-twenty}
+use Rattle.bsii_digits.proofs.Counts.{at-most-twenty}
 use borrow.Author.Needs.{needs}
 use Rattle.bsii_window.proofs.digits.put_decimal.Statement.{statement}
 use Rattle.bsii_window.proofs.digits.put_decimal.Tie as tie

@@ -5,7 +5,7 @@ use lib.ListN.{take}
 use lib.Seq.{length-take-le}
 use Rattle.bsii_format.specs.Digits.{hexPadded}
 use Rattle.bsii_window.proofs.Laws.{being, stored}
-use Rattle.bsii_window.proofs.DigitLaws.{padded-length}
+use Rattle.bsii_digits.proofs.DigitLaws.{padded-length}
 use borrow.Author.Needs.{needs}
 use Rattle.bsii_window.proofs.digits.put_hex.Statement.{statement}
 use Rattle.bsii_window.proofs.digits.put_hex.Tie as tie

@@ -7,7 +7,7 @@ use denote.Ref.{now}
 use lib.Seq.{sets}
 use Rattle.bsii_format.specs.Digits.{hexPadded}
 use Rattle.bsii_window.proofs.Laws.{past, starts, inside-sum}
-use Rattle.bsii_window.proofs.DigitLaws.{padded-length}
+use Rattle.bsii_digits.proofs.DigitLaws.{padded-length}
 use borrow.Author.Needs.{needs}
 use Rattle.bsii_window.proofs.digits.write_hex_padded.Statement.{statement}
 use Rattle.bsii_window.proofs.digits.write_hex_padded.Tie as tie

@@ -16,12 +16,12 @@ loop-holds : tie.Need-loop-holds Inv-loop μ-loop
 loop-holds c = refl
 
 returns : tie.Need-returns Inv-loop μ-loop
-returns c = let l = c .before .before .loop in sym (spelled-not (l .rest) (omega arith) (c .if1 .taken)) ∙ l .inv
+returns c = let l = c .before .before .loop in sym (spelled-not (l .rest) (omega arith) (omega (arith, c .if1 .taken))) ∙ l .inv
 
 returns-2 : tie.Need-returns-2 Inv-loop μ-loop
 returns-2 c =
     let l = c .before .before .before .loop in
-    sym (spelled-second (l .rest) (omega arith) (c .before .if1 .left) (c .if2 .taken)) ∙ l .inv
+    sym (spelled-second (l .rest) (omega arith) (λ e. c .before .if1 .left (omega (arith, e))) (omega (arith, c .if2 .taken))) ∙ l .inv
 
 loop-less : tie.Need-loop-less Inv-loop μ-loop
 loop-less c = omega arith
@@ -29,7 +29,7 @@ loop-less c = omega arith
 loop-again : tie.Need-loop-again Inv-loop μ-loop
 loop-again c =
     let l = c .before .before .before .loop in
-    sym (spelled-two (l .rest) (omega arith) (c .before .if1 .left) (c .if2 .left)) ∙ l .inv
+    sym (spelled-two (l .rest) (omega arith) (λ e. c .before .if1 .left (omega (arith, e))) (λ e. absurd (omega (arith, e, c .if2 .left)))) ∙ l .inv
 
 short-spelled-requires : tie.Need-short-spelled-requires Inv-loop μ-loop
 short-spelled-requires c κs = omega arith

@@ -4,7 +4,8 @@ use Prim.Native.Nat.{_≤_, _-_}
 use denote.Ref.{now}
 use lib.ListN.{length}
 use Rattle.bsii_write.specs.Runs.{runEnd}
-use Rattle.bsii_write.proofs.RunLaws.{inside, before, past, run-more, run-stops, run-ends}
+use Rattle.bsii_text_length.proofs.StringLaws.{inside, before, past}
+use Rattle.bsii_write.proofs.RunLaws.{run-more, run-stops, run-ends}
 use borrow.Author.Needs.{needs}
 use native.Mathlib.Omega.{arith}
 use Rattle.bsii_write.proofs.strings.run_end.Statement.{statement}

@@ -4,7 +4,8 @@ use denote.Ref.{now}
 use lib.ListN.{length, drop}
 use Rattle.bsii_format.specs.Text.{escaped}
 use Rattle.bsii_window.proofs.Loops.{Begun, begin, turn, end, kept}
-use Rattle.bsii_write.proofs.RunLaws.{run-after, run-inside, run-then, escaped-none}
+use Rattle.bsii_text_length.proofs.StringLaws.{escaped-none}
+use Rattle.bsii_write.proofs.RunLaws.{run-after, run-inside, run-then}
 use borrow.Author.Needs.{needs}
 use native.Mathlib.Omega.{arith}
 use Rattle.bsii_write.proofs.strings.write_escaped.Statement.{statement}

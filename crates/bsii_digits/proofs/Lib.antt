@@ -1,0 +1,4 @@
+pub mod DigitLaws
+pub mod Tables
+pub mod Fills
+pub mod Counts

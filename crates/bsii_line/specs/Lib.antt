@@ -1,0 +1,2 @@
+-- What is written of one element.
+pub mod Lines

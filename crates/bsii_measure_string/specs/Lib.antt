@@ -1,0 +1,2 @@
+-- What the measuring readers answer.
+pub mod Measured

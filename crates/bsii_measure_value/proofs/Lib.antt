@@ -1,0 +1,4 @@
+pub mod ElementMeasures
+pub mod NumberMeasures
+pub mod ValueMeasures
+pub mod TextSizes

@@ -1,0 +1,2 @@
+-- Rows of elements and whole values, measured.
+pub mod Rows

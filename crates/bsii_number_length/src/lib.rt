@@ -1,0 +1,4 @@
+// How long the text of a value that is numbers is.
+pub mod floats;
+pub mod numbers;
+pub mod numeric;

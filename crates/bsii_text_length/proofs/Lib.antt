@@ -1,0 +1,3 @@
+pub mod StringLaws
+pub mod ClassLaws
+pub mod WordLaws

@@ -1,0 +1,108 @@
+-- A word's digits to base 38, the lowest first, and how many there are.
+use Prim.Native.Nat.{ℕ, zero, suc, _+_, _/_, _%_, _^_, _≤_, _<_}
+use mathlib.Core.Path.{_≡_, refl, sym, ap, _∙_}
+use mathlib.Core.Logic.{⊎-elim}
+use mathlib.Core.Bool.{true}
+use mathlib.Core.Option.{Option, none, some, Option·getD}
+use mathlib.Core.List.{List, [], _∷_}
+use native.Mathlib.Nat.{pow-suc}
+use native.Mathlib.Omega.{arith}
+use lib.ListN.{length, getD}
+use Rattle.bsii_format.specs.Strings.{charEncodings, digitThen, base38From, base38, isSome, spelled, characters}
+use Rattle.bsii_format.specs.Text.{orEmpty, encodedStringText}
+use Rattle.bsii_format.proofs.Lists.{lt-or-le}
+use Rattle.bsii_text_length.specs.Words.{charOf, spellingFrom, spelling, encodedText}
+
+-- more fuel than the rest changes nothing
+fuel : (f g n : ℕ) → n ≤ f → n ≤ g → spellingFrom f n ≡ spellingFrom g n
+unfolding spellingFrom
+fuel zero zero n h k = refl
+fuel zero (suc g) zero h k = refl
+fuel zero (suc g) (suc n) h k = absurd (omega arith)
+fuel (suc f) zero zero h k = refl
+fuel (suc f) zero (suc n) h k = absurd (omega arith)
+fuel (suc f) (suc g) zero h k = refl
+fuel (suc f) (suc g) (suc n) h k = ap (λ (l : List ℕ). charOf (suc n % 38) ∷ l) (fuel f g (suc n / 38) (omega arith) (omega arith))
+
+pub spelling-more : (n : ℕ) → 0 < n → spelling n ≡ charOf (n % 38) ∷ spelling (n / 38)
+unfolding spelling spellingFrom
+spelling-more zero h = absurd (omega arith)
+spelling-more (suc n) h = ap (λ (l : List ℕ). charOf (suc n % 38) ∷ l) (fuel n (suc n / 38) (suc n / 38) (omega arith) (omega arith))
+
+pub spelling-none : (n : ℕ) → n ≤ 0 → spelling n ≡ []
+unfolding spelling spellingFrom
+spelling-none zero h = refl
+spelling-none (suc n) h = absurd (omega arith)
+
+pub spelling-one : (n : ℕ) → 0 < n → n < 38 → spelling n ≡ charOf (n % 38) ∷ []
+spelling-one n h l = spelling-more n h ∙ ap (λ (l : List ℕ). charOf (n % 38) ∷ l) (spelling-none (n / 38) (omega arith))
+
+pub spelling-two : (n : ℕ) → 38 ≤ n → spelling n ≡ charOf (n % 38) ∷ charOf (n / 38 % 38) ∷ spelling (n / 1444)
+spelling-two n h =
+    let z : n / 38 / 38 ≡ n / 1444 = omega arith in
+    spelling-more n (omega arith)
+    ∙ ap (λ (l : List ℕ). charOf (n % 38) ∷ l) (spelling-more (n / 38) (omega arith) ∙ ap (λ (m : ℕ). charOf (n / 38 % 38) ∷ spelling m) z)
+
+-- ---- how many
+
+pub count-none : (n : ℕ) → n < 1 → length (spelling n) ≡ 0
+count-none n h = ap length (spelling-none n (omega arith))
+
+pub count-more : (n : ℕ) → 1 ≤ n → length (spelling n) ≡ suc (length (spelling (n / 38)))
+count-more n h = ap length (spelling-more n h)
+
+pub count-two : (n : ℕ) → 38 ≤ n → length (spelling n) ≡ 2 + length (spelling (n / 1444))
+count-two n h = ap length (spelling-two n h) ∙ omega arith
+
+pub between : (k n : ℕ) → 38 ^ k ≤ n → n < 38 ^ suc k → suc k ≡ length (spelling n)
+between zero n h l = sym (count-more n (omega arith) ∙ ap suc (count-none (n / 38) (omega arith)))
+between (suc k) n h l =
+    sym (count-more n (omega (arith, pow-suc 38 k)) ∙ ap suc (sym (between k (n / 38) (omega (arith, pow-suc 38 k)) (omega (arith, pow-suc 38 (suc k))))))
+
+most : (k n : ℕ) → n < 38 ^ k → length (spelling n) ≤ k
+most zero n h = omega (arith, count-none n (omega arith))
+most (suc k) n h =
+    ⊎-elim
+    (λ l. omega (arith, count-none n l))
+    (λ l. omega (arith, count-more n l, most k (n / 38) (omega (arith, pow-suc 38 k))))
+    (lt-or-le n 1)
+
+pub at-most-thirteen : (n : ℕ) → n < 2 ^ 64 → length (spelling n) ≤ 13
+at-most-thirteen n h = most 13 n (omega arith)
+
+-- ---- accepted words
+
+-- a digit in front of characters that are there
+digit-then : (d : ℕ) (o : Option (List ℕ)) (l : List ℕ)
+    → isSome (digitThen d o) ≡ true → (isSome o ≡ true → Option·getD o [] ≡ l) → Option·getD (digitThen d o) [] ≡ charOf d ∷ l
+unfolding digitThen isSome charOf
+digit-then zero o l h k = absurd (let z : _≡_ {A = ℕ} 0 1 = cc in omega arith)
+digit-then (suc d) none l h k = absurd (let z : _≡_ {A = ℕ} 0 1 = cc in omega arith)
+digit-then (suc d) (some x) l h k = ap (λ (t : List ℕ). getD charEncodings d 0 ∷ t) (k refl)
+
+from : (f n : ℕ) → isSome (base38From f n) ≡ true → Option·getD (base38From f n) [] ≡ spellingFrom f n
+unfolding base38From spellingFrom
+from zero n h = refl
+from (suc f) zero h = refl
+from (suc f) (suc n) h = digit-then (suc n % 38) (base38From f (suc n / 38)) (spellingFrom f (suc n / 38)) h (from f (suc n / 38))
+
+pub characters-spelling : (n : ℕ) → spelled n ≡ true → characters n ≡ spelling n
+unfolding spelled base38 characters spelling
+characters-spelling n h = from n n h
+
+or-empty : (n : ℕ) → orEmpty (spelling n) ≡ encodedText n
+unfolding encodedText orEmpty spelling spellingFrom
+or-empty zero = refl
+or-empty (suc n) = refl
+
+pub encoded-spelling : (n : ℕ) → spelled n ≡ true → encodedStringText n ≡ encodedText n
+unfolding encodedStringText
+encoded-spelling n h = ap orEmpty (characters-spelling n h) ∙ or-empty n
+
+pub encoded-none : (n : ℕ) → n ≡ 0 → encodedText n ≡ encodedText 0
+encoded-none n e = ap encodedText e
+
+pub encoded-word : (n : ℕ) → 0 < n → encodedText n ≡ spelling n
+unfolding encodedText
+encoded-word zero h = absurd (omega arith)
+encoded-word (suc n) h = refl
