@@ -1,10 +1,10 @@
 -- A float and its bits. A float that equals itself is no NaN, and one that does not is.
-use Prim.Native.Nat.{ℕ, _*_}
+use Prim.Native.Nat.{ℕ, _*_, _<_}
 use mathlib.Core.Path.{_≡_, refl, sym, ap, _∙_}
-use mathlib.Core.Bool.{Bool, true, false, not, _&&_, _||_, Bool·beq}
+use mathlib.Core.Bool.{Bool, true, false, not, cond, _&&_, _||_, Bool·beq}
 use lib.Dec.{T, eqb, eqb-refl}
-use lib.Ieee.{Float, nan, inf, fin, binary32, isNan, eq, level, up, down, toBits}
-use lib.Ieee.Bits.{is-true}
+use lib.Ieee.{Float, nan, inf, fin, binary32, isNan, eq, level, up, down, ofBits, toBits}
+use lib.Ieee.Bits.{is-true, toBits-ofBits}
 use Rattle.bsii_float.specs.Bits.{bitsOf}
 use Rattle.bsii_float.proofs.Nan.{differ}
 
@@ -30,3 +30,11 @@ nan-bits nan n e = refl
 nan-bits (inf true) n e = differ (sym e)
 nan-bits (inf false) n e = differ (sym e)
 nan-bits (fin s m d) n e = differ (sym e ∙ level-same s (m * up d * down d))
+
+-- bits that were made a float, and stand beside it, come back
+pub bits-back : (b : ℕ) → b < 0x1_0000_0000 → bitsOf (ofBits binary32 b) b ≡ b
+bits-back b h = go (isNan (ofBits binary32 b)) refl
+  where
+    go : (t : Bool) → isNan (ofBits binary32 b) ≡ t → cond t b (toBits binary32 (ofBits binary32 b)) ≡ b
+    go true e = refl
+    go false e = toBits-ofBits binary32 b h (rw e tt)

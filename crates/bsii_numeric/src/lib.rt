@@ -1,2 +1,3 @@
 // Any value that is numbers, by the bytes that were accepted for it.
+pub mod integers;
 pub mod numeric;

@@ -1,11 +1,16 @@
 // Values that are one or more numbers, by the bytes that were accepted for them.
+use crate::integers::store_int_vec3;
 use bsii_float::floats::bits2_at;
 use bsii_float::floats::bits3_at;
 use bsii_float::floats::bits4_at;
 use bsii_float::floats::bits7_at;
 use bsii_float::floats::placement_bits_at;
+use bsii_float::floats::placement_of;
+use bsii_float::floats::vec2_of;
+use bsii_float::floats::vec3_of;
+use bsii_float::floats::vec4_of;
+use bsii_float::floats::vec7_of;
 use bsii_float_text::store_float;
-use bsii_float_text::store_int_vec3;
 use bsii_float_text::store_placement;
 use bsii_float_text::store_vec2;
 use bsii_float_text::store_vec3;
@@ -37,11 +42,26 @@ pub fn store_numeric(out: &mut [u8], to: usize, raw: &[u8], kind: Numeric) -> us
 {
     match kind {
         Numeric::Float => return store_float(out, to, u32_at(raw, 0)),
-        Numeric::FloatVec2 => return store_vec2(out, to, bits2_at(raw)),
-        Numeric::FloatVec3 => return store_vec3(out, to, bits3_at(raw)),
-        Numeric::FloatVec4 => return store_vec4(out, to, bits4_at(raw)),
-        Numeric::FloatVec7 => return store_vec7(out, to, bits7_at(raw)),
-        Numeric::FloatVec8 => return store_placement(out, to, placement_bits_at(raw)),
+        Numeric::FloatVec2 => {
+            let v = bits2_at(raw);
+            return store_vec2(out, to, vec2_of(v), v);
+        }
+        Numeric::FloatVec3 => {
+            let v = bits3_at(raw);
+            return store_vec3(out, to, vec3_of(v), v);
+        }
+        Numeric::FloatVec4 => {
+            let v = bits4_at(raw);
+            return store_vec4(out, to, vec4_of(v), v);
+        }
+        Numeric::FloatVec7 => {
+            let v = bits7_at(raw);
+            return store_vec7(out, to, vec7_of(v), v);
+        }
+        Numeric::FloatVec8 => {
+            let v = placement_bits_at(raw);
+            return store_placement(out, to, placement_of(v), v);
+        }
         Numeric::Int32 => return store_i32(out, to, u32_at(raw, 0)),
         Numeric::Int32Vec3 => return store_int_vec3(out, to, bits3_at(raw)),
         Numeric::UInt32 => return store_or_nil(out, to, u32_at(raw, 0) as u64, 0xffff_ffff),

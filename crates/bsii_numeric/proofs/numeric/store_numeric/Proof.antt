@@ -2,19 +2,17 @@
 -- the empty list, so nothing is asked of it.
 use mathlib.Core.Path.{refl}
 use Prim.Native.Nat.{ℕ}
-use mathlib.Core.List.{[], _∷_}
 use native.Mathlib.Omega.{arith}
 use Rattle.bsii_format.specs.Numbers.{signed}
 use Rattle.bsii_format.specs.Types.{width, arity}
 use Rattle.bsii_format.specs.Digits.{decimalInt}
-use Rattle.bsii_format.specs.Floats.{floatText, vec2Text, vec3Text, vec4Text, vec7Text, placementText}
+use Rattle.bsii_format.specs.Floats.{floatText, vec3Text}
 use Rattle.bsii_format.specs.Text.{orNil, boolText, int32Text, numericText}
 use Rattle.bsii_string.specs.NumbersAt.{numbersAt}
-use Rattle.bsii_float.specs.declared.floats.Bits2.{Bits2}
 use Rattle.bsii_float.specs.declared.floats.Bits3.{Bits3}
-use Rattle.bsii_float.specs.declared.floats.Bits4.{Bits4}
-use Rattle.bsii_float.specs.declared.floats.Bits7.{Bits7}
-use Rattle.bsii_float.specs.declared.floats.PlacementBits.{PlacementBits}
+use Rattle.bsii_float_text.specs.Floats.{bits2Text, bits3Text, bits4Text, bits7Text, placementBitsText}
+use Rattle.bsii_float_text.proofs.TextLaws.{vec2-back, vec3-back, vec4-back, vec7-back, placement-back}
+use Rattle.bsii_window.proofs.Stores.{stored-being}
 use Rattle.bsii_numeric.proofs.NumericLaws.{accepted, unstored}
 use borrow.Author.Needs.{needs}
 use Rattle.bsii_numeric.proofs.numeric.store_numeric.Statement.{statement}
@@ -28,27 +26,32 @@ returns c =
 returns-2 : tie.Need-returns-2
 unfolding arity width numbersAt numericText
 returns-2 c =
-    accepted (λ (v : Bits2). vec2Text (floatText (v .a)) (floatText (v .b))) (c .before .before .before .before .before .enum-told2 .given .1) (c .before .before .before .bits2-at .ensures) refl (c .before .before .store-vec2 .ensures .0) (omega arith)
+    let back = vec2-back (c .before .before .before .vec2-of .ensures) refl (omega arith) (omega arith) in
+    accepted bits2Text (c .before .before .before .before .before .before .enum-told2 .given .1) (c .before .before .before .before .before .bits2-at .ensures) refl (stored-being back (c .before .before .store-vec2 .ensures .0)) (omega arith)
 
 returns-3 : tie.Need-returns-3
 unfolding arity width numbersAt numericText
 returns-3 c =
-    accepted (λ (v : Bits3). vec3Text (floatText (v .a)) (floatText (v .b)) (floatText (v .c))) (c .before .before .before .before .before .enum-told3 .given .1) (c .before .before .before .bits3-at .ensures) refl (c .before .before .store-vec3 .ensures .0) (omega arith)
+    let back = vec3-back (c .before .before .before .vec3-of .ensures) refl (omega arith) (omega arith) (omega arith) in
+    accepted bits3Text (c .before .before .before .before .before .before .enum-told3 .given .1) (c .before .before .before .before .before .bits3-at .ensures) refl (stored-being back (c .before .before .store-vec3 .ensures .0)) (omega arith)
 
 returns-4 : tie.Need-returns-4
 unfolding arity width numbersAt numericText
 returns-4 c =
-    accepted (λ (v : Bits4). vec4Text (floatText (v .a)) (floatText (v .b)) (floatText (v .c)) (floatText (v .d))) (c .before .before .before .before .before .enum-told4 .given .1) (c .before .before .before .bits4-at .ensures) refl (c .before .before .store-vec4 .ensures .0) (omega arith)
+    let back = vec4-back (c .before .before .before .vec4-of .ensures) refl (omega arith) (omega arith) (omega arith) (omega arith) in
+    accepted bits4Text (c .before .before .before .before .before .before .enum-told4 .given .1) (c .before .before .before .before .before .bits4-at .ensures) refl (stored-being back (c .before .before .store-vec4 .ensures .0)) (omega arith)
 
 returns-5 : tie.Need-returns-5
 unfolding arity width numbersAt numericText
 returns-5 c =
-    accepted (λ (v : Bits7). vec7Text (v .a ∷ v .b ∷ v .c ∷ v .d ∷ v .e ∷ v .f ∷ v .g ∷ [])) (c .before .before .before .before .before .enum-told5 .given .1) (c .before .before .before .bits7-at .ensures) refl (c .before .before .store-vec7 .ensures .0) (omega arith)
+    let back = vec7-back (c .before .before .before .vec7-of .ensures) refl (omega arith) (omega arith) (omega arith) (omega arith) (omega arith) (omega arith) (omega arith) in
+    accepted bits7Text (c .before .before .before .before .before .before .enum-told5 .given .1) (c .before .before .before .before .before .bits7-at .ensures) refl (stored-being back (c .before .before .store-vec7 .ensures .0)) (omega arith)
 
 returns-6 : tie.Need-returns-6
 unfolding arity width numbersAt numericText
 returns-6 c =
-    accepted (λ (v : PlacementBits). placementText (v .a ∷ v .b ∷ v .c ∷ v .d ∷ v .e ∷ v .f ∷ v .g ∷ v .h ∷ [])) (c .before .before .before .before .before .enum-told6 .given .1) (c .before .before .before .placement-bits-at .ensures) refl (c .before .before .store-placement .ensures .0) (omega arith)
+    let back = placement-back (c .before .before .before .placement-of .ensures) refl (omega arith) (omega arith) (omega arith) (omega arith) (omega arith) (omega arith) in
+    accepted placementBitsText (c .before .before .before .before .before .before .enum-told6 .given .1) (c .before .before .before .before .before .placement-bits-at .ensures) refl (stored-being back (c .before .before .store-placement .ensures .0)) (omega arith)
 
 returns-7 : tie.Need-returns-7
 unfolding arity width numbersAt numericText
@@ -100,9 +103,11 @@ store-numeric-spec =
     (λ c. search needs)
     (λ c κs. search needs)
     (λ c κs. search needs)
+    (λ c κs. search needs)
     (λ c. search needs)
     returns-2
     (λ c. search needs)
+    (λ c κs. search needs)
     (λ c κs. search needs)
     (λ c κs. search needs)
     (λ c. search needs)
@@ -110,14 +115,17 @@ store-numeric-spec =
     (λ c. search needs)
     (λ c κs. search needs)
     (λ c κs. search needs)
+    (λ c κs. search needs)
     (λ c. search needs)
     returns-4
     (λ c. search needs)
     (λ c κs. search needs)
     (λ c κs. search needs)
+    (λ c κs. search needs)
     (λ c. search needs)
     returns-5
     (λ c. search needs)
+    (λ c κs. search needs)
     (λ c κs. search needs)
     (λ c κs. search needs)
     (λ c. search needs)

@@ -1,10 +1,10 @@
 -- Texts stored one behind the other are their concatenation, and vec3-parts says that these pieces, put together, are vec3Text.
 use native.Mathlib.Omega.{arith}
 use Rattle.bsii_window.proofs.Stores.{stored-then, stored-being}
 use Rattle.bsii_float_text.proofs.TextLaws.{vec3-parts}
 use borrow.Author.Needs.{needs}
-use Rattle.bsii_float_text.proofs.store_int_vec3.Statement.{statement}
-use Rattle.bsii_float_text.proofs.store_int_vec3.Tie as tie
+use Rattle.bsii_numeric.proofs.integers.store_int_vec3.Statement.{statement}
+use Rattle.bsii_numeric.proofs.integers.store_int_vec3.Tie as tie
 
 returns : tie.Need-returns
 returns c =

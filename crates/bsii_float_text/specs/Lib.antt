@@ -1,0 +1,2 @@
+-- The texts of floats beside their bits.
+pub mod Floats
