@@ -15,7 +15,7 @@ use Rattle.bsii_format.specs.Values.{Value, valueParser}
 use Rattle.bsii_format.specs.Blocks.{DataValue, DataBlock, getPrototype}
 use Rattle.bsii_format.specs.File.{Record, prototype, block, recordBytes, prototypesOf, BsiiFile, lengthLimit, parse}
 use Rattle.bsii_format.specs.Text.{valueText}
-use Rattle.bsii_format.specs.BlockText.{joined, orRefuse, valuesOffset, fieldsText, blockText, recordsText, fileText}
+use Rattle.bsii_format.specs.BlockText.{joined, orRefuse, valuesOffset, fieldsText, blockText, everyBlock, recordsText, fileText}
 use Rattle.bsii_format.specs.Calls.{ofFile, orAbsent, blocksOf, readingOf, readingCall, prototypeOf, prototypeCall, blockAnswer, blockCall, blocksByPrototypeName, namedBlockCall, fieldOf, fieldCall, datum, elementsOf, ofValue, elementCall, textOf, TextAnswer, textAnswer, textCall}
 use Rattle.bsii_format.specs.Refusals.{fileNumbers, readingNumbers, lookupNumbers, elementNumbers, valueNumbers, textNumbers, among, counted, Each, none as nothing, _also_, Within, Gives, GivesExactly}
 use Rattle.bsii_format.specs.Worked.{le, u32, u64, workedFile}
@@ -63,34 +63,36 @@ joined-within (refuses f) b h k = h
 framed-within : (a c : List ℕ) (q : Reply (List ℕ)) → Within textNumbers q → Within textNumbers (joined (joined (gives a) q) (gives c))
 framed-within a c q h = joined-within (joined (gives a) q) (gives c) (joined-within (gives a) q tt h) tt
 
-fields-within : (at : ℕ) (fs : List (Consumed ValuePrototype)) (l : List DataValue) → Within textNumbers (fieldsText valueText at fs l)
-unfolding fieldsText
-fields-within at [] l = tt
-fields-within at (f ∷ fs) [] = tt
-fields-within at (f ∷ fs) (v ∷ l) =
-    joined-within _ _ (or-within textNumbers _ at tt (valueText (f .value) (v .value))) (fields-within (at + length (v .raw)) fs l)
+module _ (text : ValuePrototype → Value → Option (List ℕ)) where
+  fields-within : (at : ℕ) (fs : List (Consumed ValuePrototype)) (l : List DataValue) → Within textNumbers (fieldsText text at fs l)
+  unfolding fieldsText
+  fields-within at [] l = tt
+  fields-within at (f ∷ fs) [] = tt
+  fields-within at (f ∷ fs) (v ∷ l) = joined-within _ _ (or-within textNumbers _ at tt (text (f .value) (v .value))) (fields-within (at + length (v .raw)) fs l)
 
-block-within : (at : ℕ) (o : Option Prototype) (b : DataBlock) → Within textNumbers (blockText valueText at o b)
-unfolding blockText
-block-within at none b = tt
-block-within at (some p) b =
-    cond-within (λ q. q) (eqb (length (p .fields)) (length (b .values))) _ _
-    (framed-within _ _ _ (fields-within (valuesOffset at b) (p .fields) (b .values))) tt
+  block-within : (at : ℕ) (o : Option Prototype) (b : DataBlock) → Within textNumbers (blockText text at o b)
+  unfolding blockText
+  block-within at none b = tt
+  block-within at (some p) b =
+      cond-within (λ q. q) (eqb (length (p .fields)) (length (b .values))) _ _
+      (framed-within _ _ _ (fields-within (valuesOffset at b) (p .fields) (b .values))) tt
 
-records-within : (last : List Prototype) (at : ℕ) (l : List Record) → Within textNumbers (recordsText valueText last at l)
-unfolding recordsText
-records-within last at [] = tt
-records-within last at (prototype p ∷ l) = records-within last (at + length (recordBytes (prototype p))) l
-records-within last at (block b ∷ l) =
-    joined-within _ _ (block-within at (getPrototype (b .prototypeId) last) b) (records-within last (at + length (recordBytes (block b))) l)
+  module _ (prints : DataBlock → List Record → Bool) where
+    records-within : (last : List Prototype) (at : ℕ) (l : List Record) → Within textNumbers (recordsText text prints last at l)
+    unfolding recordsText
+    records-within last at [] = tt
+    records-within last at (prototype p ∷ l) = records-within last (at + length (recordBytes (prototype p))) l
+    records-within last at (block b ∷ l) =
+        joined-within _ _ (cond-within (λ q. q) (prints b l) _ (gives []) (block-within at (getPrototype (b .prototypeId) last) b) tt)
+        (records-within last (at + length (recordBytes (block b))) l)
 
-file-within : (f : BsiiFile) → Within textNumbers (fileText valueText f)
-unfolding fileText
-file-within f = framed-within _ _ _ (records-within (prototypesOf (f .records)) (length (f .header .raw)) (f .records))
+    file-within : (f : BsiiFile) → Within textNumbers (fileText text prints f)
+    unfolding fileText
+    file-within f = framed-within _ _ _ (records-within (prototypesOf (f .records)) (length (f .header .raw)) (f .records))
 
 text-within : (words : ℕ) (s out : List ℕ) → Within textNumbers (textCall words s out .reply)
 unfolding textCall textOf
-text-within words s out = go (ofFile (λ f at. fileText valueText f) (parse words s)) (call-within textNumbers (λ f at. fileText valueText f) tt (λ f at. file-within f) words s)
+text-within words s out = go (ofFile (λ f at. fileText valueText everyBlock f) (parse words s)) (call-within textNumbers (λ f at. fileText valueText everyBlock f) tt (λ f at. file-within valueText everyBlock f) words s)
   where
     go : (q : Reply (List ℕ)) → Within textNumbers q → Within textNumbers (textAnswer out q .reply)
     go (gives t) h = unfold textAnswer in cond-within (λ (a : TextAnswer). a .reply) (leb (length t) (length out)) _ _ tt tt
@@ -205,7 +207,7 @@ unfolding computes shortenedFile unlistedEnumFile
 text-refusals = record {
   only = λ q. text-within (q .0) (q .1) (q .2);
   each =
-      handed (λ words s. (words, s, [])) (λ words s f e. ap (λ q. textAnswer [] (ofFile (λ f at. fileText valueText f) q) .reply) e)
+      handed (λ words s. (words, s, [])) (λ words s f e. ap (λ q. textAnswer [] (ofFile (λ f at. fileText valueText everyBlock f) q) .reply) e)
       (
       given (3, shortenedFile, []) (refused fieldCount 48) refl
       also given (3, unlistedEnumFile, []) (refused enumValue 65) refl

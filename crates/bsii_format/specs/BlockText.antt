@@ -1,6 +1,6 @@
 -- The text of blocks and of the file, with refusals 8 and 9: document 01, "src/bsii_output.rs" and "Order"; FORMAT.md, "The text".
 use Prim.Native.Nat.{ℕ, _+_}
-use mathlib.Core.Bool.{cond}
+use mathlib.Core.Bool.{Bool, true, cond}
 use mathlib.Core.Option.{Option, none, some}
 use mathlib.Core.List.{List, [], _∷_, _++_}
 use lib.ListN.{length}
@@ -40,6 +40,10 @@ fileOpening = ascii "SiiNunit\n{\n"
 unfoldable pub valuesOffset : ℕ → DataBlock → ℕ
 valuesOffset at b = at + length (b .head) + length (b .id .raw)
 
+-- "the blocks in order": all of them
+abbrev pub everyBlock : DataBlock → List Record → Bool
+everyBlock b l = true
+
 -- `text` gives a field's lines, none for an enum value that is not in its list: `valueText` in the text call
 module _ (text : ValuePrototype → Value → Option (List ℕ)) where
   -- The lines of a block's fields under the last definition's, the first value at the offset `at`. 9: "value not in the last
@@ -58,13 +62,15 @@ module _ (text : ValuePrototype → Value → Option (List ℕ)) where
       (joined (joined (gives (blockOpening (p .name) (b .id .value))) (fieldsText (valuesOffset at b) (p .fields) (b .values))) (gives closing))
       (refusal fieldCount at)
 
-  -- the blocks of a list of records, the first record at the offset `at`; 8 and 9 "in text order"
-  unfoldable pub recordsText : List Prototype → ℕ → List Record → Reply (List ℕ)
-  recordsText last at [] = gives []
-  recordsText last at (prototype p ∷ l) = recordsText last (at + length (recordBytes (prototype p))) l
-  recordsText last at (block b ∷ l) =
-      joined (blockText at (getPrototype (b .prototypeId) last) b) (recordsText last (at + length (recordBytes (block b))) l)
+  -- `prints` tells of a block and the records behind it whether the block is in the text: `everyBlock` in the text call
+  module _ (prints : DataBlock → List Record → Bool) where
+    -- the blocks of a list of records, the first record at the offset `at`; 8 and 9 "in text order"
+    unfoldable pub recordsText : List Prototype → ℕ → List Record → Reply (List ℕ)
+    recordsText last at [] = gives []
+    recordsText last at (prototype p ∷ l) = recordsText last (at + length (recordBytes (prototype p))) l
+    recordsText last at (block b ∷ l) =
+        joined (cond (prints b l) (blockText at (getPrototype (b .prototypeId) last) b) (gives [])) (recordsText last (at + length (recordBytes (block b))) l)
 
-  unfoldable pub fileText : BsiiFile → Reply (List ℕ)
-  fileText f =
-      joined (joined (gives fileOpening) (recordsText (prototypesOf (f .records)) (length (f .header .raw)) (f .records))) (gives closing)
+    unfoldable pub fileText : BsiiFile → Reply (List ℕ)
+    fileText f =
+        joined (joined (gives fileOpening) (recordsText (prototypesOf (f .records)) (length (f .header .raw)) (f .records))) (gives closing)

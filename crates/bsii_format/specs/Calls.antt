@@ -19,7 +19,7 @@ use Rattle.bsii_format.specs.Blocks.{DataValue, DataBlock, findBy, getPr
 use Rattle.bsii_format.specs.File.{Record, prototype, block, recordBytes, distinctIds, prototypesOf, BsiiFile, parse}
 use Rattle.bsii_format.specs.Digits.{decimal}
 use Rattle.bsii_format.specs.Text.{valueText}
-use Rattle.bsii_format.specs.BlockText.{orRefuse, valuesOffset, fileText}
+use Rattle.bsii_format.specs.BlockText.{orRefuse, valuesOffset, everyBlock, fileText}
 
 -- ---- what the calls share
 
@@ -262,7 +262,7 @@ elementCall version t s i = ofValue i (valueParser version t 0 s)
 
 -- the text, or the first fault of the file, or 8 or 9
 unfoldable pub textOf : ℕ → List ℕ → Reply (List ℕ)
-textOf words s = ofFile (λ f at. fileText valueText f) (parse words s)
+textOf words s = ofFile (λ f at. fileText valueText everyBlock f) (parse words s)
 
 -- the text's length or a refusal; with 11 the needed length, else 0; the output after the call
 pub record TextAnswer : Type 0 where

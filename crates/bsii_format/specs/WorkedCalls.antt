@@ -1,14 +1,18 @@
 -- What the calls answer for small files, found and refused: FORMAT.md, "A worked file", "A prototype id defined again" and "Calls". A case is a
 -- line, its answer read off documents 01 and 02; proofs/WorkedCalls.antt computes them.
 use Prim.Native.Nat.{ℕ}
-use mathlib.Core.Bool.{true, false}
+use mathlib.Core.Bool.{Bool, true, false}
 use mathlib.Core.List.{List, [], _∷_, _++_}
 use lib.ListN.{length, take, drop, set, replicate}
 use lib.IntN.{pos, negsuc}
 use lib.Ieee.{Float, nan, fin}
 use Rattle.bsii_format.specs.Ascii.{ascii}
 use Rattle.bsii_format.specs.Replies.{Reply, gives, refuses, short, refusal, invalidHeader, notUtf8, zeroDigit, undefinedPrototype, unlistedType, fieldCount, enumValue, tableFull, outputShort, absent, badMark}
-use Rattle.bsii_format.specs.Calls.{Place, Reading, readingCall, PrototypeAnswer, prototypeCall, BlockAnswer, blockCall, namedBlockCall, FieldAnswer, fieldCall, partOf, Datum, dString, dEncodedString, dFloat, dFloatVec2, dFloatVec3, dFloatVec4, dFloatVec7, dFloatVec8, dInt32, dInt32Vec3, dUInt32, dUInt16, dInt64, dUInt64, dBool, dEnum, dId, elementCall, TextAnswer, textCall}
+use Rattle.bsii_format.specs.Blocks.{DataBlock}
+use Rattle.bsii_format.specs.File.{Record, parse}
+use Rattle.bsii_format.specs.Text.{valueText}
+use Rattle.bsii_format.specs.BlockText.{fileText}
+use Rattle.bsii_format.specs.Calls.{ofFile, Place, Reading, readingCall, PrototypeAnswer, prototypeCall, BlockAnswer, blockCall, namedBlockCall, FieldAnswer, fieldCall, partOf, Datum, dString, dEncodedString, dFloat, dFloatVec2, dFloatVec3, dFloatVec4, dFloatVec7, dFloatVec8, dInt32, dInt32Vec3, dUInt32, dUInt16, dInt64, dUInt64, dBool, dEnum, dId, elementCall, TextAnswer, textCall}
 use Rattle.bsii_format.specs.Worked.{le, u32, u64, workedFile, workedText, Fact, _says_}
 
 -- ---- files
@@ -373,3 +377,24 @@ texts =
     textCall 3 (againFile fiveField plainField) [] says unwritten enumValue 56 0 [] ∷
     textCall 3 (againFile plainField fiveField) (replicate 33 1) says written (ascii "SiiNunit\n{\np : null {\n  e: 5\n}\n}\n") [] ∷
     textCall 3 (twiceFile [] []) (replicate 53 1) says written (ascii "SiiNunit\n{\np : null {\n  b: 1\n}\np : null {\n  b: 2\n}\n}\n") [] ∷ []
+
+-- ---- texts of some of a file's blocks: one that is not printed gives neither 8 nor 9
+
+unfoldable pub printedText : (DataBlock → List Record → Bool) → List ℕ → Reply (List ℕ)
+printedText prints s = ofFile (λ f at. fileText valueText prints f) (parse 3 s)
+
+abbrev pub noBlock : DataBlock → List Record → Bool
+noBlock b l = false
+
+-- with nothing behind it
+abbrev pub lastRecord : DataBlock → List Record → Bool
+lastRecord b [] = true
+lastRecord b (x ∷ l) = false
+
+unfoldable pub printed : List (Fact (Reply (List ℕ)))
+printed =
+    printedText noBlock workedFile says gives (ascii "SiiNunit\n{\n}\n") ∷
+    printedText noBlock recountedFile says gives (ascii "SiiNunit\n{\n}\n") ∷
+    printedText noBlock unlistedEnumFile says gives (ascii "SiiNunit\n{\n}\n") ∷
+    printedText lastRecord workedFile says gives workedText ∷
+    printedText lastRecord (twiceFile [] []) says gives (ascii "SiiNunit\n{\np : null {\n  b: 2\n}\n}\n") ∷ []

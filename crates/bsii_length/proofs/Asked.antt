@@ -9,7 +9,7 @@ use Rattle.bsii_format.specs.Replies.{Reply, gives, refuses, refusal, outputSho
 use Rattle.bsii_format.specs.Reader.{Result, ok, fault}
 use Rattle.bsii_format.specs.File.{BsiiFile, parse}
 use Rattle.bsii_format.specs.Text.{valueText}
-use Rattle.bsii_format.specs.BlockText.{joined, closing, fileOpening, fileText}
+use Rattle.bsii_format.specs.BlockText.{joined, closing, fileOpening, everyBlock, fileText}
 use Rattle.bsii_format.specs.Calls.{ofFile, textOf, textAnswer, textCall}
 use Rattle.bsii_format.proofs.Readers.{is-false}
 use Rattle.bsii_length.proofs.Lines.{answered}
@@ -23,7 +23,7 @@ text-long : (words : ℕ) (s : List ℕ) {t : List ℕ} → textOf words s ≡ g
 unfolding textOf fileText fileOpening closing
 text-long words s {t} e = go (parse words s) e
   where
-    go : (q : Result BsiiFile) → ofFile (λ f at. fileText valueText f) q ≡ gives t → 13 ≤ length t
+    go : (q : Result BsiiFile) → ofFile (λ f at. fileText valueText everyBlock f) q ≡ gives t → 13 ≤ length t
     go (ok f at r) e = unfold ofFile in framed-long fileOpening closing _ e
     go (fault x) e = unfold ofFile in let z : _≡_ {A = ℕ} 0 1 = cc in absurd (omega arith)
 

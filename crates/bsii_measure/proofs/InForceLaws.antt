@@ -12,7 +12,7 @@ use Rattle.bsii_format.specs.Values.{Value}
 use Rattle.bsii_format.specs.Prototypes.{ValuePrototype, Prototype}
 use Rattle.bsii_format.specs.Blocks.{getPrototype}
 use Rattle.bsii_format.specs.File.{Record, prototype, block, recordBytes, recordsBytes, define, defineAll, prototypesOf, BsiiFile}
-use Rattle.bsii_format.specs.BlockText.{joined, closing, fileOpening, blockText, recordsText, fileText}
+use Rattle.bsii_format.specs.BlockText.{joined, closing, fileOpening, blockText, everyBlock, recordsText, fileText}
 use Rattle.bsii_format.proofs.Records.{GoodRecords, nil, cons}
 use Rattle.bsii_derived.specs.IndexCalls.{once}
 use Rattle.bsii_derived.proofs.Once.{known-once}
@@ -39,7 +39,7 @@ module _ (text : ValuePrototype → Value → Option (List ℕ)) where
 
   -- a block of records that were read has a definition in force, which is the last one of its id
   pub in-force-last : {version : ℕ} {env : List Prototype} {l : List Record} → GoodRecords version env l → once (defineAll l env) ≡ true → (at : ℕ)
-      → inForceText text env at l ≡ recordsText text (defineAll l env) at l
+      → inForceText text env at l ≡ recordsText text everyBlock (defineAll l env) at l
   unfolding inForceText recordsText defineAll define
   in-force-last nil o at = refl
   in-force-last (cons {env = env} {i = prototype p} {l = l} g k) o at = in-force-last k o (at + length (recordBytes (prototype p)))
@@ -48,6 +48,6 @@ module _ (text : ValuePrototype → Value → Option (List ℕ)) where
 
   -- the file's text, with its frame
   pub framed-last : (f : BsiiFile) {version : ℕ} → GoodRecords version [] (f .records) → once (prototypesOf (f .records)) ≡ true
-      → joined (joined (gives fileOpening) (inForceText text [] (length (f .header .raw)) (f .records))) (gives closing) ≡ fileText text f
+      → joined (joined (gives fileOpening) (inForceText text [] (length (f .header .raw)) (f .records))) (gives closing) ≡ fileText text everyBlock f
   unfolding fileText prototypesOf
   framed-last f g o = ap (λ x. joined (joined (gives fileOpening) x) (gives closing)) (in-force-last g o (length (f .header .raw)))

@@ -6,7 +6,7 @@ use lib.ListN.{length, drop}
 use Rattle.bsii_format.specs.Reader.{ok}
 use Rattle.bsii_format.specs.File.{BsiiFile, lengthLimit, parse}
 use Rattle.bsii_format.specs.Text.{valueText}
-use Rattle.bsii_format.specs.BlockText.{fileText}
+use Rattle.bsii_format.specs.BlockText.{everyBlock, fileText}
 use Rattle.bsii_length.specs.Bounds.{lineBound}
 use Rattle.bsii_parse.specs.Walks.{ReadTree, ReadFile}
 use Rattle.bsii_parse.specs.declared.walk.Walked.{Walked}
@@ -32,7 +32,7 @@ pub record MeasuresTree (s t : List ℕ) (r : Measuring) (t′ : List ℕ) : Typ
 
 -- With as many rows as prototypes no id is defined twice; then it is the length of the file's text, or its 9.
 abbrev pub FileSum : BsiiFile → Measuring → Type 0
-FileSum f (Done a m) = a .rows ≡ a .prototypes → sumIs (m .to) (m .missing) ≡ measureOf (fileText valueText f)
+FileSum f (Done a m) = a .rows ≡ a .prototypes → sumIs (m .to) (m .missing) ≡ measureOf (fileText valueText everyBlock f)
 FileSum f (Fault x) = Unit {0}
 
 pub record MeasuresFile (s t : List ℕ) (r : Measuring) (t′ : List ℕ) : Type 0 where

@@ -12,6 +12,8 @@ use bsii_text::records::write_bsii;
 ghost use mathlib.Core.Path.{_≡_};
 ghost use Prim.Native.Nat.{_-_};
 ghost use lib.ListN.{length};
+ghost use Rattle.bsii_format.specs.Text.{valueText};
+ghost use Rattle.bsii_format.specs.BlockText.{everyBlock};
 ghost use Rattle.bsii_format.specs.Calls.{textCall, tableAfter};
 ghost use Rattle.bsii_walk.specs.Seek.{Readable};
 ghost use Rattle.bsii_output.specs.Answers.{textIs, TextWritten, TextSummed, TextRead};
@@ -32,7 +34,7 @@ fn write_measured(
     length: usize,
 ) -> TextReply
     requires { ⌜ Readable version (now file) 8 (now table) rows ⌝ }
-    ensures { λ r. ⌜ TextWritten version (now (file .entry)) (now (table .entry)) rows (now (output .entry)) «length» r (now (output .exit)) ⌝ }
+    ensures { λ r. ⌜ TextWritten valueText everyBlock version (now (file .entry)) (now (table .entry)) rows (now (output .entry)) «length» r (now (output .exit)) ⌝ }
 {
     if output.len() < length {
         return TextReply::Refused {
@@ -54,7 +56,7 @@ fn write_summed(
     sum: Sum,
 ) -> TextReply
     requires { ⌜ Readable version (now file) 8 (now table) rows ⌝ }
-    ensures { λ r. ⌜ TextSummed version (now (file .entry)) (now (table .entry)) rows (now (output .entry)) sum r (now (output .exit)) ⌝ }
+    ensures { λ r. ⌜ TextSummed valueText everyBlock version (now (file .entry)) (now (table .entry)) rows (now (output .entry)) sum r (now (output .exit)) ⌝ }
 {
     if sum.missing != 0 {
         return TextReply::Refused {
@@ -84,7 +86,7 @@ fn write_again(
     output: &mut [u8],
 ) -> TextReply
     requires { ⌜ Readable version (now file) 8 (now table) rows ⌝ }
-    ensures { λ r. ⌜ TextRead version (now (file .entry)) (now (table .entry)) rows (now (output .entry)) r (now (output .exit)) ⌝ }
+    ensures { λ r. ⌜ TextRead valueText everyBlock version (now (file .entry)) (now (table .entry)) rows (now (output .entry)) r (now (output .exit)) ⌝ }
 {
     let measured = write_bsii(&mut output[..0], file, version, 8, table, rows);
     match measured {

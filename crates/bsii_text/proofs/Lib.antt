@@ -1,4 +1,2 @@
-pub mod FieldLaws
-pub mod BlockLaws
 pub mod RecordLaws
 pub mod WalkLaws

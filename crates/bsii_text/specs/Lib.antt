@@ -1,3 +1,2 @@
--- What is written for blocks and records that were accepted.
-pub mod Blocks
+-- What is written for records that were accepted.
 pub mod Records

@@ -1,3 +1,2 @@
-// The text of a file that was read: blocks, records, and the frame. What was read is not checked again.
-pub mod blocks;
+// The text of a file that was read: its records, and the frame. What was read is not checked again.
 pub mod records;

@@ -1,6 +1,4 @@
 // The blocks of a file, and the frame around them.
-use crate::blocks::Written;
-use crate::blocks::write_data_block;
 use bsii_string::answers::Refusal;
 use bsii_string::numbers::size;
 use bsii_table::FoundRow;
@@ -10,9 +8,13 @@ use bsii_walk::records::RecordKind;
 use bsii_walk::records::kind_at;
 use bsii_walk::records::prototype_again;
 use bsii_window::window::put_all;
+use bsii_write_block::blocks::Written;
+use bsii_write_block::blocks::write_data_block;
 ghost use Prim.Native.Nat.{_≤_};
 ghost use lib.ListN.{length};
 ghost use Rattle.bsii_format.specs.File.{lengthLimit};
+ghost use Rattle.bsii_format.specs.Text.{valueText};
+ghost use Rattle.bsii_format.specs.BlockText.{everyBlock};
 ghost use Rattle.bsii_table.specs.Rows.{Rows};
 ghost use Rattle.bsii_walk.specs.Seek.{Readable};
 ghost use Rattle.bsii_text.specs.Records.{BlockStep, PrototypeStep, RecordWritten, RecordsWritten, BsiiWritten};
@@ -43,7 +45,7 @@ fn write_block(
     id: usize,
 ) -> WriteStep
     requires { ⌜ Rows (now table) rows ⌝ }
-    ensures { λ r. ⌜ BlockStep version (now (s .entry)) offset (now (table .entry)) rows «prototype_id» id (now (out .entry)) to r (now (out .exit)) ⌝ }
+    ensures { λ r. ⌜ BlockStep valueText version (now (s .entry)) offset (now (table .entry)) rows «prototype_id» id (now (out .entry)) to r (now (out .exit)) ⌝ }
 {
     let found = find(table, rows, prototype_id);
     match found {
@@ -89,7 +91,7 @@ fn write_record(
     rows: usize,
 ) -> WriteStep
     requires { ⌜ (length (now s) ≤ lengthLimit) × (at ≤ length (now s)) × Rows (now table) rows ⌝ }
-    ensures { λ r. ⌜ RecordWritten version (now (s .entry)) at (now (table .entry)) rows (now (out .entry)) to r (now (table .exit)) (now (out .exit)) ⌝ }
+    ensures { λ r. ⌜ RecordWritten valueText everyBlock version (now (s .entry)) at (now (table .entry)) rows (now (out .entry)) to r (now (table .exit)) (now (out .exit)) ⌝ }
 {
     let kind = kind_at(s, at);
     match kind {
@@ -120,7 +122,7 @@ fn write_records(
     rows: usize,
 ) -> Texts
     requires { ⌜ Readable version (now s) start (now table) rows ⌝ }
-    ensures { λ r. ⌜ RecordsWritten version (now (s .entry)) start (now (table .entry)) rows (now (out .entry)) to r (now (table .exit)) (now (out .exit)) ⌝ }
+    ensures { λ r. ⌜ RecordsWritten valueText everyBlock version (now (s .entry)) start (now (table .entry)) rows (now (out .entry)) to r (now (table .exit)) (now (out .exit)) ⌝ }
 {
     let mut at = start;
     let mut here = to;
@@ -147,7 +149,7 @@ pub fn write_bsii(
     rows: usize,
 ) -> Texts
     requires { ⌜ Readable version (now s) start (now table) rows ⌝ }
-    ensures { λ r. ⌜ BsiiWritten version (now (s .entry)) start (now (table .entry)) rows (now (out .entry)) r (now (table .exit)) (now (out .exit)) ⌝ }
+    ensures { λ r. ⌜ BsiiWritten valueText everyBlock version (now (s .entry)) start (now (table .entry)) rows (now (out .entry)) r (now (table .exit)) (now (out .exit)) ⌝ }
 {
     let opening = put_all(out, 0x8000_0000_0000_0000, b"SiiNunit\n{\n");
     let blocks = write_records(out, opening, s, version, start, table, rows);

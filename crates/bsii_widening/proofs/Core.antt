@@ -12,7 +12,7 @@ use Rattle.bsii_format.specs.Values.{Value}
 use Rattle.bsii_format.specs.Prototypes.{ValuePrototype, Prototype}
 use Rattle.bsii_format.specs.Blocks.{DataValue}
 use Rattle.bsii_format.specs.File.{BsiiFile, prototypesOf, fileBytes, lengthLimit, parse}
-use Rattle.bsii_format.specs.BlockText.{fileText}
+use Rattle.bsii_format.specs.BlockText.{everyBlock, fileText}
 use Rattle.bsii_format.proofs.ReplyLaws.{of-fault}
 use Rattle.bsii_format.proofs.File.{FileTaken, file-good, parse-ok, parse-short, parse-fits}
 use Rattle.bsii_widening.specs.Marks.{MarkedRecords, newRecords, oldRecords, markRecords}
@@ -50,7 +50,7 @@ module _ {words : ℕ} {s : List ℕ} {f : BsiiFile} {at : ℕ} {r : List ℕ} (
     once-widened = once-all (f .header .value) l (markRecords (f .records)) allowed once
 
     -- for the text of a call that answered
-    pub widened-sound : (text : ValuePrototype → Value → Option (List ℕ)) → HasText text → {t : List ℕ} → fileText text f ≡ gives t → Sound (f .header .value) text (widened f l)
+    pub widened-sound : (text : ValuePrototype → Value → Option (List ℕ)) → HasText text → {t : List ℕ} → fileText text everyBlock f ≡ gives t → Sound (f .header .value) text (widened f l)
     unfolding widened
     widened-sound text has e = sound-all (f .header .value) text has l (markRecords (f .records)) allowed once (text-sound text f (taken .good .records) e)
 

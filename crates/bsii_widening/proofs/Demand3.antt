@@ -9,7 +9,7 @@ use lib.Seq.{take-append-seam}
 use Rattle.bsii_format.specs.Replies.{Fault, Reply, gives, refuses, refusal, absent, unlistedType}
 use Rattle.bsii_format.specs.File.{BsiiFile, fileBytes, lengthLimit, parse}
 use Rattle.bsii_format.specs.Text.{valueText}
-use Rattle.bsii_format.specs.BlockText.{orRefuse, fileText}
+use Rattle.bsii_format.specs.BlockText.{orRefuse, everyBlock, fileText}
 use Rattle.bsii_format.specs.Calls.{ofFile, orAbsent, readingOf, readingCall, fieldOf, fieldCall, textOf, TextAnswer, textAnswer, textCall}
 use Rattle.bsii_format.proofs.ReplyLaws.{gives-inj, refuses≢gives, of-read, text-cases, text-fits}
 use Rattle.bsii_widening.specs.Marks.{MarkedRecords, newRecords, markRecords}
@@ -52,9 +52,9 @@ module _ {words : ℕ} {s out : List ℕ} {f : BsiiFile} {at : ℕ} {r : List �
   old : Old words s f at r
   old = record { reads = o .reads; once = o .once }
 
-  had : Converted out (fileText valueText f) size
+  had : Converted out (fileText valueText everyBlock f) size
   unfolding textCall textOf
-  had = converted out (fileText valueText f) size (ap (λ z. textAnswer out z .reply) (sym (of-read (λ f at. fileText valueText f) (parse words s) (o .reads))) ∙ o .converts)
+  had = converted out (fileText valueText everyBlock f) size (ap (λ z. textAnswer out z .reply) (sym (of-read (λ f at. fileText valueText everyBlock f) (parse words s) (o .reads))) ∙ o .converts)
 
   still-converts : (l : List Insertion) → AllAllowed (f .header .value) l (markRecords (f .records)) → (words′ : ℕ) → Room lengthLimit words′ f r (widened f l)
       → StillConverts words s out f r size words′ (widened f l)
@@ -70,7 +70,7 @@ module _ {words : ℕ} {s out : List ℕ} {f : BsiiFile} {at : ℕ} {r : List �
         found = λ k name a′ e.
             let b = field-survives k name words s f at r old a′ (sym (of-read (λ f at. orAbsent (fieldOf k name f)) (parse words s) (o .reads)) ∙ e) l a tt words′ m in
             (b .0, b .1, b .2 .0, b .2 .1);
-        leftOut = sym (t .2 .1) ∙ sym (had .front) ∙ ap (λ z. take size (textAnswer out z .output)) (sym (of-read (λ f at. fileText valueText f) (parse words s) (o .reads)));
+        leftOut = sym (t .2 .1) ∙ sym (had .front) ∙ ap (λ z. take size (textAnswer out z .output)) (sym (of-read (λ f at. fileText valueText everyBlock f) (parse words s) (o .reads)));
         anchored = widens old l a m .before;
         reading = of-read (λ f at. gives (readingOf f at)) (parse words′ (newFile f r M)) read;
         field = λ k name x e. absent-only (fieldOf k name (newSave f M)) (fieldCall words′ (newFile f r M) k name) (of-read (λ f at. orAbsent (fieldOf k name f)) (parse words′ (newFile f r M)) read) e;
@@ -104,7 +104,7 @@ module _ {words : ℕ} {s out : List ℕ} {f : BsiiFile} {at : ℕ} {r : List �
       refused x e = record {
         reading = stop (λ f at. gives (readingOf f at)) x e;
         field = λ k name. stop (λ f at. orAbsent (fieldOf k name f)) x e;
-        text = λ out. ap (textAnswer out) (stop (λ f at. fileText valueText f) x e);
+        text = λ out. ap (textAnswer out) (stop (λ f at. fileText valueText everyBlock f) x e);
       }
 
       longer : widened f (l ++ (aField n p d v ∷ [])) ≡ M

@@ -13,7 +13,7 @@ use Rattle.bsii_format.specs.Values.{Value}
 use Rattle.bsii_format.specs.Prototypes.{ValuePrototype, Prototype}
 use Rattle.bsii_format.specs.Blocks.{DataValue, DataBlock, findBy, getPrototype}
 use Rattle.bsii_format.specs.File.{BsiiFile, Record, prototype, block, recordBytes, define, defineAll, prototypesOf}
-use Rattle.bsii_format.specs.BlockText.{joined, orRefuse, blockOpening, closing, fileOpening, valuesOffset, fieldsText, blockText, recordsText, fileText}
+use Rattle.bsii_format.specs.BlockText.{joined, orRefuse, blockOpening, closing, fileOpening, valuesOffset, fieldsText, blockText, everyBlock, recordsText, fileText}
 use Rattle.bsii_format.proofs.ReplyLaws.{refuses≢gives, joined-back, cond-back, or-back}
 use Rattle.bsii_format.proofs.Records.{GoodPrototype, GoodValues, GoodRecords, nil, cons}
 use Rattle.bsii_widening.specs.Marks.{Mark, old, unmark, MarkedPrototype, markPrototype, markBlock, markRecord, markRecords}
@@ -101,19 +101,19 @@ module _ (text : ValuePrototype → Value → Option (List ℕ)) where
         says = fields-said (valuesOffset at b) (p .fields) (b .values) (eqb→eq (length (p .fields)) (length (b .values)) (c .0)) (y .3);
       }
 
-  all-said : (last : List Prototype) (at : ℕ) (l : List Record) {t : List ℕ} → recordsText text last at l ≡ gives t → AllSaid last l
+  all-said : (last : List Prototype) (at : ℕ) (l : List Record) {t : List ℕ} → recordsText text everyBlock last at l ≡ gives t → AllSaid last l
   unfolding recordsText
   all-said last at [] e = tt
   all-said last at (prototype p ∷ l) e = all-said last (at + length (recordBytes (prototype p))) l e
   all-said last at (block b ∷ l) e =
-      let x = joined-back (blockText text at (getPrototype (b .prototypeId) last) b) (recordsText text last (at + length (recordBytes (block b))) l) e in
+      let x = joined-back (blockText text at (getPrototype (b .prototypeId) last) b) (recordsText text everyBlock last (at + length (recordBytes (block b))) l) e in
       (block-said at last b (getPrototype (b .prototypeId) last) refl (x .2), all-said last (at + length (recordBytes (block b))) l (x .3))
 
-  pub text-sound : {version : ℕ} (f : BsiiFile) {t : List ℕ} → GoodRecords version [] (f .records) → fileText text f ≡ gives t → Sound version text (markRecords (f .records))
+  pub text-sound : {version : ℕ} (f : BsiiFile) {t : List ℕ} → GoodRecords version [] (f .records) → fileText text everyBlock f ≡ gives t → Sound version text (markRecords (f .records))
   unfolding fileText prototypesOf
   text-sound f g e =
-      let x = joined-back (joined (gives fileOpening) (recordsText text (prototypesOf (f .records)) (length (f .header .raw)) (f .records))) (gives closing) e in
-      let y = joined-back (gives fileOpening) (recordsText text (prototypesOf (f .records)) (length (f .header .raw)) (f .records)) (x .2) in
+      let x = joined-back (joined (gives fileOpening) (recordsText text everyBlock (prototypesOf (f .records)) (length (f .header .raw)) (f .records))) (gives closing) e in
+      let y = joined-back (gives fileOpening) (recordsText text everyBlock (prototypesOf (f .records)) (length (f .header .raw)) (f .records)) (x .2) in
       start (f .records) g (all-said (prototypesOf (f .records)) (length (f .header .raw)) (f .records) (y .3))
 
 -- ---- a save that is read: sound for the silent text, which has nothing but the layout

@@ -7,7 +7,7 @@ use Rattle.bsii_format.specs.Replies.{absent}
 use Rattle.bsii_format.specs.Values.{Value}
 use Rattle.bsii_format.specs.Prototypes.{ValuePrototype}
 use Rattle.bsii_format.specs.File.{parse}
-use Rattle.bsii_format.specs.BlockText.{orRefuse, fileText}
+use Rattle.bsii_format.specs.BlockText.{orRefuse, everyBlock, fileText}
 use Rattle.bsii_format.specs.Calls.{orAbsent, fieldOf}
 use Rattle.bsii_format.proofs.ReplyLaws.{gives-inj, or-back, of-read}
 use Rattle.bsii_widening.specs.Parts.{renumber}
@@ -25,8 +25,8 @@ text-survives text has words s f at r o a e l allowed u words′ m =
     let w = widens o l allowed m in
     let h = widened-sound o l allowed text has e in (
       newText text M,
-      of-read (λ f at. fileText text f) (parse words′ (newFile f r M)) (w .reads) ∙ new-text text f M h,
-      (refl, gives-inj (sym e ∙ ap (λ z. fileText text (record { header = f .header; records = z; end = f .end })) (sym (w .before)) ∙ old-text text f M h)),
+      of-read (λ f at. fileText text everyBlock f) (parse words′ (newFile f r M)) (w .reads) ∙ new-text text f M h,
+      (refl, gives-inj (sym e ∙ ap (λ z. fileText text everyBlock (record { header = f .header; records = z; end = f .end })) (sym (w .before)) ∙ old-text text f M h)),
     )
 
 pub field-survives : FieldSurvives

@@ -12,7 +12,7 @@ use Rattle.bsii_format.specs.Values.{Value}
 use Rattle.bsii_format.specs.Prototypes.{ValuePrototype, Prototype}
 use Rattle.bsii_format.specs.Blocks.{DataValue, DataBlock, getPrototype}
 use Rattle.bsii_format.specs.File.{BsiiFile, prototype, block, recordBytes}
-use Rattle.bsii_format.specs.BlockText.{joined, orRefuse, blockOpening, closing, fileOpening, valuesOffset, fieldsText, blockText, recordsText, fileText}
+use Rattle.bsii_format.specs.BlockText.{joined, orRefuse, blockOpening, closing, fileOpening, valuesOffset, fieldsText, blockText, everyBlock, recordsText, fileText}
 use Rattle.bsii_format.proofs.Readers.{is-true}
 use Rattle.bsii_format.proofs.ReplyLaws.{joined-gives}
 use Rattle.bsii_widening.specs.Marks.{Mark, old, inserted, unmark, mapMark, all, olds, MarkedPrototype, MarkedBlock, MarkedRecords, newPrototype, oldPrototype, newBlock, oldBlock, newRecords, oldRecords}
@@ -95,7 +95,7 @@ module _ (text : ValuePrototype → Value → Option (List ℕ)) where
   -- ---- the records
 
   new-blocks : {version : ℕ} {last env : List (Mark MarkedPrototype)} {M : MarkedRecords} (at : ℕ) → Inv version text last env M
-      → recordsText text (newEnv last) at (newRecords M) ≡ gives (concat (all (recordParts text last M)))
+      → recordsText text everyBlock (newEnv last) at (newRecords M) ≡ gives (concat (all (recordParts text last M)))
   unfolding recordsText newRecords unmark recordParts all concat
   new-blocks at done = refl
   new-blocks at (prototype-old {p = p} g h) = new-blocks (at + length (recordBytes (prototype (newPrototype p)))) h
@@ -116,7 +116,7 @@ module _ (text : ValuePrototype → Value → Option (List ℕ)) where
   old-says {last} {env} {b} g o = subst (λ (m : Mark MarkedPrototype). Says text (all (unmark m .fields)) (all (b .values))) (some-inj (sym (g .found′) ∙ o .found)) (g .says)
 
   old-blocks : {version : ℕ} {last env : List (Mark MarkedPrototype)} {M : MarkedRecords} (at : ℕ) → Inv version text last env M
-      → recordsText text (oldEnv last) at (oldRecords M) ≡ gives (concat (olds (recordParts text last M)))
+      → recordsText text everyBlock (oldEnv last) at (oldRecords M) ≡ gives (concat (olds (recordParts text last M)))
   unfolding recordsText oldRecords recordParts olds concat
   old-blocks at done = refl
   old-blocks at (prototype-old {p = p} g h) = old-blocks (at + length (recordBytes (prototype (oldPrototype p)))) h
@@ -133,11 +133,11 @@ module _ (text : ValuePrototype → Value → Option (List ℕ)) where
   -- ---- the file
 
   pub new-text : {version : ℕ} (f : BsiiFile) (M : MarkedRecords) → Sound version text M
-      → fileText text (record { header = f .header; records = newRecords M; end = f .end }) ≡ gives (concat (all (textParts text M)))
+      → fileText text everyBlock (record { header = f .header; records = newRecords M; end = f .end }) ≡ gives (concat (all (textParts text M)))
   unfolding fileText textParts joined
   new-text f M h = rw (new-last M, new-blocks (length (f .header .raw)) h) (ap gives (sym (framed-all fileOpening (recordParts text (markedPrototypes M []) M))))
 
   pub old-text : {version : ℕ} (f : BsiiFile) (M : MarkedRecords) → Sound version text M
-      → fileText text (record { header = f .header; records = oldRecords M; end = f .end }) ≡ gives (concat (olds (textParts text M)))
+      → fileText text everyBlock (record { header = f .header; records = oldRecords M; end = f .end }) ≡ gives (concat (olds (textParts text M)))
   unfolding fileText textParts joined
   old-text f M h = rw (old-last M, old-blocks (length (f .header .raw)) h) (ap gives (sym (framed-olds fileOpening (recordParts text (markedPrototypes M []) M))))

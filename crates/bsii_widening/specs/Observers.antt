@@ -12,7 +12,7 @@ use Rattle.bsii_format.specs.Values.{Value}
 use Rattle.bsii_format.specs.Prototypes.{ValuePrototype}
 use Rattle.bsii_format.specs.Blocks.{DataValue}
 use Rattle.bsii_format.specs.File.{BsiiFile, lengthLimit, parse}
-use Rattle.bsii_format.specs.BlockText.{fileText}
+use Rattle.bsii_format.specs.BlockText.{everyBlock, fileText}
 use Rattle.bsii_format.specs.Calls.{ofFile, readingOf, orAbsent, fieldOf}
 use Rattle.bsii_widening.specs.Marks.{MarkedRecords, newRecords, markRecords}
 use Rattle.bsii_widening.specs.Insertions.{Insertion, aField, insert, DefinitionAllowed, AllAllowed, NoIdTwice}
@@ -52,7 +52,7 @@ Always f l = Unit {0}
 
 -- the text in any form: the new one is all parts, the old one what is left of them
 abbrev pub TextSurvives : (ValuePrototype → Value → Option (List ℕ)) → Type 0
-TextSurvives text = Survives (λ f at. fileText text f) (λ M f at. fileText text f) Always (λ M a b. (b ≡ newText text M) × (a ≡ leftText text M))
+TextSurvives text = Survives (λ f at. fileText text everyBlock f) (λ M f at. fileText text everyBlock f) Always (λ M a b. (b ≡ newText text M) × (a ≡ leftText text M))
 
 -- the field call, at the block's new number: the same type and bytes
 abbrev pub FieldSurvives : Type 0

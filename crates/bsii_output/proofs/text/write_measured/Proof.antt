@@ -1,6 +1,8 @@
 -- An output shorter than the text x has no room, and into any other one the walk writes all of x from the start on.
 use native.Mathlib.Omega.{arith}
 use denote.Ref.{now}
+use Rattle.bsii_format.specs.Text.{valueText}
+use Rattle.bsii_format.specs.BlockText.{everyBlock}
 use Rattle.bsii_output.proofs.TextLaws.{measured-long, measured-fits}
 use borrow.Author.Needs.{needs}
 use Rattle.bsii_output.proofs.text.write_measured.Statement.{statement}
@@ -10,7 +12,7 @@ refused-requires : tie.Need-refused-requires
 refused-requires c κs = search needs
 
 returns : tie.Need-returns
-returns c = let a = c .before .before .before .before .before .args in measured-long (now (a .file)) (now (a .table)) (a .rows) (now (a .output)) (a .length) (c .refused .ensures) (omega arith)
+returns c = let a = c .before .before .before .before .before .args in measured-long valueText everyBlock (now (a .file)) (now (a .table)) (a .rows) (now (a .output)) (a .length) (c .refused .ensures) (omega arith)
 
 write-bsii-requires : tie.Need-write-bsii-requires
 write-bsii-requires c κs = search needs
@@ -22,7 +24,7 @@ same-length-2 : tie.Need-same-length-2
 same-length-2 c = search needs
 
 returns-2 : tie.Need-returns-2
-returns-2 c = let a = c .before .before .before .before .before .before .before .before .before .before .before .args in measured-fits (now (a .file)) (now (a .table)) (a .rows) (now (a .output)) (a .length) (omega arith) (c .before .before .before .before .write-bsii .ensures)
+returns-2 c = let a = c .before .before .before .before .before .before .before .before .before .before .before .args in measured-fits valueText everyBlock (now (a .file)) (now (a .table)) (a .rows) (now (a .output)) (a .length) (omega arith) (c .before .before .before .before .write-bsii .ensures)
 
 pub write-measured-spec : {M : Type 1} → statement M
 write-measured-spec =

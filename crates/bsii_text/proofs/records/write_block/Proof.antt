@@ -2,6 +2,7 @@
 -- these, and the answer is the same as a step.
 use mathlib.Core.Path.{ap}
 use denote.Ref.{now}
+use Rattle.bsii_format.specs.Text.{valueText}
 use Rattle.bsii_text.proofs.RecordLaws.{block-unknown, block-step, stepOf}
 use borrow.Author.Needs.{needs}
 use Rattle.bsii_text.proofs.records.write_block.Statement.{statement}
@@ -14,7 +15,7 @@ enum-told : tie.Need-enum-told
 enum-told c = search needs
 
 returns : tie.Need-returns
-returns c = let a = c .before .before .before .before .before .before .args in block-unknown (now (a .s)) (a .offset) (now (a .table)) (a .rows) (a .prototype-id) (a .id) (now (a .out)) (a .to) (c .before .before .find .ensures) (c .enum-told .given .1)
+returns c = let a = c .before .before .before .before .before .before .args in block-unknown valueText (now (a .s)) (a .offset) (now (a .table)) (a .rows) (a .prototype-id) (a .id) (now (a .out)) (a .to) (c .before .before .find .ensures) (c .enum-told .given .1)
 
 enum-known-found : tie.Need-enum-known-found
 enum-known-found c = search needs
@@ -43,7 +44,7 @@ returns-2 c =
     let row = under .before .before in
     let sought = row .before .before in
     let a = sought .before .before .before .before .args in
-    block-step (now (a .s)) (a .offset) (now (a .table)) (a .rows) (a .prototype-id) (a .id) (now (a .out)) (a .to) (sought .find .ensures) (row .found .given .1) (under .size .ensures) (named .size2 .ensures) (wrote .write-data-block .ensures) (ap stepOf (told .written .given .1))
+    block-step valueText (now (a .s)) (a .offset) (now (a .table)) (a .rows) (a .prototype-id) (a .id) (now (a .out)) (a .to) (sought .find .ensures) (row .found .given .1) (under .size .ensures) (named .size2 .ensures) (wrote .write-data-block .ensures) (ap stepOf (told .written .given .1))
 
 enum-known-written-2 : tie.Need-enum-known-written-2
 enum-known-written-2 c = search needs
@@ -60,7 +61,7 @@ returns-3 c =
     let row = under .before .before in
     let sought = row .before .before in
     let a = sought .before .before .before .before .args in
-    block-step (now (a .s)) (a .offset) (now (a .table)) (a .rows) (a .prototype-id) (a .id) (now (a .out)) (a .to) (sought .find .ensures) (row .found .given .1) (under .size .ensures) (named .size2 .ensures) (wrote .write-data-block .ensures) (ap stepOf (told .written2 .given .1))
+    block-step valueText (now (a .s)) (a .offset) (now (a .table)) (a .rows) (a .prototype-id) (a .id) (now (a .out)) (a .to) (sought .find .ensures) (row .found .given .1) (under .size .ensures) (named .size2 .ensures) (wrote .write-data-block .ensures) (ap stepOf (told .written2 .given .1))
 
 pub write-block-spec : {M : Type 1} → statement M
 write-block-spec =

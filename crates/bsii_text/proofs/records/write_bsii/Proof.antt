@@ -1,7 +1,8 @@
 -- The file's text is its opening, the text of its records and the closing brace, each written behind the one before, from 2^63 on, where the window
 -- starts; a refusal of the records is one of the whole text.
 use denote.Ref.{now}
-use Rattle.bsii_format.specs.BlockText.{fileOpening, closing}
+use Rattle.bsii_format.specs.Text.{valueText}
+use Rattle.bsii_format.specs.BlockText.{everyBlock, fileOpening, closing}
 use Rattle.bsii_text.proofs.WalkLaws.{file-refused, file-written, records-by}
 use borrow.Author.Needs.{needs}
 use Rattle.bsii_text.proofs.records.write_bsii.Statement.{statement}
@@ -32,7 +33,7 @@ returns c =
     let walked = told .before .before .before .before .before .before in
     let opened = walked .before .before .before .before .before in
     let a = opened .before .before .before .before .before .before .args in
-    file-refused (now (a .s)) (a .start) (now (a .table)) (a .rows) (opened .put-all .ensures) (records-by (told .blocks2 .given .1) (walked .write-records .ensures))
+    file-refused valueText everyBlock (now (a .s)) (a .start) (now (a .table)) (a .rows) (opened .put-all .ensures) (records-by valueText everyBlock (told .blocks2 .given .1) (walked .write-records .ensures))
 
 enum-known-blocks-2 : tie.Need-enum-known-blocks-2
 enum-known-blocks-2 c = search needs
@@ -56,7 +57,7 @@ returns-2 c =
     let walked = told .before .before .before .before .before .before in
     let opened = walked .before .before .before .before .before in
     let a = opened .before .before .before .before .before .before .args in
-    file-written (now (a .s)) (a .start) (now (a .table)) (a .rows) (opened .put-all .ensures) (records-by (told .blocks3 .given .1) (walked .write-records .ensures)) (c .before .before .put-all2 .ensures)
+    file-written valueText everyBlock (now (a .s)) (a .start) (now (a .table)) (a .rows) (opened .put-all .ensures) (records-by valueText everyBlock (told .blocks3 .given .1) (walked .write-records .ensures)) (c .before .before .put-all2 .ensures)
 
 pub write-bsii-spec : {M : Type 1} → statement M
 write-bsii-spec =

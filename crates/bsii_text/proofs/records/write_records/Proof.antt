@@ -1,6 +1,8 @@
 -- The text is that of the records that are passed, with the text of those from here on behind it: so it is at the start, and each record keeps it.
 use native.Mathlib.Omega.{arith}
 use denote.Ref.{now}
+use Rattle.bsii_format.specs.Text.{valueText}
+use Rattle.bsii_format.specs.BlockText.{everyBlock}
 use Rattle.bsii_text.proofs.WalkLaws.{Going, go-start, go-rows, go-end, go-refused, go-later, go-on}
 use borrow.Author.Needs.{needs}
 use Prim.Native.Nat.{_-_}
@@ -9,13 +11,13 @@ use Rattle.bsii_text.proofs.records.write_records.Statement.{statement}
 use Rattle.bsii_text.proofs.records.write_records.Tie as tie
 
 abbrev Inv-loop : tie.InvT-loop
-Inv-loop out₀ to s version start table₀ rows at₀ here₀ out table at here = Going version s start table₀ rows out₀ to at here table out
+Inv-loop out₀ to s version start table₀ rows at₀ here₀ out table at here = Going valueText everyBlock version s start table₀ rows out₀ to at here table out
 
 abbrev μ-loop : tie.MeasureT-loop
 μ-loop out₀ to s version start table₀ rows at₀ here₀ out table at here = length s - at
 
 loop-holds : tie.Need-loop-holds Inv-loop μ-loop
-loop-holds c = let b = c .before .before .before in let a = b .args in go-start (a .version) (now (a .s)) (a .start) (now (a .table)) (a .rows) (now (a .out)) (a .to) (b .pre .inside) (omega arith) (omega arith)
+loop-holds c = let b = c .before .before .before in let a = b .args in go-start valueText everyBlock (a .version) (now (a .s)) (a .start) (now (a .table)) (a .rows) (now (a .out)) (a .to) (b .pre .inside) (omega arith) (omega arith)
 
 write-record-requires : tie.Need-write-record-requires Inv-loop μ-loop
 write-record-requires c κs =
@@ -23,7 +25,7 @@ write-record-requires c κs =
     let b = l .before .before .before .before in
     let a = b .args in
     let x = l .loop in
-    (b .pre .short, omega (arith, x .inv .inside, b .pre .inside), go-rows (a .version) (now (a .s)) (a .start) (now (a .table)) (a .rows) (now (a .out)) (a .to) (x .at) (x .here) (x .table) (x .out) (x .inv) (b .pre))
+    (b .pre .short, omega (arith, x .inv .inside, b .pre .inside), go-rows valueText everyBlock (a .version) (now (a .s)) (a .start) (now (a .table)) (a .rows) (now (a .out)) (a .to) (x .at) (x .here) (x .table) (x .out) (x .inv) (b .pre))
 
 enum-told : tie.Need-enum-told Inv-loop μ-loop
 enum-told c = search needs
@@ -41,7 +43,7 @@ returns c =
     let b = l .before .before .before .before in
     let a = b .args in
     let x = l .loop in
-    go-end (a .version) (now (a .s)) (a .start) (now (a .table)) (a .rows) (now (a .out)) (a .to) (x .at) (x .here) (x .table) (x .out) (x .inv) (walked .write-record .ensures) (c .enum-told .given .1)
+    go-end valueText everyBlock (a .version) (now (a .s)) (a .start) (now (a .table)) (a .rows) (now (a .out)) (a .to) (x .at) (x .here) (x .table) (x .out) (x .inv) (walked .write-record .ensures) (c .enum-told .given .1)
 
 enum-known-step : tie.Need-enum-known-step Inv-loop μ-loop
 enum-known-step c = search needs
@@ -60,7 +62,7 @@ returns-2 c =
     let b = l .before .before .before .before in
     let a = b .args in
     let x = l .loop in
-    go-refused (a .version) (now (a .s)) (a .start) (now (a .table)) (a .rows) (now (a .out)) (a .to) (x .at) (x .here) (x .table) (x .out) (x .inv) (walked .write-record .ensures) (told .step .given .1)
+    go-refused valueText everyBlock (a .version) (now (a .s)) (a .start) (now (a .table)) (a .rows) (now (a .out)) (a .to) (x .at) (x .here) (x .table) (x .out) (x .inv) (walked .write-record .ensures) (told .step .given .1)
 
 enum-known-step-2 : tie.Need-enum-known-step-2 Inv-loop μ-loop
 enum-known-step-2 c = search needs
@@ -73,7 +75,7 @@ loop-less c =
     let b = l .before .before .before .before in
     let a = b .args in
     let x = l .loop in
-    omega (arith, go-later (a .version) (now (a .s)) (a .start) (now (a .table)) (a .rows) (now (a .out)) (a .to) (x .at) (x .here) (x .table) (x .out) (x .inv) (walked .write-record .ensures) _ _ (told .step2 .given .1) (b .pre))
+    omega (arith, go-later valueText everyBlock (a .version) (now (a .s)) (a .start) (now (a .table)) (a .rows) (now (a .out)) (a .to) (x .at) (x .here) (x .table) (x .out) (x .inv) (walked .write-record .ensures) _ _ (told .step2 .given .1) (b .pre))
 
 loop-again : tie.Need-loop-again Inv-loop μ-loop
 loop-again c =
@@ -83,7 +85,7 @@ loop-again c =
     let b = l .before .before .before .before in
     let a = b .args in
     let x = l .loop in
-    go-on (a .version) (now (a .s)) (a .start) (now (a .table)) (a .rows) (now (a .out)) (a .to) (x .at) (x .here) (x .table) (x .out) (x .inv) (walked .write-record .ensures) _ _ (told .step2 .given .1) (b .pre)
+    go-on valueText everyBlock (a .version) (now (a .s)) (a .start) (now (a .table)) (a .rows) (now (a .out)) (a .to) (x .at) (x .here) (x .table) (x .out) (x .inv) (walked .write-record .ensures) _ _ (told .step2 .given .1) (b .pre)
 
 pub write-records-spec : {M : Type 1} → statement M
 write-records-spec =

@@ -1,11 +1,12 @@
 -- The block's text is its opening, the lines of its fields and the closing brace, each written behind the one before; where the fields are refused,
 -- the joined text is refused alike.
 use denote.Ref.{now}
+use Rattle.bsii_format.specs.Text.{valueText}
 use Rattle.bsii_format.specs.BlockText.{closing}
-use Rattle.bsii_text.proofs.BlockLaws.{body-refused, body-written, fields-by}
+use Rattle.bsii_write_block.proofs.BlockLaws.{body-refused, body-written, fields-by}
 use borrow.Author.Needs.{needs}
-use Rattle.bsii_text.proofs.blocks.write_body.Statement.{statement}
-use Rattle.bsii_text.proofs.blocks.write_body.Tie as tie
+use Rattle.bsii_write_block.proofs.blocks.write_body.Statement.{statement}
+use Rattle.bsii_write_block.proofs.blocks.write_body.Tie as tie
 
 sub-write-opening : tie.Need-sub-write-opening
 sub-write-opening c = search needs
@@ -43,7 +44,7 @@ returns c =
     let walked = told .before .before .before .before in
     let opened = walked .before .before .before .before in
     let a = opened .before .before .before .before .before .before .args in
-    body-refused (now (a .s)) (a .id) (a .start) (a .fields) (a .name) (a .last-fields) (opened .write-opening .ensures) (fields-by (told .body .given .1) (walked .write-fields .ensures))
+    body-refused valueText (now (a .s)) (a .id) (a .start) (a .fields) (a .name) (a .last-fields) (opened .write-opening .ensures) (fields-by valueText (told .body .given .1) (walked .write-fields .ensures))
 
 enum-known-body-2 : tie.Need-enum-known-body-2
 enum-known-body-2 c = search needs
@@ -64,7 +65,7 @@ returns-2 c =
     let walked = told .before .before .before .before in
     let opened = walked .before .before .before .before in
     let a = opened .before .before .before .before .before .before .args in
-    body-written (now (a .s)) (a .id) (a .start) (a .fields) (a .name) (a .last-fields) (opened .write-opening .ensures) (fields-by (told .body2 .given .1) (walked .write-fields .ensures)) (c .before .before .put-all .ensures)
+    body-written valueText (now (a .s)) (a .id) (a .start) (a .fields) (a .name) (a .last-fields) (opened .write-opening .ensures) (fields-by valueText (told .body2 .given .1) (walked .write-fields .ensures)) (c .before .before .put-all .ensures)
 
 pub write-body-spec : {M : Type 1} → statement M
 write-body-spec =

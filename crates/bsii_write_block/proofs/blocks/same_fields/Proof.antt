@@ -1,8 +1,8 @@
 use denote.Ref.{now}
-use Rattle.bsii_text.proofs.BlockLaws.{same-one, same-both}
+use Rattle.bsii_write_block.proofs.BlockLaws.{same-one, same-both}
 use borrow.Author.Needs.{needs}
-use Rattle.bsii_text.proofs.blocks.same_fields.Statement.{statement}
-use Rattle.bsii_text.proofs.blocks.same_fields.Tie as tie
+use Rattle.bsii_write_block.proofs.blocks.same_fields.Statement.{statement}
+use Rattle.bsii_write_block.proofs.blocks.same_fields.Tie as tie
 
 returns : tie.Need-returns
 returns c = let a = c .before .before .args in same-one (now (a .s)) (a .in-force) (a .last) (a .fields) (a .last-fields) (c .if1 .taken)

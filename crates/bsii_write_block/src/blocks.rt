@@ -1,11 +1,10 @@
 // Data blocks.
-use bsii_copy::names::store_name;
 use bsii_definition::pairs::Definition;
 use bsii_definition::pairs::Pair;
 use bsii_definition::pairs::pair_at;
 use bsii_definition::pairs::same_count;
-use bsii_lines::fields::Lines;
 use bsii_lines::fields::write_field;
+use bsii_opening::blocks::write_opening;
 use bsii_prototype::answers::NAME;
 use bsii_prototype::skip::fields_at;
 use bsii_skip::skip_element;
@@ -15,15 +14,12 @@ use bsii_string::answers::Parsed;
 use bsii_string::answers::Refusal;
 use bsii_string::answers::refused;
 use bsii_value::types::Kind;
-use bsii_window::window::Overlap;
-use bsii_window::window::overlap_of;
 use bsii_window::window::put_all;
-use bsii_window::window::store_text;
-use bsii_write_word::ids::store_id;
-use bsii_write_word::ids::write_id;
+use bsii_write_value::values::Lines;
 ghost use Prim.Native.Nat.{_+_, _≤_};
 ghost use lib.ListN.{length};
-ghost use Rattle.bsii_text.specs.Blocks.{FieldTurned, FieldsWritten, OpeningWritten, BodyWritten, BlockWritten, SameFields};
+ghost use Rattle.bsii_format.specs.Text.{valueText};
+ghost use Rattle.bsii_write_block.specs.Blocks.{FieldTurned, FieldsWritten, BodyWritten, BlockWritten, SameFields};
 
 // The offset behind what was written, and the position behind its text; or a refusal.
 pub enum Written {
@@ -47,7 +43,7 @@ pub enum FieldTurn {
 
 // The next field.
 fn write_next(out: &mut [u8], s: &[u8], version: u32, p: FieldPlace) -> FieldTurn
-    ensures { λ r. ⌜ FieldTurned version (now (s .entry)) p (now (out .entry)) r (now (out .exit)) ⌝ }
+    ensures { λ r. ⌜ FieldTurned valueText version (now (s .entry)) p (now (out .entry)) r (now (out .exit)) ⌝ }
 {
     let at = p.at;
     let pair = pair_at(s, p.field, p.last_field);
@@ -95,7 +91,7 @@ fn write_fields(
     fields: usize,
     last_fields: usize,
 ) -> Written
-    ensures { λ r. ⌜ FieldsWritten version (now (s .entry)) start fields «last_fields» (now (out .entry)) to r (now (out .exit)) ⌝ }
+    ensures { λ r. ⌜ FieldsWritten valueText version (now (s .entry)) start fields «last_fields» (now (out .entry)) to r (now (out .exit)) ⌝ }
 {
     let mut p = FieldPlace {
         field: fields,
@@ -115,25 +111,6 @@ fn write_fields(
     }
 }
 
-// `NAME : ID {`, of the name's and the id's bytes. Inside the window, with room for the longest that it can be, it is stored.
-fn write_opening(out: &mut [u8], to: usize, name: &[u8], id: &[u8]) -> usize
-    ensures { λ r. ⌜ OpeningWritten (now (name .entry)) (now (id .entry)) (now (out .entry)) to r (now (out .exit)) ⌝ }
-{
-    if id.len() <= 2033 {
-        let place = overlap_of(out.len(), to, name.len() + 2 * id.len() + 35);
-        if let Overlap::Inside(start) = place {
-            let a = store_name(out, start, name);
-            let b = store_text(out, a, b" : ");
-            let c = store_id(out, b, id);
-            return store_text(out, c, b" {\n") + 0x8000_0000_0000_0000;
-        }
-    }
-    let a = put_all(out, to, name);
-    let b = put_all(out, a, b" : ");
-    let c = write_id(out, b, id);
-    put_all(out, c, b" {\n")
-}
-
 // A block whose definitions start at `fields`, with its name from `name` to `last_fields`, where the last ones start, and its id from `id` to `start`.
 fn write_body(
     out: &mut [u8],
@@ -147,7 +124,7 @@ fn write_body(
     last_fields: usize,
 ) -> Written
     requires { ⌜ (id ≤ start) × (start ≤ length (now s)) × (name ≤ «last_fields») × («last_fields» ≤ length (now s)) ⌝ }
-    ensures { λ r. ⌜ BodyWritten version (now (s .entry)) id start fields name «last_fields» (now (out .entry)) to r (now (out .exit)) ⌝ }
+    ensures { λ r. ⌜ BodyWritten valueText version (now (s .entry)) id start fields name «last_fields» (now (out .entry)) to r (now (out .exit)) ⌝ }
 {
     let opening = write_opening(out, to, &s[name..last_fields], &s[id..start]);
     let body = write_fields(out, opening, s, version, start, fields, last_fields);
@@ -183,7 +160,7 @@ pub fn write_data_block(
     in_force: usize,
     last: usize,
 ) -> Written
-    ensures { λ r. ⌜ BlockWritten version (now (s .entry)) offset id «in_force» last (now (out .entry)) to r (now (out .exit)) ⌝ }
+    ensures { λ r. ⌜ BlockWritten valueText version (now (s .entry)) offset id «in_force» last (now (out .entry)) to r (now (out .exit)) ⌝ }
 {
     let list = fields_at(s, in_force);
     let Parsed::Next(fields) = list else {

@@ -3,13 +3,14 @@
 use mathlib.Core.Path.{sym, _∙_}
 use native.Mathlib.Omega.{arith}
 use denote.Ref.{now}
+use Rattle.bsii_format.specs.Text.{valueText}
 use Rattle.bsii_format.specs.Types.{id}
 use Rattle.bsii_field.proofs.Bounds.{element-moves}
 use Rattle.bsii_walk.proofs.Naming.{name-inside}
-use Rattle.bsii_text.proofs.BlockLaws.{no-definition, no-last, no-id, other-count, whole-block}
+use Rattle.bsii_write_block.proofs.BlockLaws.{no-definition, no-last, no-id, other-count, whole-block}
 use borrow.Author.Needs.{needs}
-use Rattle.bsii_text.proofs.blocks.write_data_block.Statement.{statement}
-use Rattle.bsii_text.proofs.blocks.write_data_block.Tie as tie
+use Rattle.bsii_write_block.proofs.blocks.write_data_block.Statement.{statement}
+use Rattle.bsii_write_block.proofs.blocks.write_data_block.Tie as tie
 
 fields-at-requires : tie.Need-fields-at-requires
 fields-at-requires c κs = search needs
@@ -27,7 +28,7 @@ returns : tie.Need-returns
 returns c =
     let told = c .before in
     let a = told .before .before .before .before .before .args in
-    no-definition (a .version) (now (a .s)) (a .offset) (a .id) (a .in-force) (a .last) (now (a .out)) (a .to) (told .before .before .fields-at .ensures) (told .enum-told .given .1) _
+    no-definition valueText (a .version) (now (a .s)) (a .offset) (a .id) (a .in-force) (a .last) (now (a .out)) (a .to) (told .before .before .fields-at .ensures) (told .enum-told .given .1) _
 
 fields-at-requires-2 : tie.Need-fields-at-requires-2
 fields-at-requires-2 c κs = search needs
@@ -45,7 +46,7 @@ returns-2 : tie.Need-returns-2
 returns-2 c =
     let told = c .before in
     let a = told .before .before .before .before .before .before .before .before .before .args in
-    no-last (a .version) (now (a .s)) (a .offset) (a .id) (a .in-force) (a .last) (now (a .out)) (a .to) (told .before .before .fields-at2 .ensures) (told .enum-told2 .given .1) _
+    no-last valueText (a .version) (now (a .s)) (a .offset) (a .id) (a .in-force) (a .last) (now (a .out)) (a .to) (told .before .before .fields-at2 .ensures) (told .enum-told2 .given .1) _
 
 skip-element-requires : tie.Need-skip-element-requires
 skip-element-requires c κs = search needs
@@ -63,7 +64,7 @@ returns-3 : tie.Need-returns-3
 returns-3 c =
     let told = c .before in
     let a = told .before .before .before .before .before .before .before .before .before .before .before .before .before .args in
-    no-id (a .version) (now (a .s)) (a .offset) (a .id) (a .in-force) (a .last) (now (a .out)) (a .to) (told .before .before .skip-element .ensures) (told .enum-told3 .given .1) _
+    no-id valueText (a .version) (now (a .s)) (a .offset) (a .id) (a .in-force) (a .last) (now (a .out)) (a .to) (told .before .before .skip-element .ensures) (told .enum-told3 .given .1) _
 
 same-fields-requires : tie.Need-same-fields-requires
 same-fields-requires c κs = search needs
@@ -77,7 +78,7 @@ returns-4 c =
     let lasts = uneven .before .before .before .before .before .before .before in
     let forces = lasts .before .before .before .before in
     let a = forces .before .before .before .before .before .args in
-    other-count (a .version) (now (a .s)) (a .offset) (a .id) (a .in-force) (a .last) (now (a .out)) (a .to) (forces .before .before .fields-at .ensures) (forces .list .given .1) (lasts .before .before .fields-at2 .ensures) (lasts .last-list .given .1) (uneven .before .same-fields .ensures) (c .refused4 .ensures) (uneven .if1 .taken)
+    other-count valueText (a .version) (now (a .s)) (a .offset) (a .id) (a .in-force) (a .last) (now (a .out)) (a .to) (forces .before .before .fields-at .ensures) (forces .list .given .1) (lasts .before .before .fields-at2 .ensures) (lasts .last-list .given .1) (uneven .before .same-fields .ensures) (c .refused4 .ensures) (uneven .if1 .taken)
 
 add-name : tie.Need-add-name
 add-name c =
@@ -104,7 +105,7 @@ returns-5 c =
     let lasts = ids .before .before .before .before in
     let forces = lasts .before .before .before .before in
     let a = forces .before .before .before .before .before .args in
-    whole-block (a .version) (now (a .s)) (a .offset) (a .id) (a .in-force) (a .last) (now (a .out)) (a .to) (forces .before .before .fields-at .ensures) (forces .list .given .1) (lasts .before .before .fields-at2 .ensures) (lasts .last-list .given .1) (even .before .same-fields .ensures) (even .if1 .left) (ids .before .before .skip-element .ensures) (ids .end .given .1) (c .before .before .write-body .ensures)
+    whole-block valueText (a .version) (now (a .s)) (a .offset) (a .id) (a .in-force) (a .last) (now (a .out)) (a .to) (forces .before .before .fields-at .ensures) (forces .list .given .1) (lasts .before .before .fields-at2 .ensures) (lasts .last-list .given .1) (even .before .same-fields .ensures) (even .if1 .left) (ids .before .before .skip-element .ensures) (ids .end .given .1) (c .before .before .write-body .ensures)
 
 pub write-data-block-spec : {M : Type 1} → statement M
 write-data-block-spec =

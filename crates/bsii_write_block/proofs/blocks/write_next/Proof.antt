@@ -1,10 +1,11 @@
 -- The pair of definitions says which case it is, and the value's lines what is written: one law for each way out.
 use native.Mathlib.Omega.{arith}
 use denote.Ref.{now}
-use Rattle.bsii_text.proofs.FieldLaws.{turn-ends, turn-uneven, turn-absent, turn-on, pair-by, field-by}
+use Rattle.bsii_format.specs.Text.{valueText}
+use Rattle.bsii_write_block.proofs.FieldLaws.{turn-ends, turn-uneven, turn-absent, turn-on, pair-by, field-by}
 use borrow.Author.Needs.{needs}
-use Rattle.bsii_text.proofs.blocks.write_next.Statement.{statement}
-use Rattle.bsii_text.proofs.blocks.write_next.Tie as tie
+use Rattle.bsii_write_block.proofs.blocks.write_next.Statement.{statement}
+use Rattle.bsii_write_block.proofs.blocks.write_next.Tie as tie
 
 pair-at-requires : tie.Need-pair-at-requires
 pair-at-requires c κs = search needs
@@ -16,7 +17,7 @@ returns : tie.Need-returns
 returns c =
     let met = c .before .before in
     let a = met .before .before .before .args in
-    turn-ends (a .version) (now (a .s)) (a .p .field) (a .p .«last_field») (a .p .at) (a .p .to) (now (a .out)) (omega arith) (omega arith) (pair-by (c .enum-told .given .1) (met .pair-at .ensures))
+    turn-ends valueText (a .version) (now (a .s)) (a .p .field) (a .p .«last_field») (a .p .at) (a .p .to) (now (a .out)) (omega arith) (omega arith) (pair-by (c .enum-told .given .1) (met .pair-at .ensures))
 
 enum-told-2 : tie.Need-enum-told-2
 enum-told-2 c = search needs
@@ -25,7 +26,7 @@ returns-2 : tie.Need-returns-2
 returns-2 c =
     let met = c .before .before in
     let a = met .before .before .before .args in
-    turn-uneven (a .version) (now (a .s)) (a .p .field) (a .p .«last_field») (a .p .at) (a .p .to) (now (a .out)) (pair-by (c .enum-told2 .given .1) (met .pair-at .ensures)) _
+    turn-uneven valueText (a .version) (now (a .s)) (a .p .field) (a .p .«last_field») (a .p .at) (a .p .to) (now (a .out)) (pair-by (c .enum-told2 .given .1) (met .pair-at .ensures)) _
 
 enum-known-pair : tie.Need-enum-known-pair
 enum-known-pair c = search needs
@@ -52,8 +53,8 @@ returns-3 c =
     let chosen = wrote .before .before .before in
     let met = chosen .before .before in
     let a = met .before .before .before .args in
-    turn-absent (a .version) (now (a .s)) (a .p .field) (a .p .«last_field») (a .p .at) (a .p .to) (now (a .out)) (pair-by (chosen .pair .given .1) (met .pair-at .ensures)) (c .refused .ensures)
-    (field-by (told .enum-told3 .given .1) (wrote .write-field .ensures))
+    turn-absent valueText (a .version) (now (a .s)) (a .p .field) (a .p .«last_field») (a .p .at) (a .p .to) (now (a .out)) (pair-by (chosen .pair .given .1) (met .pair-at .ensures)) (c .refused .ensures)
+    (field-by valueText (told .enum-told3 .given .1) (wrote .write-field .ensures))
 
 enum-known-lines : tie.Need-enum-known-lines
 enum-known-lines c = search needs
@@ -72,7 +73,7 @@ returns-4 c =
       omega (arith, p .inside),
       omega (arith, p .inside),
       wrote .write-field .ensures .size,
-      turn-on (a .version) (now (a .s)) (a .p .field) (a .p .«last_field») (a .p .at) (a .p .to) (now (a .out)) p (field-by (told .lines .given .1) (wrote .write-field .ensures)),
+      turn-on valueText (a .version) (now (a .s)) (a .p .field) (a .p .«last_field») (a .p .at) (a .p .to) (now (a .out)) p (field-by valueText (told .lines .given .1) (wrote .write-field .ensures)),
     )
 
 pub write-next-spec : {M : Type 1} → statement M

@@ -1,0 +1,2 @@
+-- What is written for blocks that were accepted.
+pub mod Blocks

@@ -1,0 +1,2 @@
+// The text of a block that was read. What was read is not checked again.
+pub mod blocks;
