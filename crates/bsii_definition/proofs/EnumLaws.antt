@@ -36,10 +36,6 @@ use Rattle.bsii_definition.specs.declared.enums.EnumPair.the-variants.{P
 -- ---- one pair
 
 module _ (s : List ℕ) (at : ℕ) where
-  pub no-number : {x : Reason} → number 4 at (drop at s) ≡ fault x → PairAt s at NoPair
-  unfolding enumValueParser
-  no-number e = record { is = λ p n t f. fault≢ok (sym (bind-fault (number 4) _ e) ∙ f); inside = tt }
-
   module _ {k i : ℕ} (e : number 4 at (drop at s) ≡ ok k i (drop i s)) where
     pub no-string : {f : Refusal} → Fault f ≡ endOf (uncheckedStr i (drop i s)) → PairAt s at NoPair
     unfolding enumValueParser _>>=_

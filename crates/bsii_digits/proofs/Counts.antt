@@ -2,7 +2,7 @@
 use Prim.Native.Nat.{ℕ, zero, suc, _+_, _-_, _*_, _/_, _^_, _≤_, _<_}
 use mathlib.Core.Path.{_≡_, refl, sym, ap, ap₂, _∙_}
 use mathlib.Core.Logic.{⊎-elim}
-use mathlib.Core.Bool.{Bool}
+use mathlib.Core.Bool.{Bool, cond}
 use mathlib.Core.List.{List, [], _∷_}
 use native.Mathlib.Omega.{arith}
 use lib.Dec.{leb}
@@ -10,10 +10,13 @@ use lib.Count.{leadingZeros, leading-length}
 use lib.ListN.{length}
 use borrow.Author.Tests.{le-leb, lt-leb, leb-true}
 use Rattle.bsii_format.specs.Digits.{digits, decimal, hexadecimal}
-use Rattle.bsii_digits.specs.Counts.{reach, tens}
+use Rattle.bsii_digits.specs.Counts.{tens}
 use Rattle.bsii_format.proofs.Lists.{lt-or-le}
 use Rattle.bsii_digits.proofs.DigitLaws.{length-one, length-more, some-digit, ten, sixteen, count-one, count-two, count-more}
 use Rattle.bsii_digits.proofs.Tables.{holds, holds-at}
+
+pub reach : ℕ → ℕ → ℕ
+reach bound n = cond (leb bound n) 1 0
 
 pub reached : (b n : ℕ) → b ≤ n → reach b n ≡ 1
 unfolding reach

@@ -2,7 +2,6 @@
 use Prim.Native.Nat.{ℕ, zero, suc, _+_, _-_, _*_, _/_, _%_, _^_, _≤_, _<_}
 use mathlib.Core.Path.{_≡_, refl, sym, ap, _∙_}
 use mathlib.Core.Logic.{⊎-elim}
-use mathlib.Core.Bool.{Bool, true, false}
 use mathlib.Core.List.{List, [], _∷_, _++_, append-assoc}
 use native.Mathlib.Nat.{le-trans, lt-of-lt-of-le}
 use native.Mathlib.Omega.{arith}
@@ -96,31 +95,11 @@ decimal-more = more 10 ten
 
 -- ---- how many
 
-count-fuel : (fuel : ℕ) (small : Bool) (n : ℕ) → length (digitsFrom 10 fuel small n) ≤ fuel
-unfolding digitsFrom
-count-fuel zero small n = omega arith
-count-fuel (suc f) true n = omega arith
-count-fuel (suc f) false n =
-    let h = count-fuel f (ltb (n / 10) 10) (n / 10) in
-    rw (length-append (digitsFrom 10 f (ltb (n / 10) 10) (n / 10)) (digit (n % 10) ∷ [])) (omega (arith, h))
-
-count-all : (n : ℕ) → length (decimal n) ≤ suc n
-unfolding digits
-count-all n = count-fuel (suc n) (ltb n 10) n
-
 pub count-one : (n : ℕ) → n < 10 → length (decimal n) ≡ 1
 count-one = length-one 10 ten
 
 pub count-more : (n : ℕ) → 10 ≤ n → length (decimal n) ≡ suc (length (decimal (n / 10)))
 count-more = length-more 10 ten
-
--- fewer than a number of 64 bits can say
-pub count-most : (n : ℕ) → length (decimal n) ≤ 2 + n / 10
-count-most n =
-    ⊎-elim
-    (λ l. let e = count-one n l in omega (arith, e))
-    (λ l. let e = count-more n l in let h = count-all (n / 10) in omega (arith, e, h))
-    (lt-or-le n 10)
 
 -- two digits by one division
 pub decimal-two : (n : ℕ) → 100 ≤ n → decimal n ≡ decimal (n / 100) ++ (digit (n / 10 % 10) ∷ digit (n % 10) ∷ [])

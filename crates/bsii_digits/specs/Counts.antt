@@ -1,10 +1,5 @@
--- Tests that are added up, and the bounds between numbers of different lengths.
+-- The bounds between numbers of different lengths.
 use Prim.Native.Nat.{ℕ, zero, suc, _*_}
-use mathlib.Core.Bool.{cond}
-use lib.Dec.{leb}
-
-unfoldable pub reach : ℕ → ℕ → ℕ
-reach bound n = cond (leb bound n) 1 0
 
 -- what a number of more than t decimal digits reaches: a power of ten, and 0 for none, since each number has a digit
 unfoldable pub tens : ℕ → ℕ

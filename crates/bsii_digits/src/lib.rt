@@ -5,7 +5,7 @@ ghost use mathlib.Core.List.{[], _∷_};
 ghost use lib.ListN.{length};
 ghost use lib.Seq.{sets};
 ghost use Rattle.bsii_format.specs.Digits.{digit as digitOf, decimal, hexadecimal, hexPadded};
-ghost use Rattle.bsii_digits.specs.Counts.{reach, tens};
+ghost use Rattle.bsii_digits.specs.Counts.{tens};
 
 // A table, which a constant would not be: it would be built for each digit.
 pub fn digit(d: u64) -> u8
@@ -30,13 +30,6 @@ pub fn digit(d: u64) -> u8
         14 => 101,
         _ => 102,
     }
-}
-
-// 1 or 0: such answers, added up, count digits without a branch.
-pub fn reaches(n: u64, bound: u64) -> usize
-    ensures { λ r. ⌜ (r ≡ reach bound n) × (r ≤ 1) ⌝ }
-{
-    if bound <= n { 1 } else { 0 }
 }
 
 fn power(t: u32) -> u64

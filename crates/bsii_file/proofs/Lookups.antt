@@ -73,13 +73,6 @@ bare-found id (p ∷ env) = go (eqb id (p .it .id)) (lastDefinition id env) (bar
     go true q e = refl
     go false q e = e
 
--- in a whole file
-pub file-found : (id : ℕ) (f : BsiiFile) → getPrototype id (prototypesOf (f .records)) ≡ bareOf (lastDefinition id (prototypesIn (placedRecords f) []))
-unfolding prototypesOf placedRecords
-file-found id f =
-    ap (getPrototype id) (sym (bare-all (λ r. length (recordBytes r)) (length (f .header .raw)) (f .records) []))
-    ∙ bare-found id (prototypesIn (placedRecords f) [])
-
 -- the table holds a file's definitions: what a second walk over the file starts from
 pub holds-last : {s t : List ℕ} {a : Totals} {t′ : List ℕ} (w : WasRead s t a t′) → Holds (DefinedAt s) t′ (a .rows) (prototypesOf (w .file .records))
 unfolding prototypesOf placedRecords

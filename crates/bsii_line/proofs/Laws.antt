@@ -1,16 +1,15 @@
 -- A line from its parts, for each kind.
-use mathlib.Core.Path.{_≡_, refl, sym, ap, _∙_, subst}
-use Prim.Native.Nat.{ℕ, _+_, _-_, _≤_, _<_}
-use native.Mathlib.Omega.{arith}
+use mathlib.Core.Path.{_≡_, ap, _∙_, subst}
+use Prim.Native.Nat.{ℕ, _+_, _≤_, _<_}
 use mathlib.Core.Option.{some}
 use mathlib.Core.List.{List, [], _∷_, _++_, append-assoc}
-use lib.ListN.{length, take, drop}
+use lib.ListN.{length}
 use Rattle.bsii_format.specs.Ascii.{ascii}
 use Rattle.bsii_format.specs.Reader.{ok, WellFormed}
-use Rattle.bsii_format.specs.Strings.{strParser, Id, idParser}
-use Rattle.bsii_format.specs.Types.{Numeric, numbers, string, id}
-use Rattle.bsii_format.specs.Values.{Element, str, ident, elementParser}
-use Rattle.bsii_format.specs.Text.{stringText, elementText, idText, fieldLine}
+use Rattle.bsii_format.specs.Strings.{Id, idParser}
+use Rattle.bsii_format.specs.Types.{Numeric, numbers, id}
+use Rattle.bsii_format.specs.Values.{Element, ident, elementParser}
+use Rattle.bsii_format.specs.Text.{elementText, idText, fieldLine}
 use Rattle.bsii_format.proofs.Readers.{map-ok}
 use Rattle.bsii_window.specs.Window.{Wrote}
 use Rattle.bsii_line.specs.Lines.{LineWritten}
@@ -18,8 +17,7 @@ use Rattle.bsii_window.specs.Stored.{Stored}
 use Rattle.bsii_window.specs.Overlaps.{OverlapOf}
 use Rattle.bsii_window.specs.declared.window.Overlap.{Overlap}
 use Rattle.bsii_window.specs.declared.window.Overlap.the-variants as place
-use Rattle.bsii_prototype.proofs.Names.{checked, named}
-use Rattle.bsii_window.proofs.Laws.{then, being, rest}
+use Rattle.bsii_window.proofs.Laws.{then, being}
 use Rattle.bsii_window.proofs.Stores.{stored-then, stored-inside}
 
 pub opening : (label v : List ℕ) → (ascii "  " ++ label ++ ascii ": ") ++ (v ++ ascii "\n") ≡ fieldLine label v
@@ -39,16 +37,6 @@ line-pieces label x f g k = being (opening label x) (then f (then g k))
 
 -- ---- the text of an accepted element, by its own bytes
 
-pub string-is : (raw : List ℕ) {e : Element} → WellFormed (elementParser string) e raw → (4 ≤ length raw) × (e ≡ str (drop 4 raw))
-unfolding elementParser
-string-is raw f =
-    let p = map-ok str strParser 0 raw f in
-    let w = named checked raw 0 (p .2) in
-    (omega (arith, w .end), sym (p .1) ∙ ap str (w .place ∙ rest 4 raw))
-
-pub string-cut : {label raw old : List ℕ} {to r : ℕ} → length raw < 4 → LineWritten label raw string old to r old
-string-cut {raw = raw} l = record { writes = λ e h x g. absurd (omega (arith, string-is raw h .0)); size = refl }
-
 module _ {label raw old new : List ℕ} {to r : ℕ} where
   pub line-numbers : {k : Numeric} → ((e : Element) (n : ℕ) (t : List ℕ) → elementParser (numbers k) 0 raw ≡ ok e n t → (x : List ℕ) → elementText [] e ≡ some x → Wrote old to (fieldLine label x) r new)
       → length new ≡ length old → LineWritten label raw (numbers k) old to r new
@@ -61,14 +49,5 @@ module _ {label raw old new : List ℕ} {to r : ℕ} where
         let p = map-ok ident idParser 0 raw h in
         let z : some (idText (p .0)) ≡ some x = ap (elementText []) (p .1) ∙ g in
         subst (λ (x : List ℕ). Wrote old to (fieldLine label x) r new) (let i : idText (p .0) ≡ x = cc in i) (f (p .0) (p .2));
-    size = l;
-  }
-
-  pub line-string : Wrote old to (fieldLine label (stringText (take (length raw - 4) (drop 4 raw)))) r new → length new ≡ length old → LineWritten label raw string old to r new
-  unfolding elementText
-  line-string w l = record {
-    writes = λ e h x g.
-        let z : some (stringText (drop 4 raw)) ≡ some x = ap (elementText []) (sym (string-is raw h .1)) ∙ g in
-        subst (λ (x : List ℕ). Wrote old to (fieldLine label x) r new) (ap stringText (rest 4 raw) ∙ let i : stringText (drop 4 raw) ≡ x = cc in i) w;
     size = l;
   }

@@ -1,2 +1,2 @@
-// A line of a value that is numbers, a word or an id, by the bytes that were accepted for it.
+// A line of a value: of numbers or an id by the bytes that were accepted for them, of a word, of a string.
 pub mod lines;

@@ -1,9 +1,7 @@
-// Lines. Each asks once where it lies: inside the window, with room for the longest that it can be, it is stored; else its pieces ask.
+// Lines. Each but a string's asks once where it lies: inside the window, with room for the longest that it can be, it is stored; else its pieces ask.
 use bsii_numeric::numeric::store_numeric;
 use bsii_numeric::numeric::write_numeric;
-use bsii_opening::openings::put_index;
 use bsii_opening::openings::put_opening;
-use bsii_opening::openings::store_index;
 use bsii_opening::openings::store_opening;
 use bsii_value::types::Numeric;
 use bsii_window::digits::store_decimal;
@@ -15,12 +13,17 @@ use bsii_window::window::store_byte;
 use bsii_write::strings::write_string;
 use bsii_write_word::ids::store_id;
 use bsii_write_word::ids::write_id;
+use bsii_write_word::words::store_encoded;
+use bsii_write_word::words::write_encoded_string;
 ghost use Rattle.bsii_format.specs.Digits.{decimal};
-ghost use Rattle.bsii_format.specs.Types.{numbers, string, id};
-ghost use Rattle.bsii_format.specs.Text.{fieldLine, indexed};
+ghost use Rattle.bsii_format.specs.Types.{numbers, id};
+ghost use Rattle.bsii_format.specs.Text.{stringText, fieldLine};
 ghost use Rattle.bsii_value.specs.Kinds.{numericIs};
+ghost use Rattle.bsii_text_length.specs.Words.{encodedText};
 ghost use Rattle.bsii_window.specs.Window.{Wrote};
 ghost use Rattle.bsii_line.specs.Lines.{LineWritten};
+
+pub const LINE_END: u8 = b'\n';
 
 // How many elements an array has.
 pub fn count_line(out: &mut [u8], to: usize, name: &[u8], n: u32) -> usize
@@ -30,11 +33,11 @@ pub fn count_line(out: &mut [u8], to: usize, name: &[u8], n: u32) -> usize
     if let Overlap::Inside(start) = place {
         let next = store_opening(out, start, name);
         let end = store_decimal(out, next, n as u64);
-        return store_byte(out, end, b'\n') + 0x8000_0000_0000_0000;
+        return store_byte(out, end, LINE_END) + 0x8000_0000_0000_0000;
     }
     let next = put_opening(out, to, name);
     let end = write_decimal(out, next, n as u64);
-    put(out, end, b'\n')
+    put(out, end, LINE_END)
 }
 
 pub fn number_line(out: &mut [u8], to: usize, name: &[u8], raw: &[u8], kind: Numeric) -> usize
@@ -44,33 +47,11 @@ pub fn number_line(out: &mut [u8], to: usize, name: &[u8], raw: &[u8], kind: Num
     if let Overlap::Inside(start) = place {
         let next = store_opening(out, start, name);
         let end = store_numeric(out, next, raw, kind);
-        return store_byte(out, end, b'\n') + 0x8000_0000_0000_0000;
+        return store_byte(out, end, LINE_END) + 0x8000_0000_0000_0000;
     }
     let next = put_opening(out, to, name);
     let end = write_numeric(out, next, raw, kind);
-    put(out, end, b'\n')
-}
-
-// The element i of an array.
-pub fn number_element(
-    out: &mut [u8],
-    to: usize,
-    name: &[u8],
-    i: u32,
-    raw: &[u8],
-    kind: Numeric,
-) -> usize
-    ensures { λ r. ⌜ LineWritten (indexed (now (name .entry)) i) (now (raw .entry)) (numbers (numericIs kind)) (now (out .entry)) to r (now (out .exit)) ⌝ }
-{
-    let place = overlap_of(out.len(), to, name.len() + 228);
-    if let Overlap::Inside(start) = place {
-        let next = store_index(out, start, name, i);
-        let end = store_numeric(out, next, raw, kind);
-        return store_byte(out, end, b'\n') + 0x8000_0000_0000_0000;
-    }
-    let next = put_index(out, to, name, i);
-    let end = write_numeric(out, next, raw, kind);
-    put(out, end, b'\n')
+    put(out, end, LINE_END)
 }
 
 // No accepted id has more than 2,033 bytes.
@@ -82,39 +63,33 @@ pub fn id_line(out: &mut [u8], to: usize, name: &[u8], raw: &[u8]) -> usize
         if let Overlap::Inside(start) = place {
             let next = store_opening(out, start, name);
             let end = store_id(out, next, raw);
-            return store_byte(out, end, b'\n') + 0x8000_0000_0000_0000;
+            return store_byte(out, end, LINE_END) + 0x8000_0000_0000_0000;
         }
     }
     let next = put_opening(out, to, name);
     let end = write_id(out, next, raw);
-    put(out, end, b'\n')
+    put(out, end, LINE_END)
 }
 
-// The element i of an array.
-pub fn id_element(out: &mut [u8], to: usize, name: &[u8], i: u32, raw: &[u8]) -> usize
-    ensures { λ r. ⌜ LineWritten (indexed (now (name .entry)) i) (now (raw .entry)) id (now (out .entry)) to r (now (out .exit)) ⌝ }
+pub fn word_line(out: &mut [u8], to: usize, name: &[u8], word: u64) -> usize
+    ensures { λ r. ⌜ Wrote (now (out .entry)) to (fieldLine (now (name .entry)) (encodedText word)) r (now (out .exit)) ⌝ }
 {
-    if raw.len() <= 2033 {
-        let place = overlap_of(out.len(), to, name.len() + 2 * raw.len() + 56);
-        if let Overlap::Inside(start) = place {
-            let next = store_index(out, start, name, i);
-            let end = store_id(out, next, raw);
-            return store_byte(out, end, b'\n') + 0x8000_0000_0000_0000;
-        }
-    }
-    let next = put_index(out, to, name, i);
-    let end = write_id(out, next, raw);
-    put(out, end, b'\n')
-}
-
-// A string's bytes stand behind their u32 length. How long its text is, only looking through it tells: its pieces ask where they lie.
-pub fn string_line(out: &mut [u8], to: usize, name: &[u8], raw: &[u8]) -> usize
-    ensures { λ r. ⌜ LineWritten (now (name .entry)) (now (raw .entry)) string (now (out .entry)) to r (now (out .exit)) ⌝ }
-{
-    if raw.len() < 4 {
-        return to;
+    let place = overlap_of(out.len(), to, name.len() + 18);
+    if let Overlap::Inside(start) = place {
+        let next = store_opening(out, start, name);
+        let end = store_encoded(out, next, word);
+        return store_byte(out, end, LINE_END) + 0x8000_0000_0000_0000;
     }
     let next = put_opening(out, to, name);
-    let end = write_string(out, next, &raw[4..]);
-    put(out, end, b'\n')
+    let end = write_encoded_string(out, next, word);
+    put(out, end, LINE_END)
+}
+
+// A string, or the string of an enum value. How long its text is, only looking through it tells: so its pieces ask.
+pub fn text_line(out: &mut [u8], to: usize, name: &[u8], text: &[u8]) -> usize
+    ensures { λ r. ⌜ Wrote (now (out .entry)) to (fieldLine (now (name .entry)) (stringText (now (text .entry)))) r (now (out .exit)) ⌝ }
+{
+    let next = put_opening(out, to, name);
+    let end = write_string(out, next, text);
+    put(out, end, LINE_END)
 }

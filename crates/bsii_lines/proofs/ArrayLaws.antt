@@ -3,9 +3,8 @@ use mathlib.Core.Path.{_≡_, refl, sym, ap, ap₂, _∙_, subst}
 use Prim.Native.Nat.{ℕ, suc, _+_, _-_, _≤_, _<_}
 use native.Mathlib.Omega.{arith}
 use mathlib.Core.Option.{Option, none, some, Option·map}
-use mathlib.Core.List.{List, [], _∷_, _++_, append-assoc, append-nil}
+use mathlib.Core.List.{List, [], _++_, append-assoc, append-nil}
 use lib.ListN.{length, drop}
-use Rattle.bsii_format.specs.Ascii.{ascii}
 use Rattle.bsii_format.specs.Replies.{Fault}
 use Rattle.bsii_format.specs.Reader.{ok, fault, Consumed, consumed, repeat, success, fail, _>>=_}
 use Rattle.bsii_format.specs.Numbers.{number}
@@ -24,9 +23,10 @@ use Rattle.bsii_definition.specs.declared.pairs.Definition.{Definition}
 use Rattle.bsii_window.specs.Window.{Wrote}
 use Rattle.bsii_window.proofs.Laws.{then, being, same}
 use Rattle.bsii_window.proofs.Loops.{begin, end}
-use Rattle.bsii_lines.specs.Lines.{nameOf, LinesAre, RestWritten, SingleWritten, IndexedWritten, VectorWritten, ArrayWritten, FieldWritten}
-use Rattle.bsii_lines.specs.declared.fields.Lines.{Lines}
-use Rattle.bsii_lines.specs.declared.fields.Lines.the-variants.{Next, NotInList as Absent}
+use Rattle.bsii_write_value.specs.Lines.{nameOf, LinesAre, SingleWritten, IndexedWritten}
+use Rattle.bsii_write_value.specs.declared.values.Lines.{Lines}
+use Rattle.bsii_write_value.specs.declared.values.Lines.the-variants.{Next, NotInList as Absent}
+use Rattle.bsii_lines.specs.Lines.{VectorWritten, ArrayWritten, FieldWritten}
 
 -- ---- texts one behind the other
 
@@ -170,12 +170,12 @@ elements s at k e f =
     (q .0, q .1, sym (bind-ok (number 4) (λ n. repeat n (consumed (elementParser k))) e) ∙ q .2)
 
 module _ (s : List ℕ) (at : ℕ) (k : Kind) (d : Definition) {old : List ℕ} {to : ℕ} where
-  pub array-short : {x : Fault} → number 4 at (drop at s) ≡ fault x → ArrayWritten s at k d old to Absent old
+  pub array-short : {x : Fault} → number 4 at (drop at s) ≡ fault x → ArrayWritten valueText s at k d old to Absent old
   array-short e = record { writes = λ v n f g q. fault≢ok (sym (many-short k at (drop at s) e) ∙ f); size = refl }
 
   module _ {count first : ℕ} (e : number 4 at (drop at s) ≡ ok count first (drop first s)) where
     pub array-lines : {p : ℕ} {mid : List ℕ} → Wrote old to (fieldLine (nameOf s d) (decimal count)) p mid → {r : Lines} {new : List ℕ} → VectorWritten s first k d count mid p r new
-        → ArrayWritten s at k d old to r new
+        → ArrayWritten valueText s at k d old to r new
     unfolding valueText
     array-lines w {r} {new} h = record {
       writes = λ v n f g q.
@@ -186,15 +186,15 @@ module _ (s : List ℕ) (at : ℕ) (k : Kind) (d : Definition) {old : List ℕ} 
     }
 
 module _ {version : ℕ} (s : List ℕ) (at type : ℕ) (d : Definition) {old : List ℕ} {to : ℕ} where
-  pub field-unlisted : shapeOf version type ≡ none → FieldWritten version s at type d old to Absent old
+  pub field-unlisted : shapeOf version type ≡ none → FieldWritten valueText version s at type d old to Absent old
   unfolding valueParser shapeParser fail
   field-unlisted e = record { writes = λ v n f g q. fault≢ok (ap (λ (o : Option Shape). shapeParser o at (drop at s)) (sym e) ∙ f); size = refl }
 
-  pub field-array : {k : Kind} → shapeOf version type ≡ some (many k) → {r : Lines} {new : List ℕ} → ArrayWritten s at k d old to r new → FieldWritten version s at type d old to r new
+  pub field-array : {k : Kind} → shapeOf version type ≡ some (many k) → {r : Lines} {new : List ℕ} → ArrayWritten valueText s at k d old to r new → FieldWritten valueText version s at type d old to r new
   unfolding valueParser
   field-array e w = record { writes = λ v n f. w .writes v n (ap (λ (o : Option Shape). shapeParser o at (drop at s)) (sym e) ∙ f); size = w .size }
 
-  pub field-single : {k : Kind} → shapeOf version type ≡ some (one k) → {r : Lines} {new : List ℕ} → SingleWritten s at k d old to r new → FieldWritten version s at type d old to r new
+  pub field-single : {k : Kind} → shapeOf version type ≡ some (one k) → {r : Lines} {new : List ℕ} → SingleWritten s at k d old to r new → FieldWritten valueText version s at type d old to r new
   unfolding valueParser shapeParser valueText
   field-single {k} e {r} {new} h = record {
     writes = λ v n f g q.

@@ -1,3 +1,1 @@
-pub mod LineLaws
 pub mod ArrayLaws
-pub mod ScalarLaws

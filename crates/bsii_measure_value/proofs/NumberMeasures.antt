@@ -82,9 +82,6 @@ module _ (s : List ℕ) (at : ℕ) (k : Numeric) where
       let x = there h in
       reads-next (x .1 ∙ ap (λ i. ok (x .0) i (drop i s)) (sym e)) w
 
-  pub there-moves : Bytes s → length s ≤ lengthLimit → arity k * width k ≤ length s - at → 0 < arity k * width k
-  there-moves b l h = let m = element-moves s at b l (numbers k) (there h .1) in omega (arith, m .0)
-
 -- ---- a row
 
 -- before the element i, with w bytes for each: there are those of this one, and the others behind it

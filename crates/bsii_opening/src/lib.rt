@@ -1,2 +1,3 @@
-// How a field's line opens: its name, and an element's index.
+// How lines open: a field's by its name, with an element's index, and a block by the line of its name and its id.
+pub mod blocks;
 pub mod openings;

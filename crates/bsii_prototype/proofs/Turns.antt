@@ -189,9 +189,5 @@ module _ (s : List ℕ) (at : ℕ) {l : Fields} {n : ℕ} {r : List ℕ} (read :
 
 -- ---- the second walk answers as the first did
 
-pub entry-again : (s : List ℕ) (at : ℕ) {o : Option ValuePrototype} {n : ℕ} {r : List ℕ} → valuePrototypeParser at (drop at s) ≡ ok o n r
-    → entryOf (at + 8) (entryWith uncheckedStr at (drop at s)) ≡ entryOf (at + 8) (valuePrototypeParser at (drop at s))
-entry-again s at e = ap (entryOf (at + 8)) (again entry-follows at (drop at s) e ∙ sym e)
-
 pub fields-again : (at : ℕ) (s : List ℕ) {l : Fields} {n : ℕ} {r : List ℕ} → fieldsParser at s ≡ ok l n r → countOf (fieldsWith uncheckedStr at s) ≡ countOf (fieldsParser at s)
 fields-again at s e = ap countOf (again fields-follow at s e ∙ sym e)

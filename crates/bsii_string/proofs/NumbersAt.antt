@@ -95,10 +95,6 @@ numbers-from n w at s {l} {e} {r} h =
     let t = repeat-exact n (number-exact w) .took at s l e r h in
     numbers-are n w s 0 (ap (repeat n (number w) 0) (t .1 .front) ∙ t .1 .fits .reads 0 r)
 
-pub first-number : (n w : ℕ) (s : List ℕ) (at : ℕ) → getD (numbersAt (suc n) w s at) 0 0 ≡ numberAt w s at
-unfolding numbersAt
-first-number n w s at = refl
-
 -- the j-th number stands j widths further
 pub number-of : (n w : ℕ) (s : List ℕ) (at j : ℕ) → j < n → getD (numbersAt n w s at) j 0 ≡ numberAt w s (at + j * w)
 unfolding numbersAt

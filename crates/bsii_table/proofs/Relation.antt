@@ -103,19 +103,6 @@ module _ (At : ℕ → Prototype → Type 0) where
       go none m = refl
       go (some q) m = absurd m
 
-  -- an id that is defined so far and in the file has both offsets
-  pub entered-finds : {t : List ℕ} {rows : ℕ} {env last : List Prototype} → Entered At t rows env last → (id : ℕ) {p q : Prototype}
-      → getPrototype id env ≡ some p → getPrototype id last ≡ some q → (r : FoundRow) → foundRow r ≡ lookup t rows id
-      → (a : ℕ) × (b : ℕ) × (r ≡ found.At a b) × At a p × At b q
-  entered-finds {t} {rows} {env} {last} h id {p} {q} k l r f =
-      go r (subst (λ (o : Option Prototype). Follows At o (some q) (foundRow r)) k
-      (subst (λ (o : Option Prototype). Follows At (getPrototype id env) o (foundRow r)) l
-      (subst (Follows At (getPrototype id env) (getPrototype id last)) (sym f) (h .each id))))
-    where
-      go : (r : FoundRow) → Follows At (some p) (some q) (foundRow r) → (a : ℕ) × (b : ℕ) × (r ≡ found.At a b) × At a p × At b q
-      go (found.At a b) m = (a, b, refl, m .1, m .0)
-      go found.Nothing m = absurd m
-
 -- ---- definitions so far and those of the whole file
 
 still-put : (b : Bool) (p : Prototype) (o : Option Prototype) {q : Prototype} → o ≡ some q → (q : Prototype) × (cond b (some p) o ≡ some q)

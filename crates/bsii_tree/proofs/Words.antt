@@ -149,9 +149,6 @@ module _ {f t : List ℕ} {rows : ℕ} (h : Linked f t rows) where
       size : length t′ ≡ length t
       size = length-set u (3 * p + 1 + b) rows ∙ a .size
 
-      p-row : p < rows
-      p-row = g .row
-
       b-side : b < 2
       b-side = g .side
 

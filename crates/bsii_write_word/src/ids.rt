@@ -126,7 +126,7 @@ fn dotted_length(raw: &[u8], count: u32) -> usize
     long
 }
 
-pub fn id_length(raw: &[u8]) -> usize
+fn id_length(raw: &[u8]) -> usize
     ensures { λ r. ⌜ IdLength (now (raw .entry)) r ⌝ }
 {
     let n = u8_at(raw, 0);

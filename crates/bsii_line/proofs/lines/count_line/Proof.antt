@@ -1,8 +1,6 @@
 -- Inside, the line has room for the longest that it can be, and the stores one behind the other are the line (`line-inside`); else the pieces are.
-use Prim.Native.Nat.{_+_}
 use native.Mathlib.Omega.{arith}
 use denote.Ref.{now}
-use lib.ListN.{length}
 use Rattle.bsii_format.specs.Digits.{decimal}
 use Rattle.bsii_window.proofs.Laws.{starts}
 use Rattle.bsii_window.proofs.Stores.{stored-same}
@@ -21,16 +19,16 @@ enum-known-place : tie.Need-enum-known-place
 enum-known-place c = search needs
 
 store-opening-requires : tie.Need-store-opening-requires
-store-opening-requires c κs = omega (arith, starts (length (now (c .before .before .before .before .before .before .before .args .name)) + 25) (c .before .before .place .given .1) (c .before .before .before .before .overlap-of .ensures))
+store-opening-requires c κs = omega (arith, starts _ (c .before .before .place .given .1) (c .before .before .before .before .overlap-of .ensures))
 
 store-decimal-requires : tie.Need-store-decimal-requires
-store-decimal-requires c κs = omega (arith, starts (length (now (c .before .before .before .before .before .before .before .before .before .before .before .args .name)) + 25) (c .before .before .before .before .before .before .place .given .1) (c .before .before .before .before .before .before .before .before .overlap-of .ensures), c .before .before .before .store-opening .ensures .1, stored-same (c .before .before .before .store-opening .ensures .0))
+store-decimal-requires c κs = omega (arith, starts _ (c .before .before .before .before .before .before .place .given .1) (c .before .before .before .before .before .before .before .before .overlap-of .ensures), c .before .before .before .store-opening .ensures .1, stored-same (c .before .before .before .store-opening .ensures .0))
 
 store-byte-requires : tie.Need-store-byte-requires
-store-byte-requires c κs = omega (arith, starts (length (now (c .before .before .before .before .before .before .before .before .before .before .before .before .before .before .before .args .name)) + 25) (c .before .before .before .before .before .before .before .before .before .before .place .given .1) (c .before .before .before .before .before .before .before .before .before .before .before .before .overlap-of .ensures), c .before .before .before .before .before .before .before .store-opening .ensures .1, stored-same (c .before .before .before .before .before .before .before .store-opening .ensures .0), c .before .before .before .store-decimal .ensures .1, stored-same (c .before .before .before .store-decimal .ensures .0))
+store-byte-requires c κs = omega (arith, starts _ (c .before .before .before .before .before .before .before .before .before .before .place .given .1) (c .before .before .before .before .before .before .before .before .before .before .before .before .overlap-of .ensures), c .before .before .before .before .before .before .before .store-opening .ensures .1, stored-same (c .before .before .before .before .before .before .before .store-opening .ensures .0), c .before .before .before .store-decimal .ensures .1, stored-same (c .before .before .before .store-decimal .ensures .0))
 
 add-result : tie.Need-add-result
-add-result c = omega (arith, starts (length (now (c .before .before .before .before .before .before .before .before .before .before .before .before .before .before .before .before .before .before .args .name)) + 25) (c .before .before .before .before .before .before .before .before .before .before .before .before .before .place .given .1) (c .before .before .before .before .before .before .before .before .before .before .before .before .before .before .before .overlap-of .ensures), c .before .before .before .before .before .before .before .before .before .before .store-opening .ensures .1, stored-same (c .before .before .before .before .before .before .before .before .before .before .store-opening .ensures .0), c .before .before .before .before .before .before .store-decimal .ensures .1, stored-same (c .before .before .before .before .before .before .store-decimal .ensures .0), c .before .before .store-byte .ensures .next)
+add-result c = omega (arith, starts _ (c .before .before .before .before .before .before .before .before .before .before .before .before .before .place .given .1) (c .before .before .before .before .before .before .before .before .before .before .before .before .before .before .before .overlap-of .ensures), c .before .before .before .before .before .before .before .before .before .before .store-opening .ensures .1, stored-same (c .before .before .before .before .before .before .before .before .before .before .store-opening .ensures .0), c .before .before .before .before .before .before .store-decimal .ensures .1, stored-same (c .before .before .before .before .before .before .store-decimal .ensures .0), c .before .before .store-byte .ensures .next)
 
 same-length : tie.Need-same-length
 same-length c = search needs
@@ -38,7 +36,7 @@ same-length c = search needs
 returns : tie.Need-returns
 returns c =
     let a = c .before .before .before .before .before .before .before .before .before .before .before .before .before .before .before .before .before .before .args in
-    line-inside (length (now (c .before .before .before .before .before .before .before .before .before .before .before .before .before .before .before .before .before .before .args .name)) + 25) (now (a .name)) (decimal (a .n)) (c .before .before .before .before .before .before .before .before .before .before .before .before .before .place .given .1) (c .before .before .before .before .before .before .before .before .before .before .before .before .before .before .before .overlap-of .ensures) (c .before .before .before .before .before .before .before .before .before .before .store-opening .ensures .0) (c .before .before .before .before .before .before .store-decimal .ensures .0) (c .before .before .store-byte .ensures) (omega (arith, c .before .before .before .before .before .before .before .before .before .before .store-opening .ensures .1, c .before .before .before .before .before .before .store-decimal .ensures .1, c .before .before .store-byte .ensures .next)) (omega arith)
+    line-inside _ (now (a .name)) (decimal (a .n)) (c .before .before .before .before .before .before .before .before .before .before .before .before .before .place .given .1) (c .before .before .before .before .before .before .before .before .before .before .before .before .before .before .before .overlap-of .ensures) (c .before .before .before .before .before .before .before .before .before .before .store-opening .ensures .0) (c .before .before .before .before .before .before .store-decimal .ensures .0) (c .before .before .store-byte .ensures) (omega (arith, c .before .before .before .before .before .before .before .before .before .before .store-opening .ensures .1, c .before .before .before .before .before .before .store-decimal .ensures .1, c .before .before .store-byte .ensures .next)) (omega arith)
 
 put-opening-requires : tie.Need-put-opening-requires
 put-opening-requires c κs = search needs

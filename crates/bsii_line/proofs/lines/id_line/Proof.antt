@@ -1,9 +1,7 @@
 -- Inside, the line has room for the longest that it can be, and the stores one behind the other are the line (`line-inside`); else the pieces are.
 use mathlib.Core.Path.{_∙_}
-use Prim.Native.Nat.{_+_, _*_}
 use native.Mathlib.Omega.{arith}
 use denote.Ref.{now}
-use lib.ListN.{length}
 use Rattle.bsii_format.specs.Text.{idText}
 use Rattle.bsii_window.proofs.Laws.{same, starts}
 use Rattle.bsii_window.proofs.Stores.{stored-same}
@@ -28,16 +26,16 @@ enum-known-place : tie.Need-enum-known-place
 enum-known-place c = search needs
 
 store-opening-requires : tie.Need-store-opening-requires
-store-opening-requires c κs = omega (arith, starts (length (now (c .before .before .before .before .before .before .before .before .before .args .name)) + 2 * length (now (c .before .before .before .before .before .before .before .before .before .args .raw)) + 34) (c .before .before .place .given .1) (c .before .before .before .before .overlap-of .ensures))
+store-opening-requires c κs = omega (arith, starts _ (c .before .before .place .given .1) (c .before .before .before .before .overlap-of .ensures))
 
 store-id-requires : tie.Need-store-id-requires
-store-id-requires c κs = omega (arith, starts (length (now (c .before .before .before .before .before .before .before .before .before .before .before .before .before .args .name)) + 2 * length (now (c .before .before .before .before .before .before .before .before .before .before .before .before .before .args .raw)) + 34) (c .before .before .before .before .before .before .place .given .1) (c .before .before .before .before .before .before .before .before .overlap-of .ensures), c .before .before .before .store-opening .ensures .1, stored-same (c .before .before .before .store-opening .ensures .0))
+store-id-requires c κs = omega (arith, starts _ (c .before .before .before .before .before .before .place .given .1) (c .before .before .before .before .before .before .before .before .overlap-of .ensures), c .before .before .before .store-opening .ensures .1, stored-same (c .before .before .before .store-opening .ensures .0))
 
 store-byte-requires : tie.Need-store-byte-requires
-store-byte-requires c κs = omega (arith, starts (length (now (c .before .before .before .before .before .before .before .before .before .before .before .before .before .before .before .before .before .args .name)) + 2 * length (now (c .before .before .before .before .before .before .before .before .before .before .before .before .before .before .before .before .before .args .raw)) + 34) (c .before .before .before .before .before .before .before .before .before .before .place .given .1) (c .before .before .before .before .before .before .before .before .before .before .before .before .overlap-of .ensures), c .before .before .before .before .before .before .before .store-opening .ensures .1, stored-same (c .before .before .before .before .before .before .before .store-opening .ensures .0), c .before .before .before .store-id .ensures .most, c .before .before .before .store-id .ensures .size)
+store-byte-requires c κs = omega (arith, starts _ (c .before .before .before .before .before .before .before .before .before .before .place .given .1) (c .before .before .before .before .before .before .before .before .before .before .before .before .overlap-of .ensures), c .before .before .before .before .before .before .before .store-opening .ensures .1, stored-same (c .before .before .before .before .before .before .before .store-opening .ensures .0), c .before .before .before .store-id .ensures .most, c .before .before .before .store-id .ensures .size)
 
 add-result : tie.Need-add-result
-add-result c = omega (arith, starts (length (now (c .before .before .before .before .before .before .before .before .before .before .before .before .before .before .before .before .before .before .before .before .args .name)) + 2 * length (now (c .before .before .before .before .before .before .before .before .before .before .before .before .before .before .before .before .before .before .before .before .args .raw)) + 34) (c .before .before .before .before .before .before .before .before .before .before .before .before .before .place .given .1) (c .before .before .before .before .before .before .before .before .before .before .before .before .before .before .before .overlap-of .ensures), c .before .before .before .before .before .before .before .before .before .before .store-opening .ensures .1, stored-same (c .before .before .before .before .before .before .before .before .before .before .store-opening .ensures .0), c .before .before .before .before .before .before .store-id .ensures .most, c .before .before .before .before .before .before .store-id .ensures .size, c .before .before .store-byte .ensures .next)
+add-result c = omega (arith, starts _ (c .before .before .before .before .before .before .before .before .before .before .before .before .before .place .given .1) (c .before .before .before .before .before .before .before .before .before .before .before .before .before .before .before .overlap-of .ensures), c .before .before .before .before .before .before .before .before .before .before .store-opening .ensures .1, stored-same (c .before .before .before .before .before .before .before .before .before .before .store-opening .ensures .0), c .before .before .before .before .before .before .store-id .ensures .most, c .before .before .before .before .before .before .store-id .ensures .size, c .before .before .store-byte .ensures .next)
 
 same-length : tie.Need-same-length
 same-length c = search needs
@@ -45,7 +43,7 @@ same-length c = search needs
 returns : tie.Need-returns
 returns c =
     let a = c .before .before .before .before .before .before .before .before .before .before .before .before .before .before .before .before .before .before .before .before .args in
-    line-id (λ i h. line-inside (length (now (c .before .before .before .before .before .before .before .before .before .before .before .before .before .before .before .before .before .before .before .before .args .name)) + 2 * length (now (c .before .before .before .before .before .before .before .before .before .before .before .before .before .before .before .before .before .before .before .before .args .raw)) + 34) (now (a .name)) (idText i) (c .before .before .before .before .before .before .before .before .before .before .before .before .before .place .given .1) (c .before .before .before .before .before .before .before .before .before .before .before .before .before .before .before .overlap-of .ensures) (c .before .before .before .before .before .before .before .before .before .before .store-opening .ensures .0) (c .before .before .before .before .before .before .store-id .ensures .stores i h) (c .before .before .store-byte .ensures) (omega (arith, c .before .before .before .before .before .before .before .before .before .before .store-opening .ensures .1, c .before .before .before .before .before .before .store-id .ensures .most, c .before .before .store-byte .ensures .next)) (omega arith))
+    line-id (λ i h. line-inside _ (now (a .name)) (idText i) (c .before .before .before .before .before .before .before .before .before .before .before .before .before .place .given .1) (c .before .before .before .before .before .before .before .before .before .before .before .before .before .before .before .overlap-of .ensures) (c .before .before .before .before .before .before .before .before .before .before .store-opening .ensures .0) (c .before .before .before .before .before .before .store-id .ensures .stores i h) (c .before .before .store-byte .ensures) (omega (arith, c .before .before .before .before .before .before .before .before .before .before .store-opening .ensures .1, c .before .before .before .before .before .before .store-id .ensures .most, c .before .before .store-byte .ensures .next)) (omega arith))
     (stored-same (c .before .before .store-byte .ensures) ∙ c .before .before .before .before .before .before .store-id .ensures .size ∙ stored-same (c .before .before .before .before .before .before .before .before .before .before .store-opening .ensures .0))
 
 put-opening-requires : tie.Need-put-opening-requires

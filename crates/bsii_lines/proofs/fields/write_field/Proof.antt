@@ -50,14 +50,14 @@ returns-3 c = let a = c .before .before .before .before .before .before .before 
 enum-told-3 : tie.Need-enum-told-3
 enum-told-3 c = search needs
 
-write-single-requires : tie.Need-write-single-requires
-write-single-requires c κs = search needs
+write-word-requires : tie.Need-write-word-requires
+write-word-requires c κs = search needs
 
 same-length-3 : tie.Need-same-length-3
 same-length-3 c = search needs
 
 returns-4 : tie.Need-returns-4
-returns-4 c = let a = c .before .before .before .before .before .before .before .before .before .before .before .before .args in field-single (now (a .s)) (a .at) (a .type-id) (a .d) (sym (c .before .before .before .before .before .before .before .before .before .shape-of .ensures) ∙ ap shapeIs (c .before .before .before .before .before .before .before .shape .given .1) ∙ ap (λ (k : Kind). some (one (kindIs k))) (c .before .before .before .before .enum-told3 .given .1)) (c .before .before .write-single .ensures)
+returns-4 c = let a = c .before .before .before .before .before .before .before .before .before .before .before .before .args in field-single (now (a .s)) (a .at) (a .type-id) (a .d) (sym (c .before .before .before .before .before .before .before .before .before .shape-of .ensures) ∙ ap shapeIs (c .before .before .before .before .before .before .before .shape .given .1) ∙ ap (λ (k : Kind). some (one (kindIs k))) (c .before .before .before .before .enum-told3 .given .1)) (c .before .before .write-word .ensures)
 
 enum-told-4 : tie.Need-enum-told-4
 enum-told-4 c = search needs
@@ -100,7 +100,7 @@ write-field-spec =
     same-length-2
     returns-3
     enum-told-3
-    write-single-requires
+    write-word-requires
     same-length-3
     returns-4
     enum-told-4

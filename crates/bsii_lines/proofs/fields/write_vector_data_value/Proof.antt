@@ -3,7 +3,7 @@ use native.Mathlib.Omega.{arith}
 use denote.Ref.{now}
 use Rattle.bsii_value.specs.Kinds.{kindIs}
 use Rattle.bsii_lines.proofs.ArrayLaws.{Going, go-start, go-absent, go-on, go-done}
-use Rattle.bsii_lines.proofs.LineLaws.{element-by}
+use Rattle.bsii_write_value.proofs.LineLaws.{element-by}
 use borrow.Author.Needs.{needs}
 use Prim.Native.Nat.{_-_, _≤_}
 use Rattle.bsii_lines.proofs.fields.write_vector_data_value.Statement.{statement}

@@ -1,0 +1,2 @@
+// A line of an element of an array.
+pub mod lines;
