@@ -8,7 +8,7 @@ use bsii_string::numbers::le_u64;
 use bsii_text_length::words::encoded_length;
 use bsii_text_length::words::word_length;
 use bsii_word::words::encoded_str_parser;
-use bsii_write_word::ids::nameless_length;
+use bsii_write_id::ids::nameless_length;
 ghost use mathlib.Core.Path.{_≡_};
 ghost use Prim.Native.Nat.{_<_};
 ghost use lib.ListN.{length, drop};

@@ -12,7 +12,7 @@ use Rattle.bsii_window.specs.declared.window.Overlap.{Overlap}
 use Rattle.bsii_window.specs.declared.window.Overlap.the-variants as place
 use Rattle.bsii_window.proofs.Stores.{stored-then, stored-same, stored-inside}
 use Rattle.bsii_window.proofs.Laws.{then, same}
-use Rattle.bsii_write_word.specs.Ids.{IdStored, IdWritten}
+use Rattle.bsii_write_id.specs.Ids.{IdStored, IdWritten}
 use Rattle.bsii_opening.specs.Blocks.{OpeningWritten}
 
 pub opened : {name raw old : List ℕ} {to a b c r : ℕ} {m₁ m₂ m₃ new : List ℕ} → Wrote old to name a m₁ → Wrote m₁ a (ascii " : ") b m₂ → IdWritten raw m₂ b c m₃ → Wrote m₃ c (ascii " {\n") r new

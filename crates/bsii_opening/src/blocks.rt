@@ -4,8 +4,8 @@ use bsii_window::window::Overlap;
 use bsii_window::window::overlap_of;
 use bsii_window::window::put_all;
 use bsii_window::window::store_text;
-use bsii_write_word::ids::store_id;
-use bsii_write_word::ids::write_id;
+use bsii_write_id::ids::store_id;
+use bsii_write_id::ids::write_id;
 ghost use Rattle.bsii_opening.specs.Blocks.{OpeningWritten};
 
 // `NAME : ID {`, of the name's and the id's bytes. Inside the window, with room for the longest that it can be, it is stored.

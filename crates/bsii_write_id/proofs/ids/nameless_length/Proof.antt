@@ -1,9 +1,9 @@
 use mathlib.Core.Path.{sym}
 use native.Mathlib.Omega.{arith}
-use Rattle.bsii_write_word.proofs.IdLaws.{nameless-length}
+use Rattle.bsii_write_id.proofs.IdLaws.{nameless-length}
 use borrow.Author.Needs.{needs}
-use Rattle.bsii_write_word.proofs.ids.nameless_length.Statement.{statement}
-use Rattle.bsii_write_word.proofs.ids.nameless_length.Tie as tie
+use Rattle.bsii_write_id.proofs.ids.nameless_length.Statement.{statement}
+use Rattle.bsii_write_id.proofs.ids.nameless_length.Tie as tie
 
 hex-count-requires : tie.Need-hex-count-requires
 hex-count-requires c κs = search needs

@@ -9,10 +9,10 @@ use lib.Seq.{length-take-le}
 use lib.ListN.{length}
 use Rattle.bsii_window.proofs.Stores.{stored-inside}
 use Rattle.bsii_window.proofs.Laws.{same, past-by, starts}
-use Rattle.bsii_write_word.proofs.IdLaws.{most-bytes}
+use Rattle.bsii_write_id.proofs.IdLaws.{most-bytes}
 use Rattle.bsii_write_word.proofs.WordLaws.{put-stored}
-use Rattle.bsii_write_word.proofs.ids.write_id.Statement.{statement}
-use Rattle.bsii_write_word.proofs.ids.write_id.Tie as tie
+use Rattle.bsii_write_id.proofs.ids.write_id.Statement.{statement}
+use Rattle.bsii_write_id.proofs.ids.write_id.Tie as tie
 
 returns : tie.Need-returns
 returns c = record { writes = λ i h. absurd (omega (arith, most-bytes (now (c .before .before .before .args .raw)) (omega (arith, c .before .shared-slice-known .given 0)) i h)); size = refl }

@@ -7,9 +7,9 @@ use borrow.Author.Needs.{needs}
 use denote.Ref.{now}
 use lib.ListN.{length-append}
 use Rattle.bsii_text_length.proofs.WordLaws.{at-most-thirteen}
-use Rattle.bsii_write_word.proofs.IdLaws.{nameless-text, null-text, named-text, named-length, id-counted}
-use Rattle.bsii_write_word.proofs.ids.id_length.Statement.{statement}
-use Rattle.bsii_write_word.proofs.ids.id_length.Tie as tie
+use Rattle.bsii_write_id.proofs.IdLaws.{nameless-text, null-text, named-text, named-length, id-counted}
+use Rattle.bsii_write_id.proofs.ids.id_length.Statement.{statement}
+use Rattle.bsii_write_id.proofs.ids.id_length.Tie as tie
 
 u8-at-requires : tie.Need-u8-at-requires
 u8-at-requires c κs = search needs

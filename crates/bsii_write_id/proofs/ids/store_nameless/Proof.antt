@@ -7,9 +7,9 @@ use lib.Seq.{sets}
 use lib.ListN.{length}
 use Rattle.bsii_format.specs.Text.{groups, idText}
 use Rattle.bsii_window.proofs.Stores.{stored-then, stored-same}
-use Rattle.bsii_write_word.proofs.IdLaws.{nameless-behind}
-use Rattle.bsii_write_word.proofs.ids.store_nameless.Statement.{statement}
-use Rattle.bsii_write_word.proofs.ids.store_nameless.Tie as tie
+use Rattle.bsii_write_id.proofs.IdLaws.{nameless-behind}
+use Rattle.bsii_write_id.proofs.ids.store_nameless.Statement.{statement}
+use Rattle.bsii_write_id.proofs.ids.store_nameless.Tie as tie
 
 slice-aggregate-store-text : tie.Need-slice-aggregate-store-text
 slice-aggregate-store-text c = search needs

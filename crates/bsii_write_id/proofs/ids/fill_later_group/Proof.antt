@@ -6,8 +6,8 @@ use denote.Ref.{now}
 use lib.ListN.{length, set, length-set}
 use lib.Seq.{sets, length-sets}
 use Rattle.bsii_format.specs.Digits.{hexPadded}
-use Rattle.bsii_write_word.proofs.ids.fill_later_group.Statement.{statement}
-use Rattle.bsii_write_word.proofs.ids.fill_later_group.Tie as tie
+use Rattle.bsii_write_id.proofs.ids.fill_later_group.Statement.{statement}
+use Rattle.bsii_write_id.proofs.ids.fill_later_group.Tie as tie
 
 sub-out : tie.Need-sub-out
 sub-out c = search needs

@@ -6,10 +6,10 @@ use borrow.Author.Needs.{needs}
 use denote.Ref.{now}
 use lib.ListN.{length, length-append}
 use Rattle.bsii_text_length.proofs.WordLaws.{at-most-thirteen}
-use Rattle.bsii_write_word.specs.Ids.{dottedAt}
-use Rattle.bsii_write_word.proofs.IdLaws.{word-text, dotted-more, dotted-none}
-use Rattle.bsii_write_word.proofs.ids.dotted_length.Statement.{statement}
-use Rattle.bsii_write_word.proofs.ids.dotted_length.Tie as tie
+use Rattle.bsii_write_id.specs.Ids.{dottedAt}
+use Rattle.bsii_write_id.proofs.IdLaws.{word-text, dotted-more, dotted-none}
+use Rattle.bsii_write_id.proofs.ids.dotted_length.Statement.{statement}
+use Rattle.bsii_write_id.proofs.ids.dotted_length.Tie as tie
 
 abbrev Inv-loop : tie.InvT-loop
 Inv-loop raw count left₀ place₀ long₀ left place long = (long + length (dottedAt left raw place) ≡ length (dottedAt count raw 9)) × (long + 14 * left ≤ 14 * count) × (place + 8 * left ≡ 9 + 8 * count)

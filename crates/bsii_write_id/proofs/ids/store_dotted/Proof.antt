@@ -6,11 +6,11 @@ use borrow.Author.Needs.{needs}
 use denote.Ref.{now}
 use lib.ListN.{length}
 use Rattle.bsii_window.proofs.Stores.{stored-then, stored-being, stored-same}
-use Rattle.bsii_write_word.specs.Ids.{dottedAt}
-use Rattle.bsii_write_word.proofs.IdLaws.{word-text, dotted-more, dotted-none}
+use Rattle.bsii_write_id.specs.Ids.{dottedAt}
+use Rattle.bsii_write_id.proofs.IdLaws.{word-text, dotted-more, dotted-none}
 use Rattle.bsii_write_word.proofs.WordLaws.{Rest, store-none}
-use Rattle.bsii_write_word.proofs.ids.store_dotted.Statement.{statement}
-use Rattle.bsii_write_word.proofs.ids.store_dotted.Tie as tie
+use Rattle.bsii_write_id.proofs.ids.store_dotted.Statement.{statement}
+use Rattle.bsii_write_id.proofs.ids.store_dotted.Tie as tie
 
 abbrev Inv-loop : tie.InvT-loop
 Inv-loop out₀ to raw count left₀ place₀ here₀ out left place here = (length out ≡ length out₀) × (here + 14 * left ≤ to + 14 * count) × (place + 8 * left ≡ 9 + 8 * count) × Rest out here (dottedAt left raw place) out₀ to (dottedAt count raw 9)

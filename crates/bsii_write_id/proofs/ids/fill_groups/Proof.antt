@@ -12,9 +12,9 @@ use Rattle.bsii_format.specs.Digits.{hexPadded}
 use Rattle.bsii_format.specs.Text.{groups}
 use Rattle.bsii_digits.proofs.DigitLaws.{padded-length}
 use Rattle.bsii_digits.proofs.Fills.{Filled, fill-none, fill-more, fill-room, fill-length, fill-within, fill-rest}
-use Rattle.bsii_write_word.proofs.IdLaws.{groups-end, groups-start, five-more}
-use Rattle.bsii_write_word.proofs.ids.fill_groups.Statement.{statement}
-use Rattle.bsii_write_word.proofs.ids.fill_groups.Tie as tie
+use Rattle.bsii_write_id.proofs.IdLaws.{groups-end, groups-start, five-more}
+use Rattle.bsii_write_id.proofs.ids.fill_groups.Statement.{statement}
+use Rattle.bsii_write_id.proofs.ids.fill_groups.Tie as tie
 
 abbrev Inv-loop : tie.InvT-loop
 Inv-loop out₀ end n i₀ rest₀ out i rest =

@@ -6,8 +6,8 @@ use denote.Ref.{now}
 use lib.ListN.{length, set, length-set}
 use lib.Seq.{sets, length-sets}
 use Rattle.bsii_format.specs.Digits.{hexPadded}
-use Rattle.bsii_write_word.proofs.ids.fill_group.Statement.{statement}
-use Rattle.bsii_write_word.proofs.ids.fill_group.Tie as tie
+use Rattle.bsii_write_id.proofs.ids.fill_group.Statement.{statement}
+use Rattle.bsii_write_id.proofs.ids.fill_group.Tie as tie
 
 add-out : tie.Need-add-out
 add-out c = search needs

@@ -24,7 +24,7 @@ use Rattle.bsii_window.proofs.Stores.{stored-being, stored-same}
 use Rattle.bsii_digits.proofs.DigitLaws.{length-more, some-digit, sixteen, padded-length, padded-whole}
 use Rattle.bsii_digits.proofs.Counts.{hex-below}
 use Rattle.bsii_text_length.specs.Words.{spelling}
-use Rattle.bsii_write_word.specs.Ids.{wordAt, dottedAt, IdStored, IdLength}
+use Rattle.bsii_write_id.specs.Ids.{wordAt, dottedAt, IdStored, IdLength}
 use Rattle.bsii_text_length.proofs.WordLaws.{characters-spelling}
 
 -- ---- groups of 16 bits

@@ -1,5 +1,4 @@
 // Ids.
-use crate::words::store_word;
 use bsii_digits::fill_four;
 use bsii_digits::fill_hex;
 use bsii_digits::hex_count;
@@ -12,6 +11,7 @@ use bsii_window::window::overlap_of;
 use bsii_window::window::put_all;
 use bsii_window::window::store_byte;
 use bsii_window::window::store_text;
+use bsii_write_word::words::store_word;
 ghost use mathlib.Core.Path.{_≡_};
 ghost use mathlib.Core.List.{_++_};
 ghost use Prim.Native.Nat.{_+_, _-_, _*_, _≤_};
@@ -22,7 +22,7 @@ ghost use Rattle.bsii_format.specs.Digits.{hexPadded};
 ghost use Rattle.bsii_format.specs.Text.{groups, idText};
 ghost use Rattle.bsii_format.specs.Strings.{nameless};
 ghost use Rattle.bsii_window.specs.Stored.{Stored};
-ghost use Rattle.bsii_write_word.specs.Ids.{dottedAt, IdStored, IdLength, IdWritten};
+ghost use Rattle.bsii_write_id.specs.Ids.{dottedAt, IdStored, IdLength, IdWritten};
 
 // A dot and the last `count` digits, up to an index: the first group, without leading zeros.
 fn fill_group(out: &mut [u8], end: usize, n: u64, count: u32)

@@ -5,10 +5,10 @@ use native.Mathlib.Omega.{arith}
 use borrow.Author.Needs.{needs}
 use denote.Ref.{now}
 use Rattle.bsii_window.proofs.Stores.{stored-then}
-use Rattle.bsii_write_word.proofs.IdLaws.{nameless-text, null-text, named-text, named-length, id-stored}
+use Rattle.bsii_write_id.proofs.IdLaws.{nameless-text, null-text, named-text, named-length, id-stored}
 use Rattle.bsii_write_word.proofs.WordLaws.{store-none}
-use Rattle.bsii_write_word.proofs.ids.store_id.Statement.{statement}
-use Rattle.bsii_write_word.proofs.ids.store_id.Tie as tie
+use Rattle.bsii_write_id.proofs.ids.store_id.Statement.{statement}
+use Rattle.bsii_write_id.proofs.ids.store_id.Tie as tie
 
 u8-at-requires : tie.Need-u8-at-requires
 u8-at-requires c κs = search needs
