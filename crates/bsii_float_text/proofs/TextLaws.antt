@@ -6,7 +6,7 @@ use native.Mathlib.Omega.{arith}
 use lib.IntN.{ℤ, pos, negsuc}
 use lib.Ieee.{Float}
 use Rattle.bsii_format.specs.Ascii.{ascii}
-use Rattle.bsii_format.specs.Floats.{vec2Text, vec3Text, vec4Text, coefficient, floorMod, floorDiv, placementText, vec7Text, quieted}
+use Rattle.bsii_format.specs.Floats.{floatText, vec2Text, vec3Text, vec4Text, coefficient, floorMod, floorDiv, placementText, vec7Text, quieted}
 use Rattle.bsii_float.specs.Bits.{bitsOf, vec2Of, vec3Of, vec4Of, vec7Of, placementOf}
 use Rattle.bsii_float.specs.declared.floats.Vec2.{Vec2}
 use Rattle.bsii_float.specs.declared.floats.Bits2.{Bits2}
@@ -18,6 +18,8 @@ use Rattle.bsii_float.specs.declared.floats.Vec7.{Vec7}
 use Rattle.bsii_float.specs.declared.floats.Bits7.{Bits7}
 use Rattle.bsii_float.specs.declared.floats.Placement.{Placement}
 use Rattle.bsii_float.specs.declared.floats.PlacementBits.{PlacementBits}
+use Rattle.bsii_window.specs.Stored.{Stored}
+use Rattle.bsii_window.proofs.Stores.{stored-then, stored-being}
 use Rattle.bsii_float.proofs.Bits.{bits-back}
 use Rattle.bsii_float.proofs.Sums.{sum-text}
 use Rattle.bsii_float_text.specs.Floats.{vec2With, vec3With, vec4With, vec7With, inSector, positionOf, positionBits, placementWith, bits2Text, bits3Text, bits4Text, bits7Text, placementBitsText}
@@ -104,3 +106,8 @@ pub placement-back : {x : Placement} {v w : PlacementBits} → x ≡ placementOf
     → v .b < 0x1_0000_0000 → v .d < 0x1_0000_0000 → v .e < 0x1_0000_0000 → v .f < 0x1_0000_0000 → v .g < 0x1_0000_0000 → v .h < 0x1_0000_0000
     → placementWith x v ≡ placementBitsText w
 placement-back {v = v} i z b d e f g h = ap (λ x. placementWith x v) i ∙ placement-bits v b d e f g h ∙ ap placementBitsText z
+
+-- ---- a float behind what stands before it
+
+pub float-behind : {old mid new x : List ℕ} {at p r n m : ℕ} → Stored old at x p mid → Stored mid p (floatText n) r new → n ≡ m → Stored old at (x ++ floatText m) r new
+float-behind {x = x} f g e = stored-being (ap (λ (n : ℕ). x ++ floatText n) e) (stored-then f g)

@@ -47,22 +47,10 @@ add-long-2 : tie.Need-add-long-2 Inv-loop μ-loop
 add-long-2 c = search needs
 
 sub-element-length : tie.Need-sub-element-length Inv-loop μ-loop
-sub-element-length c =
-    let l = c .before .before in
-    let a = c .before .before .before .before .before .args in
-    let s = now (a .s) in
-    let k = numericIs (a .kind) in
-    let m = room (a .start) (a .count) (arity k * width k) (length s) (l .loop .at) (l .loop .i) (omega arith) (omega arith) (l .loop .inv .1) in
-    omega (arith, m .fits, c .before .before .before .byte-count .ensures)
+sub-element-length c = omega arith
 
 part-element-length-start : tie.Need-part-element-length-start Inv-loop μ-loop
-part-element-length-start c =
-    let l = c .before .before in
-    let a = c .before .before .before .before .before .args in
-    let s = now (a .s) in
-    let k = numericIs (a .kind) in
-    let m = room (a .start) (a .count) (arity k * width k) (length s) (l .loop .at) (l .loop .i) (omega arith) (omega arith) (l .loop .inv .1) in
-    omega (arith, m .fits, c .before .before .before .byte-count .ensures)
+part-element-length-start c = omega arith
 
 part-element-length-end : tie.Need-part-element-length-end Inv-loop μ-loop
 part-element-length-end c =

@@ -1,7 +1,6 @@
 use mathlib.Core.Path.{sym}
 use native.Mathlib.Omega.{arith}
-use Rattle.bsii_text_length.proofs.WordLaws.{count-none}
-use Rattle.bsii_text_length.proofs.WordLaws.{between}
+use Rattle.bsii_text_length.proofs.WordLaws.{count-none, between}
 use Rattle.bsii_text_length.proofs.words.short_length.Statement.{statement}
 use Rattle.bsii_text_length.proofs.words.short_length.Tie as tie
 
