@@ -28,6 +28,11 @@ pub record Describes (s : List ℕ) (d : Definition) (f : ValuePrototype) : Type
   pub end : ℕ
   pub enums : enumValuesParser (d .«type_id») (d .«name_end») (drop (d .«name_end») s) ≡ ok (f .enumValues) end (drop end s)
 
+-- its name, and so its enum list's start, stand in the file
+pub record InFile (s : List ℕ) (d : Definition) : Type 0 where
+  pub ordered : d .name ≤ d .«name_end»
+  pub inside : d .«name_end» ≤ length s
+
 -- the lists l in force and m of the last definition, read from two positions on
 pub record Paired (s : List ℕ) (typeId : ℕ) (d : Definition) (next lastNext : ℕ) (l : Fields) (n : ℕ) (t : List ℕ) (m : Fields) (o : ℕ) (u : List ℕ) : Type 0 where
   pub inForce : Consumed ValuePrototype

@@ -17,7 +17,8 @@ use bsii_write_value::values::write_string_value;
 use bsii_write_value::values::write_word;
 ghost use Rattle.bsii_format.specs.Text.{valueText};
 ghost use Rattle.bsii_value.specs.Kinds.{kindIs};
-ghost use Rattle.bsii_write_value.specs.Lines.{InFile, IndexedWritten};
+ghost use Rattle.bsii_definition.specs.Pairs.{InFile};
+ghost use Rattle.bsii_write_value.specs.Lines.{IndexedWritten};
 ghost use Rattle.bsii_lines.specs.Lines.{VectorWritten, ArrayWritten, FieldWritten};
 
 fn write_element(

@@ -24,7 +24,7 @@ use Rattle.bsii_string.specs.Answers.{faultIs}
 use Rattle.bsii_string.specs.declared.answers.Refusal.{Refusal}
 use Rattle.bsii_prototype.proofs.Names.{number-front}
 use Rattle.bsii_definition.specs.Enums.{StringOf, StringInside}
-use Rattle.bsii_definition.specs.Pairs.{Describes}
+use Rattle.bsii_definition.specs.Pairs.{Describes, InFile}
 use Rattle.bsii_definition.specs.declared.enums.EnumString.{EnumString}
 use Rattle.bsii_definition.specs.declared.enums.EnumString.the-variants.{Text, Absent}
 use Rattle.bsii_definition.specs.declared.pairs.Definition.{Definition}
@@ -33,7 +33,7 @@ use Rattle.bsii_measure_value.specs.Rows.{ValueFine, ValueMeasured}
 use Rattle.bsii_measure_string.specs.declared.answers.Measured.{Measured}
 use Rattle.bsii_measure_string.specs.declared.answers.Measured.the-variants.{Next as MeasuredTo, Fault as Unmeasured}
 use Rattle.bsii_measure_block.specs.Sums.{measureOf, plus, sumIs, firstOf, firstMissing, sums, Room}
-use Rattle.bsii_measure_block.specs.Fields.{InFile, fieldSum, FieldSummed, EnumSummed}
+use Rattle.bsii_measure_block.specs.Fields.{fieldSum, FieldSummed, EnumSummed}
 use Rattle.bsii_measure_block.specs.declared.sums.Sum.{Sum}
 use Rattle.bsii_measure_block.specs.declared.sums.Summed.the-variants.{Next, Fault}
 use Rattle.bsii_measure_block.proofs.SumLaws.{sum-more, sum-missing}

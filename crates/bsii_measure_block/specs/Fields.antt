@@ -1,9 +1,9 @@
 -- The values of a block, measured.
 use mathlib.Core.Path.{_≡_}
-use Prim.Native.Nat.{ℕ, _≤_}
+use Prim.Native.Nat.{ℕ}
 use mathlib.Core.Option.{Option}
 use mathlib.Core.List.{List}
-use lib.ListN.{length, drop}
+use lib.ListN.{drop}
 use Rattle.bsii_format.specs.Replies.{Reply, enumValue}
 use Rattle.bsii_format.specs.Reader.{Result, ok, fault, Consumed}
 use Rattle.bsii_format.specs.Values.{Value, valueParser}
@@ -16,11 +16,6 @@ use Rattle.bsii_definition.specs.declared.pairs.Definition.{Definition}
 use Rattle.bsii_measure_block.specs.Sums.{measureOf, plus, sumIs, Outcome, sums, stops, summedIs, SumFits}
 use Rattle.bsii_measure_block.specs.declared.sums.Sum.{Sum}
 use Rattle.bsii_measure_block.specs.declared.sums.Summed.{Summed}
-
--- the definition's name and enum list stand in the file
-pub record InFile (s : List ℕ) (d : Definition) : Type 0 where
-  pub ordered : d .name ≤ d .«name_end»
-  pub inside : d .«name_end» ≤ length s
 
 module _ (text : ValuePrototype → Value → Option (List ℕ)) where
   -- a value at the offset `at`, under its definition, behind a sum

@@ -14,7 +14,8 @@ use bsii_text_length::strings::string_length;
 ghost use mathlib.Core.Path.{_≡_};
 ghost use Prim.Native.Nat.{_<_};
 ghost use Rattle.bsii_measure_block.specs.Sums.{Room};
-ghost use Rattle.bsii_measure_block.specs.Fields.{InFile, EnumSummed, FieldSummed, ValuesSummed};
+ghost use Rattle.bsii_definition.specs.Pairs.{InFile};
+ghost use Rattle.bsii_measure_block.specs.Fields.{EnumSummed, FieldSummed, ValuesSummed};
 
 // An enum value. One that is not in its list has no text, and the walk goes on: a later fault of the file comes first.
 fn enum_summed(s: &[u8], at: usize, d: Definition, sum: Sum) -> Summed

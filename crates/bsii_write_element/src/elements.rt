@@ -16,7 +16,8 @@ use bsii_write_value::values::Lines;
 use bsii_write_value::values::enum_text;
 ghost use Rattle.bsii_format.specs.Types.{enum, numbers, string, encodedString, id};
 ghost use Rattle.bsii_value.specs.Kinds.{numericIs};
-ghost use Rattle.bsii_write_value.specs.Lines.{InFile, IndexedWritten};
+ghost use Rattle.bsii_definition.specs.Pairs.{InFile};
+ghost use Rattle.bsii_write_value.specs.Lines.{IndexedWritten};
 
 // No listed type is an array of enum values; what is written of an element is said of every kind.
 fn write_enum_element(

@@ -22,9 +22,6 @@ use Rattle.bsii_write_value.specs.declared.values.Lines.the-variants.{Ne
 abbrev pub nameOf : List ℕ → Definition → List ℕ
 nameOf s d = take (d .«name_end» - d .name) (drop (d .name) s)
 
-abbrev pub InFile : List ℕ → Definition → Type 0
-InFile s d = (d .name ≤ d .«name_end») × (d .«name_end» ≤ length s)
-
 -- an answer: a text, and the offset n behind the value; or none for an enum value that is not in its list
 abbrev pub LinesAre : List ℕ → ℕ → Option (List ℕ) → ℕ → Lines → List ℕ → Type 0
 LinesAre old to (some t) n (Next at r) new = (at ≡ n) × Wrote old to t r new

@@ -17,7 +17,8 @@ use bsii_value::types::Numeric;
 use bsii_value::values::numeric_end;
 ghost use Rattle.bsii_format.specs.Types.{enum, numbers, string, encodedString, id};
 ghost use Rattle.bsii_value.specs.Kinds.{numericIs};
-ghost use Rattle.bsii_write_value.specs.Lines.{InFile, EnumTextOf, SingleWritten};
+ghost use Rattle.bsii_definition.specs.Pairs.{InFile};
+ghost use Rattle.bsii_write_value.specs.Lines.{EnumTextOf, SingleWritten};
 
 // The offset behind the value, and the position behind its text; or an enum value that is not in its list, and for bytes that were never accepted anything
 // that runs out. What was written in front of it stays in the window: the caller measures first.
