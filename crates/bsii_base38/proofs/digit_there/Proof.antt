@@ -1,0 +1,18 @@
+use Rattle.bsii_base38.proofs.Rule.{digit-marked}
+use borrow.Author.Needs.{needs}
+use Rattle.bsii_base38.proofs.digit_there.Statement.{statement}
+use Rattle.bsii_base38.proofs.digit_there.Tie as tie
+use Rattle.bsii_base38.proofs.digit_there.Reads as reads
+use Rattle.bsii_base38.proofs.digit_there.Lts as lts
+use Rattle.bsii_base38.proofs.pair_at.Reads as pair-at-reads
+
+-- src/lib.rt:38:5
+pair-at-requires : tie.Need-pair-at-requires
+pair-at-requires c κs = search needs
+
+-- src/lib.rt:34:1
+returns : tie.Need-returns
+returns c = rw (c .pair-at .ensures) (digit-marked (c .before .args .r) (c .before .pre .1))
+
+pub digit-there-spec : {M : Type 1} → statement M
+digit-there-spec = tie.close (tie.spec pair-at-requires returns)

@@ -1,0 +1,39 @@
+// Digits to base 38, two at a time: a table of the characters of each remainder by 38 * 38.
+mod table;
+
+use crate::table::CHAR_PAIRS;
+ghost use mathlib.Core.Path.{_≡_};
+ghost use Prim.Native.Nat.{_<_, _/_, _%_};
+ghost use Rattle.bsii_base38.specs.Pairs.{charOf, pairOf, CharPairs, digitsThere, digitThere};
+
+pub type CharPairs = [u16; 1444];
+
+// The table. A constant is built on the stack for each use, so a call takes it once and lends it down its walks.
+pub fn char_pairs() -> CharPairs
+    ensures { λ r. ⌜ CharPairs r ⌝ }
+{
+    CHAR_PAIRS
+}
+
+pub fn pair_at(chars: &CharPairs, r: u64) -> u16
+    requires { ⌜ CharPairs (now chars) × (r < 1444) ⌝ }
+    ensures { λ p. ⌜ p ≡ pairOf r ⌝ }
+{
+    chars[r as usize]
+}
+
+// Whether neither digit is 0.
+pub fn digits_there(chars: &CharPairs, r: u64) -> bool
+    requires { ⌜ CharPairs (now chars) × (r < 1444) ⌝ }
+    ensures { λ b. ⌜ b ≡ digitsThere r ⌝ }
+{
+    pair_at(chars, r) & 0x8080 == 0
+}
+
+// Whether the lower digit is not 0.
+pub fn digit_there(chars: &CharPairs, r: u64) -> bool
+    requires { ⌜ CharPairs (now chars) × (r < 1444) ⌝ }
+    ensures { λ b. ⌜ b ≡ digitThere r ⌝ }
+{
+    pair_at(chars, r) & 0x80 == 0
+}
