@@ -1,15 +1,16 @@
 -- The table's rule at each entry, and what the marks say, each by one test that is computed over all entries.
-use Prim.Native.Nat.{ℕ, _<_}
+use Prim.Native.Nat.{ℕ, _/_, _%_, _<_}
 use mathlib.Core.Path.{_≡_, refl, sym}
 use mathlib.Core.Bool.{Bool, true, false, not, cond}
 use mathlib.Core.List.{List}
+use native.Mathlib.Omega.{arith}
 use lib.Bits.{bitAnd}
 use lib.Dec.{eqb}
 use lib.ListN.{getD}
 use borrow.Author.Tests.{eqb-true}
 use Rattle.bsii_format.specs.Strings.{charEncodings}
 use Rattle.bsii_digits.proofs.Tables.{holds, holds-at}
-use Rattle.bsii_base38.specs.Pairs.{charOf, pairOf, digitThere, digitsThere, CharPairs}
+use Rattle.bsii_base38.specs.Pairs.{charOf, pairOf, hasZero, lowZero, CharPairs}
 
 abbrev pub right : List ℕ → ℕ → Bool
 right t r = eqb (getD t r 0) (pairOf r)
@@ -26,11 +27,30 @@ agreed true b h = sym h
 agreed false true h = h
 agreed false false h = refl
 
-module _ (r : ℕ) (l : r < 1444) where
-  pub digits-marked : eqb (bitAnd (pairOf r) 0x8080) 0 ≡ digitsThere r
-  unfolding holds pairOf charOf charEncodings digitsThere digitThere
-  digits-marked = agreed (eqb (bitAnd (pairOf r) 0x8080) 0) (digitsThere r) (holds-at (λ n. agree (eqb (bitAnd (pairOf n) 0x8080) 0) (digitsThere n)) 1444 refl r l)
+-- a bit of the mark is set
+abbrev pub marked : ℕ → ℕ → Bool
+marked bits x = not (eqb (bitAnd x bits) 0)
 
-  pub digit-marked : eqb (bitAnd (pairOf r) 0x80) 0 ≡ digitThere r
-  unfolding holds pairOf charOf charEncodings digitThere
-  digit-marked = agreed (eqb (bitAnd (pairOf r) 0x80) 0) (digitThere r) (holds-at (λ n. agree (eqb (bitAnd (pairOf n) 0x80) 0) (digitThere n)) 1444 refl r l)
+module _ (r : ℕ) (l : r < 1444) where
+  pub pair-marked : marked 0x8080 (pairOf r) ≡ hasZero r
+  unfolding holds pairOf charOf charEncodings hasZero lowZero
+  pair-marked = agreed (marked 0x8080 (pairOf r)) (hasZero r) (holds-at (λ n. agree (marked 0x8080 (pairOf n)) (hasZero n)) 1444 refl r l)
+
+  pub low-marked : marked 0x80 (pairOf r) ≡ lowZero r
+  unfolding holds pairOf charOf charEncodings lowZero
+  low-marked = agreed (marked 0x80 (pairOf r)) (lowZero r) (holds-at (λ n. agree (marked 0x80 (pairOf n)) (lowZero n)) 1444 refl r l)
+
+-- a character is a byte
+pub char-byte : (d : ℕ) → d < 38 → charOf d < 256
+unfolding holds charOf charEncodings
+char-byte d l = let z : charOf d / 256 ≡ 0 = eqb-true (charOf d / 256) 0 (holds-at (λ n. eqb (charOf n / 256) 0) 38 refl d l) in omega arith
+
+-- so a pair's bytes are its characters
+module _ (r : ℕ) (l : r < 1444) where
+  pub first-of : pairOf r % 256 ≡ charOf (r % 38)
+  unfolding pairOf
+  first-of = omega (arith, char-byte (r % 38) (omega arith))
+
+  pub second-of : pairOf r / 256 ≡ charOf (r / 38)
+  unfolding pairOf
+  second-of = omega (arith, char-byte (r % 38) (omega arith))

@@ -1,7 +1,7 @@
 -- Two digits to base 38 and their characters.
 use Prim.Native.Nat.{ℕ, _+_, _*_, _/_, _%_, _<_}
 use mathlib.Core.Path.{_≡_}
-use mathlib.Core.Bool.{Bool, not, cond, false}
+use mathlib.Core.Bool.{Bool, true, cond}
 use mathlib.Core.List.{List, _∷_}
 use lib.Dec.{eqb}
 use lib.ListN.{getD}
@@ -15,13 +15,13 @@ charOf d = getD (128 ∷ charEncodings) d 0
 unfoldable pub pairOf : ℕ → ℕ
 pairOf r = charOf (r % 38) + 256 * charOf (r / 38)
 
--- the lower digit is not 0
-unfoldable pub digitThere : ℕ → Bool
-digitThere r = not (eqb (r % 38) 0)
+-- the lower digit is 0
+unfoldable pub lowZero : ℕ → Bool
+lowZero r = eqb (r % 38) 0
 
--- neither digit is 0
-unfoldable pub digitsThere : ℕ → Bool
-digitsThere r = cond (digitThere r) (not (eqb (r / 38) 0)) false
+-- one of the two digits is 0
+unfoldable pub hasZero : ℕ → Bool
+hasZero r = cond (lowZero r) true (eqb (r / 38) 0)
 
 -- "a table of 1,444 entries"
 pub record CharPairs (t : List ℕ) : Type 0 where

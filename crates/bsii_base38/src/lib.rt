@@ -4,7 +4,7 @@ mod table;
 use crate::table::CHAR_PAIRS;
 ghost use mathlib.Core.Path.{_≡_};
 ghost use Prim.Native.Nat.{_<_, _/_, _%_};
-ghost use Rattle.bsii_base38.specs.Pairs.{charOf, pairOf, CharPairs, digitsThere, digitThere};
+ghost use Rattle.bsii_base38.specs.Pairs.{pairOf, CharPairs, hasZero, lowZero};
 
 pub type CharPairs = [u16; 1444];
 
@@ -22,18 +22,31 @@ pub fn pair_at(chars: &CharPairs, r: u64) -> u16
     chars[r as usize]
 }
 
-// Whether neither digit is 0.
-pub fn digits_there(chars: &CharPairs, r: u64) -> bool
-    requires { ⌜ CharPairs (now chars) × (r < 1444) ⌝ }
-    ensures { λ b. ⌜ b ≡ digitsThere r ⌝ }
+// The byte that is printed first.
+pub fn first(pair: u16) -> u8
+    ensures { λ b. ⌜ b ≡ pair % 256 ⌝ }
 {
-    pair_at(chars, r) & 0x8080 == 0
+    (pair % 256) as u8
 }
 
-// Whether the lower digit is not 0.
-pub fn digit_there(chars: &CharPairs, r: u64) -> bool
-    requires { ⌜ CharPairs (now chars) × (r < 1444) ⌝ }
-    ensures { λ b. ⌜ b ≡ digitThere r ⌝ }
+pub fn second(pair: u16) -> u8
+    ensures { λ b. ⌜ b ≡ pair / 256 ⌝ }
 {
-    pair_at(chars, r) & 0x80 == 0
+    (pair / 256) as u8
+}
+
+// Whether one of the two digits is 0.
+pub fn has_zero(chars: &CharPairs, r: u64) -> bool
+    requires { ⌜ CharPairs (now chars) × (r < 1444) ⌝ }
+    ensures { λ b. ⌜ b ≡ hasZero r ⌝ }
+{
+    pair_at(chars, r) & 0x8080 != 0
+}
+
+// Whether the lower digit is 0.
+pub fn low_zero(chars: &CharPairs, r: u64) -> bool
+    requires { ⌜ CharPairs (now chars) × (r < 1444) ⌝ }
+    ensures { λ b. ⌜ b ≡ lowZero r ⌝ }
+{
+    pair_at(chars, r) & 0x80 != 0
 }

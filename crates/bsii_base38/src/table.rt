@@ -1448,4 +1448,3 @@ pub const CHAR_PAIRS: CharPairs = [
     0x5f7a,
     0x5f5f,
 ];
-

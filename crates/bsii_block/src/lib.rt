@@ -1,5 +1,6 @@
 // Data blocks under a prototype's definitions: where they end, and how many values they have. The definitions were read before: their names are not
 // checked again.
+use bsii_base38::CharPairs;
 use bsii_prototype::answers::Counted;
 use bsii_prototype::answers::Entry;
 use bsii_prototype::skip::fields_at;
@@ -10,11 +11,13 @@ use bsii_string::answers::Parsed;
 use bsii_value::values::value_parser;
 use bsii_word::words::id_parser;
 ghost use lib.ListN.{drop};
+ghost use Rattle.bsii_base38.specs.Pairs.{CharPairs};
 ghost use Rattle.bsii_block.specs.Blocks.{ValuesEnd, BlockEnd, DefinedEnd, ValuesSkipped, BlockSkipped};
 
 // The values of a version from `start` on, one for each definition from `fields` on. Each definition has a byte at least, so the count stays below its
 // position.
-fn values_parser(s: &[u8], version: u32, fields: usize, start: usize) -> Counted
+fn values_parser(chars: &CharPairs, s: &[u8], version: u32, fields: usize, start: usize) -> Counted
+    requires { ⌜ CharPairs (now chars) ⌝ }
     ensures { λ r. ⌜ ValuesEnd version (now (s .entry)) fields start r ⌝ }
 {
     let mut field = fields;
@@ -31,7 +34,7 @@ fn values_parser(s: &[u8], version: u32, fields: usize, start: usize) -> Counted
                 name_end: _,
                 next,
             } => {
-                let value = value_parser(s, at, version, type_id);
+                let value = value_parser(chars, s, at, version, type_id);
                 match value {
                     Parsed::Fault(f) => return Counted::Fault(f),
                     Parsed::Next(end) => {
@@ -46,24 +49,32 @@ fn values_parser(s: &[u8], version: u32, fields: usize, start: usize) -> Counted
 }
 
 // A block's id and its values.
-fn data_block_parser(s: &[u8], version: u32, fields: usize, at: usize) -> Counted
+fn data_block_parser(chars: &CharPairs, s: &[u8], version: u32, fields: usize, at: usize) -> Counted
+    requires { ⌜ CharPairs (now chars) ⌝ }
     ensures { λ r. ⌜ BlockEnd version (now (s .entry)) fields at r ⌝ }
 {
-    let id = id_parser(s, at);
+    let id = id_parser(chars, s, at);
     match id {
         Parsed::Fault(f) => Counted::Fault(f),
-        Parsed::Next(next) => values_parser(s, version, fields, next),
+        Parsed::Next(next) => values_parser(chars, s, version, fields, next),
     }
 }
 
 // The block whose own id starts at `at`, under the prototype at the offset `prototype`.
-pub fn block_parser(s: &[u8], version: u32, prototype: usize, at: usize) -> Counted
+pub fn block_parser(
+    chars: &CharPairs,
+    s: &[u8],
+    version: u32,
+    prototype: usize,
+    at: usize,
+) -> Counted
+    requires { ⌜ CharPairs (now chars) ⌝ }
     ensures { λ r. ⌜ DefinedEnd version (now (s .entry)) prototype at r ⌝ }
 {
     let fields = fields_at(s, prototype);
     match fields {
         Parsed::Fault(f) => Counted::Fault(f),
-        Parsed::Next(first) => data_block_parser(s, version, first, at),
+        Parsed::Next(first) => data_block_parser(chars, s, version, first, at),
     }
 }
 

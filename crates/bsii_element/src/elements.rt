@@ -1,6 +1,8 @@
 // One element of a value.
 use crate::answers::Element;
+use crate::numeric::number_array;
 use crate::numeric::numeric;
+use bsii_base38::char_pairs;
 use bsii_skip::skip_elements;
 use bsii_string::answers::ABSENT;
 use bsii_string::answers::Parsed;
@@ -9,6 +11,7 @@ use bsii_string::answers::Word;
 use bsii_string::answers::refused;
 use bsii_string::at::u32_at;
 use bsii_string::numbers::size;
+use bsii_string::strings::str_end;
 use bsii_value::types::Kind;
 use bsii_value::types::Shape;
 use bsii_value::types::shape_of;
@@ -19,9 +22,10 @@ use bsii_word::words::id_parser;
 ghost use mathlib.Core.Path.{_≡_};
 ghost use mathlib.Core.Option.{some};
 ghost use lib.ListN.{drop};
-ghost use Rattle.bsii_format.specs.Types.{string, encodedString, id as idKind, one};
+ghost use Rattle.bsii_format.specs.Types.{string, encodedString, id as idKind, one, many, shapeOf};
 ghost use Rattle.bsii_format.specs.Values.{elementParser, shapeParser};
 ghost use Rattle.bsii_format.specs.Calls.{ofValue, elementCall};
+ghost use Rattle.bsii_string.specs.Answers.{endOf};
 ghost use Rattle.bsii_value.specs.Kinds.{kindIs};
 ghost use Rattle.bsii_element.specs.Cases.{elementIs};
 ghost use Rattle.bsii_element.specs.Decoded.{decoded, answersAt};
@@ -29,7 +33,7 @@ ghost use Rattle.bsii_element.specs.Decoded.{decoded, answersAt};
 fn text(s: &[u8], at: usize) -> Element
     ensures { λ r. ⌜ elementIs r ≡ decoded at (elementParser string at (drop at (now (s .entry)))) ⌝ }
 {
-    let end = element_parser(s, at, Kind::String);
+    let end = str_end(s, at);
     match end {
         Parsed::Next(next) => Element::String {
             offset: at + 4,
@@ -42,7 +46,8 @@ fn text(s: &[u8], at: usize) -> Element
 fn word(s: &[u8], at: usize) -> Element
     ensures { λ r. ⌜ elementIs r ≡ decoded at (elementParser encodedString at (drop at (now (s .entry)))) ⌝ }
 {
-    let read = encoded_str_parser(s, at);
+    let chars = char_pairs();
+    let read = encoded_str_parser(&chars, s, at);
     match read {
         Word::Low63(low, _) => Element::EncodedString(low),
         Word::Refused(f) => Element::Refused(f),
@@ -52,7 +57,8 @@ fn word(s: &[u8], at: usize) -> Element
 fn id(s: &[u8], at: usize) -> Element
     ensures { λ r. ⌜ elementIs r ≡ decoded at (elementParser idKind at (drop at (now (s .entry)))) ⌝ }
 {
-    let end = id_parser(s, at);
+    let chars = char_pairs();
+    let end = id_parser(&chars, s, at);
     match end {
         Parsed::Next(next) => Element::Id {
             offset: at,
@@ -81,7 +87,8 @@ fn single(part: &[u8], kind: Kind, index: usize) -> Element
     if index == 0 {
         return decode(part, 0, kind);
     }
-    let end = element_parser(part, 0, kind);
+    let chars = char_pairs();
+    let end = element_parser(&chars, part, 0, kind);
     match end {
         Parsed::Next(_) => Element::Refused(refused(ABSENT, 0)),
         Parsed::Fault(f) => Element::Refused(f),
@@ -103,6 +110,18 @@ fn in_array(part: &[u8], kind: Kind, index: usize) -> Element
     }
 }
 
+// The end of an array of this kind. Numbers need no table of characters, and a caller may ask for many of them one by one.
+fn array_end(part: &[u8], version: u32, type_id: u32, kind: Kind) -> Parsed
+    requires { ⌜ some (many (kindIs kind)) ≡ shapeOf version «type_id» ⌝ }
+    ensures { λ r. ⌜ r ≡ endOf (shapeParser (some (many (kindIs kind))) 0 (now (part .entry))) ⌝ }
+{
+    if let Kind::Numbers(n) = kind {
+        return number_array(part, n);
+    }
+    let chars = char_pairs();
+    value_parser(&chars, part, 0, version, type_id)
+}
+
 // The element at the index of the value that the slice starts with. The value is read whole before the index is looked at.
 pub fn element(version: u32, type_id: u32, part: &[u8], index: usize) -> Element
     ensures { λ r. ⌜ elementIs r ≡ elementCall version «type_id» (now (part .entry)) index ⌝ }
@@ -111,7 +130,7 @@ pub fn element(version: u32, type_id: u32, part: &[u8], index: usize) -> Element
     match shape {
         Shape::One(kind) => single(part, kind, index),
         Shape::Many(kind) => {
-            let whole = value_parser(part, 0, version, type_id);
+            let whole = array_end(part, version, type_id, kind);
             match whole {
                 Parsed::Next(_) => in_array(part, kind, index),
                 Parsed::Fault(f) => Element::Refused(f),

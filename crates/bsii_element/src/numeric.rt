@@ -15,20 +15,27 @@ use bsii_float::floats::vec2_of;
 use bsii_float::floats::vec3_of;
 use bsii_float::floats::vec4_of;
 use bsii_float::floats::vec7_of;
+use bsii_string::answers::Num;
 use bsii_string::answers::Parsed;
 use bsii_string::at::u8_at;
 use bsii_string::at::u16_at;
 use bsii_string::at::u32_at;
 use bsii_string::at::u64_at;
-use bsii_value::types::Kind;
+use bsii_string::numbers::le_u32;
 use bsii_value::types::Numeric;
-use bsii_value::values::element_parser;
+use bsii_value::types::arity;
+use bsii_value::types::width;
+use bsii_value::values::numbers_end;
+use bsii_value::values::numeric_end;
+use bsii_value::values::product;
+ghost use mathlib.Core.Option.{some};
 ghost use mathlib.Core.Path.{_≡_};
 ghost use lib.ListN.{drop};
 ghost use Rattle.bsii_format.specs.Replies.{gives};
-ghost use Rattle.bsii_format.specs.Types.{width, arity, numbers};
-ghost use Rattle.bsii_format.specs.Values.{elementParser};
+ghost use Rattle.bsii_format.specs.Types.{width as widthOf, arity as arityOf, numbers, many};
+ghost use Rattle.bsii_format.specs.Values.{elementParser, shapeParser};
 ghost use Rattle.bsii_format.specs.Calls.{numericDatum, nonzero as nonzeroOf};
+ghost use Rattle.bsii_string.specs.Answers.{endOf};
 ghost use Rattle.bsii_value.specs.Kinds.{numericIs};
 ghost use Rattle.bsii_string.specs.NumbersAt.{numbersAt};
 ghost use Rattle.bsii_element.specs.Cases.{elementIs, int3Of};
@@ -52,7 +59,7 @@ fn int3_of(bits: Bits3) -> Int3
 
 // The element that the bytes start with, where they are there.
 fn numeric_of(raw: &[u8], n: Numeric) -> Element
-    ensures { λ r. ⌜ elementIs r ≡ gives (numericDatum (numericIs n) (numbersAt (arity (numericIs n)) (width (numericIs n)) (now (raw .entry)) 0)) ⌝ }
+    ensures { λ r. ⌜ elementIs r ≡ gives (numericDatum (numericIs n) (numbersAt (arityOf (numericIs n)) (widthOf (numericIs n)) (now (raw .entry)) 0)) ⌝ }
 {
     match n {
         Numeric::Float => Element::Float(float_of(u32_at(raw, 0))),
@@ -75,9 +82,20 @@ fn numeric_of(raw: &[u8], n: Numeric) -> Element
 pub fn numeric(s: &[u8], at: usize, n: Numeric) -> Element
     ensures { λ r. ⌜ elementIs r ≡ decoded at (elementParser (numbers (numericIs n)) at (drop at (now (s .entry)))) ⌝ }
 {
-    let end = element_parser(s, at, Kind::Numbers(n));
+    let end = numeric_end(s, at, n);
     match end {
         Parsed::Next(_) => numeric_of(&s[at..], n),
         Parsed::Fault(f) => Element::Refused(f),
+    }
+}
+
+// The end of an array of numbers, which is one row of them.
+pub fn number_array(part: &[u8], form: Numeric) -> Parsed
+    ensures { λ r. ⌜ r ≡ endOf (shapeParser (some (many (numbers (numericIs form)))) 0 (now (part .entry))) ⌝ }
+{
+    let count = le_u32(part, 0);
+    match count {
+        Num::Short(f) => Parsed::Fault(f),
+        Num::Got(n, next) => numbers_end(part, next, product(n, arity(form)), width(form)),
     }
 }

@@ -1,4 +1,5 @@
 // The block at an offset, under a prototype: what stands in front of its values, the values, and the field of a name.
+use bsii_base38::CharPairs;
 use bsii_field::FoundValue;
 use bsii_field::Index;
 use bsii_field::field_index;
@@ -15,10 +16,12 @@ use bsii_string::numbers::le_u32;
 use bsii_value::values::value_parser;
 use bsii_word::words::id_parser;
 ghost use mathlib.Core.Path.{_≡_};
+ghost use Rattle.bsii_base38.specs.Pairs.{CharPairs};
 ghost use Rattle.bsii_index_field.specs.Looks.{HeadRead, keptOf, ValuesRead, FieldRead};
 
 // A block's prototype id, which must be `id`, and its own id: where its values start.
-pub fn block_head(s: &[u8], at: usize, id: u32) -> Parsed
+pub fn block_head(chars: &CharPairs, s: &[u8], at: usize, id: u32) -> Parsed
+    requires { ⌜ CharPairs (now chars) ⌝ }
     ensures { λ r. ⌜ HeadRead (now (s .entry)) at id r ⌝ }
 {
     let number = le_u32(s, at);
@@ -31,7 +34,7 @@ pub fn block_head(s: &[u8], at: usize, id: u32) -> Parsed
             if n != id {
                 return Parsed::Fault(refused(UNDEFINED_PROTOTYPE, at));
             }
-            id_parser(s, next)
+            id_parser(chars, s, next)
         }
     }
 }
@@ -59,7 +62,15 @@ fn keep(kept: FoundValue, value: FoundValue, index: Index, passed: usize) -> Fou
 
 // The values of a version from `start` on, one for each definition from `fields` on. Each is checked, also behind the one at the index: a fault anywhere
 // in the block comes before the answer.
-fn block_values(s: &[u8], version: u32, fields: usize, start: usize, index: Index) -> Values
+fn block_values(
+    chars: &CharPairs,
+    s: &[u8],
+    version: u32,
+    fields: usize,
+    start: usize,
+    index: Index,
+) -> Values
+    requires { ⌜ CharPairs (now chars) ⌝ }
     ensures { λ r. ⌜ ValuesRead version (now (s .entry)) fields start index r ⌝ }
 {
     let mut field = fields;
@@ -77,7 +88,7 @@ fn block_values(s: &[u8], version: u32, fields: usize, start: usize, index: Inde
                 name_end: _,
                 next,
             } => {
-                let value = value_parser(s, at, version, type_id);
+                let value = value_parser(chars, s, at, version, type_id);
                 match value {
                     Parsed::Fault(f) => return Values::Refused(f),
                     Parsed::Next(end) => {
@@ -98,11 +109,19 @@ fn block_values(s: &[u8], version: u32, fields: usize, start: usize, index: Inde
 }
 
 // The field of that name, where the values start at `start` and the definitions at `fields`: its name is looked for in those that its value stands under.
-pub fn block_field(s: &[u8], version: u32, fields: usize, start: usize, name: &[u8]) -> FieldReply
+pub fn block_field(
+    chars: &CharPairs,
+    s: &[u8],
+    version: u32,
+    fields: usize,
+    start: usize,
+    name: &[u8],
+) -> FieldReply
+    requires { ⌜ CharPairs (now chars) ⌝ }
     ensures { λ r. ⌜ FieldRead version (now (s .entry)) fields start (now (name .entry)) r ⌝ }
 {
     let index = field_index(s, fields, name);
-    let values = block_values(s, version, fields, start, index);
+    let values = block_values(chars, s, version, fields, start, index);
     match values {
         Values::Refused(f) => FieldReply::Refused(f),
         Values::Read(value) => match value {

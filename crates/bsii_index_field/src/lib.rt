@@ -7,6 +7,7 @@ use crate::blocks::block_field;
 use crate::blocks::block_head;
 use crate::prototypes::Prototype;
 use crate::prototypes::prototype_parser;
+use bsii_base38::char_pairs;
 use bsii_file_field::fields::FieldReply;
 use bsii_index_record::RecordAt;
 use bsii_index_record::WIDTH;
@@ -34,10 +35,11 @@ fn look(s: &[u8], version: u32, at: usize, prototype: usize, name: &[u8]) -> Fie
     match under {
         Prototype::Refused(f) => FieldReply::Refused(f),
         Prototype::Prototype { id, fields } => {
-            let head = block_head(s, at, id);
+            let chars = char_pairs();
+            let head = block_head(&chars, s, at, id);
             match head {
                 Parsed::Fault(f) => FieldReply::Refused(f),
-                Parsed::Next(start) => block_field(s, version, fields, start, name),
+                Parsed::Next(start) => block_field(&chars, s, version, fields, start, name),
             }
         }
     }

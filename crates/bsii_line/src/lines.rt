@@ -1,4 +1,5 @@
 // Lines. Each but a string's asks once where it lies: inside the window, with room for the longest that it can be, it is stored; else its pieces ask.
+use bsii_base38::CharPairs;
 use bsii_numeric::numeric::store_numeric;
 use bsii_numeric::numeric::write_numeric;
 use bsii_opening::openings::put_opening;
@@ -18,6 +19,7 @@ use bsii_write_word::words::write_encoded_string;
 ghost use Rattle.bsii_format.specs.Digits.{decimal};
 ghost use Rattle.bsii_format.specs.Types.{numbers, id};
 ghost use Rattle.bsii_format.specs.Text.{stringText, fieldLine};
+ghost use Rattle.bsii_base38.specs.Pairs.{CharPairs};
 ghost use Rattle.bsii_value.specs.Kinds.{numericIs};
 ghost use Rattle.bsii_text_length.specs.Words.{encodedText};
 ghost use Rattle.bsii_window.specs.Window.{Wrote};
@@ -55,33 +57,35 @@ pub fn number_line(out: &mut [u8], to: usize, name: &[u8], raw: &[u8], kind: Num
 }
 
 // No accepted id has more than 2,033 bytes.
-pub fn id_line(out: &mut [u8], to: usize, name: &[u8], raw: &[u8]) -> usize
+pub fn id_line(chars: &CharPairs, out: &mut [u8], to: usize, name: &[u8], raw: &[u8]) -> usize
+    requires { ⌜ CharPairs (now chars) ⌝ }
     ensures { λ r. ⌜ LineWritten (now (name .entry)) (now (raw .entry)) id (now (out .entry)) to r (now (out .exit)) ⌝ }
 {
     if raw.len() <= 2033 {
         let place = overlap_of(out.len(), to, name.len() + 2 * raw.len() + 34);
         if let Overlap::Inside(start) = place {
             let next = store_opening(out, start, name);
-            let end = store_id(out, next, raw);
+            let end = store_id(chars, out, next, raw);
             return store_byte(out, end, LINE_END) + 0x8000_0000_0000_0000;
         }
     }
     let next = put_opening(out, to, name);
-    let end = write_id(out, next, raw);
+    let end = write_id(chars, out, next, raw);
     put(out, end, LINE_END)
 }
 
-pub fn word_line(out: &mut [u8], to: usize, name: &[u8], word: u64) -> usize
+pub fn word_line(chars: &CharPairs, out: &mut [u8], to: usize, name: &[u8], word: u64) -> usize
+    requires { ⌜ CharPairs (now chars) ⌝ }
     ensures { λ r. ⌜ Wrote (now (out .entry)) to (fieldLine (now (name .entry)) (encodedText word)) r (now (out .exit)) ⌝ }
 {
     let place = overlap_of(out.len(), to, name.len() + 18);
     if let Overlap::Inside(start) = place {
         let next = store_opening(out, start, name);
-        let end = store_encoded(out, next, word);
+        let end = store_encoded(chars, out, next, word);
         return store_byte(out, end, LINE_END) + 0x8000_0000_0000_0000;
     }
     let next = put_opening(out, to, name);
-    let end = write_encoded_string(out, next, word);
+    let end = write_encoded_string(chars, out, next, word);
     put(out, end, LINE_END)
 }
 

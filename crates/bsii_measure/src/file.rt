@@ -1,6 +1,7 @@
 // The whole file.
 use crate::walk::Measuring;
 use crate::walk::walk;
+use bsii_base38::char_pairs;
 use bsii_measure_block::sums::Sum;
 use bsii_order::order;
 use bsii_prototype::answers::Header;
@@ -23,7 +24,10 @@ fn measure_tree(file: &[u8], table: &mut [u32]) -> Measuring
     let header = header_parser(file);
     match header {
         Header::BadHeader(f) => return Measuring::Fault(f),
-        Header::Version(version) => return walk(file, version, 8, table),
+        Header::Version(version) => {
+            let chars = char_pairs();
+            return walk(&chars, file, version, 8, table);
+        }
     }
 }
 

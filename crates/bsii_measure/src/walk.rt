@@ -1,4 +1,5 @@
 // The walk over the records, up to the end record. What it calls for each record has no other caller, so that it is compiled into the loop.
+use bsii_base38::CharPairs;
 use bsii_measure_block::blocks::block_summed;
 use bsii_measure_block::sums::Sum;
 use bsii_measure_block::sums::Summed;
@@ -21,6 +22,7 @@ use bsii_tree::find;
 ghost use Prim.Native.Nat.{_≤_};
 ghost use lib.ListN.{length};
 ghost use Rattle.bsii_format.specs.File.{lengthLimit};
+ghost use Rattle.bsii_base38.specs.Pairs.{CharPairs};
 ghost use Rattle.bsii_tree.specs.Table.{Named};
 ghost use Rattle.bsii_measure.specs.Walks.{Standing, SumDefining, SumCarrying, SumStepped, SumWalks};
 
@@ -71,6 +73,7 @@ fn prototype_step(
 
 // A block of this id, whose own id starts at `id_at`, under the definition in force.
 fn block_step(
+    chars: &CharPairs,
     s: &[u8],
     version: u32,
     p: Progress,
@@ -80,13 +83,14 @@ fn block_step(
     id_at: usize,
 ) -> SumStep
     requires { ⌜ Standing (now s) p sum (now table) × (p .at ≤ «id_at») × («id_at» ≤ length (now s)) ⌝ }
+    requires { ⌜ CharPairs (now chars) ⌝ }
     ensures { λ r. ⌜ SumCarrying version (now (s .entry)) p sum (now (table .entry)) id «id_at» r ⌝ }
 {
     let found = find(s, table, p.rows, id);
     match found {
         FoundRow::Nothing => return SumStep::Refused(refused(UNDEFINED_PROTOTYPE, p.at)),
         FoundRow::At { in_force, last: _ } => {
-            let block = block_summed(s, version, size(in_force), id_at, sum);
+            let block = block_summed(chars, s, version, size(in_force), id_at, sum);
             match block {
                 Summed::Fault(f) => return SumStep::Refused(f),
                 Summed::Next { at, sum: more } => return SumStep::Go(
@@ -104,8 +108,16 @@ fn block_step(
 }
 
 // The record at p.
-fn record_step(s: &[u8], version: u32, p: Progress, sum: Sum, table: &mut [u32]) -> SumStep
+fn record_step(
+    chars: &CharPairs,
+    s: &[u8],
+    version: u32,
+    p: Progress,
+    sum: Sum,
+    table: &mut [u32],
+) -> SumStep
     requires { ⌜ Standing (now s) p sum (now table) ⌝ }
+    requires { ⌜ CharPairs (now chars) ⌝ }
     ensures { λ r. ⌜ SumStepped version (now (s .entry)) p sum (now (table .entry)) r (now (table .exit)) ⌝ }
 {
     let head = head_parser(s, p.at);
@@ -113,13 +125,14 @@ fn record_step(s: &[u8], version: u32, p: Progress, sum: Sum, table: &mut [u32])
         Head::End(next) => return SumStep::End(next),
         Head::BadHead(f) => return SumStep::Refused(f),
         Head::Prototype { id, name: _, next } => return prototype_step(s, p, sum, table, id, next),
-        Head::Block { id, next } => return block_step(s, version, p, sum, table, id, next),
+        Head::Block { id, next } => return block_step(chars, s, version, p, sum, table, id, next),
     }
 }
 
 // The records of a version from `start` on, with an empty table.
-pub fn walk(s: &[u8], version: u32, start: usize, table: &mut [u32]) -> Measuring
+pub fn walk(chars: &CharPairs, s: &[u8], version: u32, start: usize, table: &mut [u32]) -> Measuring
     requires { ⌜ (length (now s) ≤ lengthLimit) × (start ≤ length (now s)) ⌝ }
+    requires { ⌜ CharPairs (now chars) ⌝ }
     ensures { λ r. ⌜ SumWalks version (now (s .entry)) start (now (table .entry)) r (now (table .exit)) ⌝ }
 {
     let mut p = Progress {
@@ -130,7 +143,7 @@ pub fn walk(s: &[u8], version: u32, start: usize, table: &mut [u32]) -> Measurin
     };
     let mut sum = Sum { to: 0, missing: 0 };
     loop {
-        let step = record_step(s, version, p, sum, table);
+        let step = record_step(chars, s, version, p, sum, table);
         match step {
             SumStep::End(next) => return Measuring::Done(
                 Totals {

@@ -2,12 +2,14 @@
 use crate::fields::values_summed;
 use crate::sums::Sum;
 use crate::sums::Summed;
+use bsii_base38::CharPairs;
 use bsii_measure_string::answers::Measured;
 use bsii_measure_string::words::id_measured;
 use bsii_prototype::answers::NAME;
 use bsii_prototype::skip::fields_at;
 use bsii_string::answers::Parsed;
 ghost use mathlib.Core.Path.{_≡_};
+ghost use Rattle.bsii_base38.specs.Pairs.{CharPairs};
 ghost use Rattle.bsii_measure_block.specs.Sums.{Room};
 ghost use Rattle.bsii_measure_block.specs.Blocks.{framedBy, Framed, BlockSummed};
 
@@ -25,20 +27,28 @@ fn framed(sum: Sum, prototype: usize, first: usize, id: usize) -> Sum
 }
 
 // The block whose own id starts at `at`, under the prototype at the offset `prototype`. Both its lines are added in front of its values.
-pub fn block_summed(s: &[u8], version: u32, prototype: usize, at: usize, sum: Sum) -> Summed
+pub fn block_summed(
+    chars: &CharPairs,
+    s: &[u8],
+    version: u32,
+    prototype: usize,
+    at: usize,
+    sum: Sum,
+) -> Summed
     requires { ⌜ Room (now s) at sum ⌝ }
+    requires { ⌜ CharPairs (now chars) ⌝ }
     ensures { λ r. ⌜ BlockSummed version (now (s .entry)) prototype at sum r ⌝ }
 {
     let fields = fields_at(s, prototype);
     match fields {
         Parsed::Fault(f) => return Summed::Fault(f),
         Parsed::Next(first) => {
-            let id = id_measured(s, at);
+            let id = id_measured(chars, s, at);
             match id {
                 Measured::Fault(f) => return Summed::Fault(f),
                 Measured::Next { at: start, long } => {
                     let frame = framed(sum, prototype, first, long);
-                    return values_summed(s, version, first, start, frame);
+                    return values_summed(chars, s, version, first, start, frame);
                 }
             }
         }

@@ -2,6 +2,7 @@
 use crate::sums::Sum;
 use crate::sums::Summed;
 use crate::sums::with_missing;
+use bsii_base38::CharPairs;
 use bsii_definition::enums::EnumString;
 use bsii_definition::enums::enum_string;
 use bsii_definition::pairs::Definition;
@@ -13,6 +14,7 @@ use bsii_string::numbers::le_u32;
 use bsii_text_length::strings::string_length;
 ghost use mathlib.Core.Path.{_≡_};
 ghost use Prim.Native.Nat.{_<_};
+ghost use Rattle.bsii_base38.specs.Pairs.{CharPairs};
 ghost use Rattle.bsii_measure_block.specs.Sums.{Room};
 ghost use Rattle.bsii_definition.specs.Pairs.{InFile};
 ghost use Rattle.bsii_measure_block.specs.Fields.{EnumSummed, FieldSummed, ValuesSummed};
@@ -45,14 +47,22 @@ fn enum_summed(s: &[u8], at: usize, d: Definition, sum: Sum) -> Summed
 }
 
 // The value at a position, under its definition.
-fn field_summed(s: &[u8], version: u32, at: usize, d: Definition, sum: Sum) -> Summed
+fn field_summed(
+    chars: &CharPairs,
+    s: &[u8],
+    version: u32,
+    at: usize,
+    d: Definition,
+    sum: Sum,
+) -> Summed
     requires { ⌜ Room (now s) at sum × (0 < at) × InFile (now s) d ⌝ }
+    requires { ⌜ CharPairs (now chars) ⌝ }
     ensures { λ r. ⌜ FieldSummed version (now (s .entry)) at d sum r ⌝ }
 {
     if d.type_id == 0x37 {
         return enum_summed(s, at, d, sum);
     }
-    let value = value_measured(s, at, version, d.type_id, d.name_end - d.name);
+    let value = value_measured(chars, s, at, version, d.type_id, d.name_end - d.name);
     match value {
         Measured::Fault(f) => return Summed::Fault(f),
         Measured::Next { at: next, long } => return Summed::Next {
@@ -66,8 +76,16 @@ fn field_summed(s: &[u8], version: u32, at: usize, d: Definition, sum: Sum) -> S
 }
 
 // The values from `start` on, one for each definition from `fields` on.
-pub fn values_summed(s: &[u8], version: u32, fields: usize, start: usize, before: Sum) -> Summed
+pub fn values_summed(
+    chars: &CharPairs,
+    s: &[u8],
+    version: u32,
+    fields: usize,
+    start: usize,
+    before: Sum,
+) -> Summed
     requires { ⌜ Room (now s) start before × (0 < start) ⌝ }
+    requires { ⌜ CharPairs (now chars) ⌝ }
     ensures { λ r. ⌜ ValuesSummed version (now (s .entry)) fields start before r ⌝ }
 {
     let mut field = fields;
@@ -83,7 +101,7 @@ pub fn values_summed(s: &[u8], version: u32, fields: usize, start: usize, before
             name: field + 8,
             name_end: found.name_end,
         };
-        let value = field_summed(s, version, at, d, sum);
+        let value = field_summed(chars, s, version, at, d, sum);
         match value {
             Summed::Fault(f) => return Summed::Fault(f),
             Summed::Next { at: end, sum: more } => {

@@ -1,57 +1,99 @@
 -- Words and ids, measured.
-use mathlib.Core.Path.{_≡_, refl, sym, ap, _∙_}
-use Prim.Native.Nat.{ℕ, zero, suc, _+_, _-_, _≤_, _<_}
+use mathlib.Core.Path.{_≡_, refl, sym, ap, subst, _∙_}
+use Prim.Native.Nat.{ℕ, zero, suc, _+_, _-_, _^_, _≤_, _<_}
 use native.Mathlib.Omega.{arith}
-use mathlib.Core.Bool.{Bool, true, cond}
+use mathlib.Core.Bool.{Bool, cond}
+use mathlib.Core.Option.{Option, none, some, Option·getD}
 use mathlib.Core.List.{List, [], _∷_}
 use lib.ListN.{length, drop, length-append}
 use borrow.Author.Tests.{eq-eqb, ne-eqb}
-use Rattle.bsii_format.specs.Reader.{ok, fault, Reader, _>>=_, success, _<$>_, verify, repeat}
+use Rattle.bsii_format.specs.Replies.{zeroDigit}
+use Rattle.bsii_format.specs.Reader.{ok, fault, Reader, _>>=_, success, _<$>_, repeat}
 use Rattle.bsii_format.specs.Numbers.{number, leU64}
-use Rattle.bsii_format.specs.Strings.{spelled, characters, low63, encodedStrParser, Id, nameless, named, idParser}
-use Rattle.bsii_format.specs.Text.{encodedStringText, dotted, idText}
-use Rattle.bsii_format.proofs.Readers.{after-ok, cond-ok, is-true, ok-val, repeat-exact}
+use Rattle.bsii_format.specs.Strings.{base38, characters, low63, encodedStrParser, Id, nameless, named, idParser}
+use Rattle.bsii_format.specs.Text.{orEmpty, encodedStringText, dotted, idText}
+use Rattle.bsii_format.proofs.Readers.{after-ok, ok-val, repeat-exact}
 use Rattle.bsii_format.proofs.Parsers.{encodedStr-exact}
 use Rattle.bsii_format.proofs.Positions.{bind-ok, bind-fault}
-use Rattle.bsii_string.specs.Answers.{faultIs, wordOf, numOf64}
+use Rattle.bsii_string.specs.Answers.{faultIs, numOf64, refusedAt}
 use Rattle.bsii_string.specs.declared.answers.Refusal.{Refusal}
 use Rattle.bsii_string.specs.declared.answers.Num64.{Num64}
 use Rattle.bsii_string.specs.declared.answers.Num64.the-variants.{Got64, Short64}
-use Rattle.bsii_string.specs.declared.answers.Word.{Word}
-use Rattle.bsii_string.specs.declared.answers.Word.the-variants.{Low63, Refused}
-use Rattle.bsii_text_length.specs.Words.{spelling, encodedText}
-use Rattle.bsii_text_length.proofs.WordLaws.{characters-spelling, encoded-spelling}
-use Rattle.bsii_measure_string.specs.Measured.{measured, rowSize}
+use Rattle.bsii_word.specs.Words.{spelledAs}
+use Rattle.bsii_word.specs.declared.words.Spelled.the-variants.{Length, ZeroDigit}
+use Rattle.bsii_word.proofs.Base38.{lengthOf, accepted, not-accepted}
+use Rattle.bsii_word.proofs.WordLaws.{word-short as short, word-whole as whole, word-not as not-spelled}
+use Rattle.bsii_text_length.proofs.WordLaws.{characters-spelling, at-most-thirteen}
+use Rattle.bsii_measure_string.specs.Measured.{measured, rowSize, AtMost, WordMeasured}
+use Rattle.bsii_measure_string.specs.declared.answers.Measured.{Measured}
 use Rattle.bsii_measure_string.specs.declared.answers.Measured.the-variants.{Next, Fault}
-use Rattle.bsii_measure_string.proofs.Measures.{measured-ok, measured-map, refused-too, sum-next}
+use Rattle.bsii_measure_string.proofs.Measures.{measured-ok, measured-fault, measured-map, refused-too, sum-next}
 
-abbrev emptySize : ℕ → ℕ
-emptySize w = length (encodedStringText w)
+-- ---- a word by its characters
 
--- an accepted word is spelled
-word-spelled : (at : ℕ) (s : List ℕ) {w n : ℕ} {r : List ℕ} → encodedStrParser at s ≡ ok w n r → spelled w ≡ true
-unfolding encodedStrParser verify
-word-spelled at s e =
-    let q = after-ok ((low63 <$> leU64) at s) _ e in
-    let k = cond-ok (spelled (q .0)) (ok (q .0) (q .1) (q .2)) _ (q .4) in
-    ap spelled (sym (ok-val (k .1))) ∙ is-true (spelled (q .0)) (k .0)
+abbrev wordSize : ℕ → ℕ
+wordSize w = length (characters w)
 
-module _ (s : List ℕ) (at : ℕ) {r : Word} (e : wordOf s r ≡ encodedStrParser at (drop at s)) where
-  pub word-fault : {f : Refusal} → r ≡ Refused f → encodedStrParser at (drop at s) ≡ fault (faultIs f)
-  word-fault z = sym e ∙ ap (wordOf s) z
+length-characters : (n : ℕ) {k : ℕ} → lengthOf n ≡ Length k → k ≡ length (characters n)
+unfolding characters
+length-characters n = go (base38 n)
+  where
+    go : (o : Option (List ℕ)) {k : ℕ} → spelledAs o ≡ Length k → k ≡ length (Option·getD o [])
+    go none e = let z : _≡_ {A = ℕ} 0 1 = cc in absurd (omega arith)
+    go (some l) e = cc
 
-  pub word-ok : {w n : ℕ} → r ≡ Low63 w n → encodedStrParser at (drop at s) ≡ ok w n (drop n s)
-  word-ok z = sym e ∙ ap (wordOf s) z
-
-  -- as a value
-  pub encoded-fault : {f : Refusal} → r ≡ Refused f → Fault f ≡ measured emptySize (encodedStrParser at (drop at s))
+module _ (s : List ℕ) (at : ℕ) {x : Num64} (e : numOf64 s x ≡ number 8 at (drop at s)) where
+  pub word-short : {f : Refusal} → x ≡ Short64 f → WordMeasured s at (Fault f)
   unfolding measured
-  encoded-fault z = sym (ap (measured emptySize) (word-fault z))
+  word-short z = record { reads = sym (ap (measured wordSize) (short (drop at s) at (sym e ∙ ap (numOf64 s) z))); few = tt }
 
-  pub encoded-next : {w n long : ℕ} → r ≡ Low63 w n → long ≡ length (encodedText w) → Next n long ≡ measured emptySize (encodedStrParser at (drop at s))
-  unfolding measured
-  encoded-next {w} {n} z h =
-      ap (λ m. Next n m) (h ∙ ap length (sym (encoded-spelling w (word-spelled at (drop at s) (word-ok z))))) ∙ sym (ap (measured emptySize) (word-ok z))
+  module _ {n next : ℕ} (z : x ≡ Got64 n next) where
+    read : number 8 at (drop at s) ≡ ok n next (drop next s)
+    read = sym e ∙ ap (numOf64 s) z
+
+    pub word-zero : lengthOf (low63 n) ≡ ZeroDigit → {f : Refusal} → f ≡ refusedAt zeroDigit at → WordMeasured s at (Fault f)
+    unfolding measured low63
+    word-zero h k = record { reads = ap Fault k ∙ sym (ap (measured wordSize) (not-spelled (drop at s) at n next (drop next s) read (not-accepted (low63 n) h))); few = tt }
+
+    pub word-next : n < 2 ^ 64 → {k : ℕ} → lengthOf (low63 n) ≡ Length k → WordMeasured s at (Next next k)
+    unfolding measured low63
+    word-next l {k} h =
+        let a = accepted (low63 n) h in
+        let c = length-characters (low63 n) h in
+        record {
+          reads = ap (λ m. Next next m) c ∙ sym (ap (measured wordSize) (whole (drop at s) at n next (drop next s) read a));
+          few = omega (arith, c, ap length (characters-spelling (low63 n) a), at-most-thirteen (low63 n) (omega arith));
+        }
+
+-- as a value
+module _ (s : List ℕ) (at : ℕ) {r : Measured} (e : WordMeasured s at r) where
+  abbrev emptySize : ℕ → ℕ
+  emptySize w = length (encodedStringText w)
+
+  pub encoded-fault : {f : Refusal} → r ≡ Fault f → Fault f ≡ measured emptySize (encodedStrParser at (drop at s))
+  encoded-fault z = refused-too wordSize emptySize (encodedStrParser at (drop at s)) (encodedStrParser at (drop at s)) (λ f k. k) (sym z ∙ e .reads)
+
+  written : {n k m : ℕ} → r ≡ Next n k → ((l : List ℕ) → k ≡ length l → m ≡ length (orEmpty l)) → Next n m ≡ measured emptySize (encodedStrParser at (drop at s))
+  unfolding measured encodedStringText
+  written {n} z h =
+      let q = measured-ok encodedStr-exact wordSize s at (sym z ∙ e .reads) in
+      ap (λ i. Next n i) (h (characters (q .value)) (q .long)) ∙ sym (ap (measured emptySize) (q .reads))
+
+  pub encoded-none : {n k : ℕ} → r ≡ Next n k → k ≡ 0 → Next n 2 ≡ measured emptySize (encodedStrParser at (drop at s))
+  unfolding orEmpty
+  encoded-none {k = k} z h = written z go
+    where
+      go : (l : List ℕ) → k ≡ length l → 2 ≡ length (orEmpty l)
+      go [] d = refl
+      go (x ∷ l) d = absurd (omega arith)
+
+  pub encoded-some : {n k : ℕ} → r ≡ Next n k → (k ≡ 0 → ⊥) → Next n k ≡ measured emptySize (encodedStrParser at (drop at s))
+  unfolding orEmpty
+  encoded-some {k = k} z h = written z go
+    where
+      go : (l : List ℕ) → k ≡ length l → k ≡ length (orEmpty l)
+      go [] d = absurd (h d)
+      go (x ∷ l) d = d
 
 -- ---- the loop over an id's words
 
@@ -59,15 +101,20 @@ module _ (s : List ℕ) (at : ℕ) {r : Word} (e : wordOf s r ≡ encodedStrPars
 abbrev pub dottedSize : ℕ → ℕ → ℕ
 dottedSize i w = 1 + length (characters w)
 
-module _ (s : List ℕ) (count left at long : ℕ) {r : Word} (e : wordOf s r ≡ encodedStrParser at (drop at s)) where
-  pub words-next : {w n l : ℕ} → 0 < left → left ≤ count → r ≡ Low63 w n → l ≡ length (spelling w)
+pub word-fault : (s : List ℕ) (at : ℕ) {r : Measured} → WordMeasured s at r → {f : Refusal} → r ≡ Fault f → encodedStrParser at (drop at s) ≡ fault (faultIs f)
+word-fault s at e z = measured-fault wordSize (encodedStrParser at (drop at s)) (sym z ∙ e .reads)
+
+pub word-few : {s : List ℕ} {at : ℕ} {r : Measured} → WordMeasured s at r → {n l : ℕ} → r ≡ Next n l → l ≤ 13
+word-few e z = subst (AtMost 13) z (e .few)
+
+module _ (s : List ℕ) (count left at long : ℕ) {r : Measured} (e : WordMeasured s at r) where
+  pub words-next : {n l : ℕ} → 0 < left → left ≤ count → r ≡ Next n l
       → measured (λ k. long + (1 + l) + rowSize dottedSize (count - (left - 1)) k) (repeat (left - 1) encodedStrParser n (drop n s))
       ≡ measured (λ k. long + rowSize dottedSize (count - left) k) (repeat left encodedStrParser at (drop at s))
-  words-next {w} {n} {l} h k z y =
-      let q = word-ok s at e z in
+  words-next {n} {l} h k z =
+      let q = measured-ok encodedStr-exact wordSize s at (sym z ∙ e .reads) in
       let i : count - (left - 1) ≡ count - left + 1 = omega arith in
-      let d : 1 + l ≡ dottedSize (count - left) w = ap (λ m. 1 + m) (y ∙ ap length (sym (characters-spelling w (word-spelled at (drop at s) q)))) in
-      rw (i, d) (sum-next encodedStrParser dottedSize s left at (count - left) long h q)
+      rw (i, q .long) (sum-next encodedStrParser dottedSize s left at (count - left) long h (q .reads))
 
 -- ---- ids
 

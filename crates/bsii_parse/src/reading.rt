@@ -2,6 +2,7 @@
 use crate::walk::Compared;
 use crate::walk::Walked;
 use crate::walk::walk;
+use bsii_base38::char_pairs;
 use bsii_index_record::WIDTH;
 use bsii_order::order;
 use bsii_prototype::answers::Header;
@@ -39,7 +40,10 @@ pub fn compare(file: &[u8], table: &mut [u32], index: &[u8], width: usize) -> Co
     let header = header_parser(file);
     match header {
         Header::BadHeader(f) => return Compared::Refused(f),
-        Header::Version(version) => return walk(file, version, 8, table, index, width),
+        Header::Version(version) => {
+            let chars = char_pairs();
+            return walk(&chars, file, version, 8, table, index, width);
+        }
     }
 }
 

@@ -1,4 +1,5 @@
 // The reading walk over the records, up to the end record.
+use bsii_base38::CharPairs;
 use bsii_block::block_parser;
 use bsii_index_record::IndexRecord;
 use bsii_index_record::agree;
@@ -21,6 +22,7 @@ ghost use mathlib.Core.Bool.{false};
 ghost use lib.ListN.{length};
 ghost use mathlib.Core.Path.{_≡_};
 ghost use Rattle.bsii_format.specs.File.{lengthLimit};
+ghost use Rattle.bsii_base38.specs.Pairs.{CharPairs};
 ghost use Rattle.bsii_tree.specs.Table.{Named};
 ghost use Rattle.bsii_index_record.specs.Records.{Width};
 ghost use Rattle.bsii_parse.specs.Walks.{overPrototype, overBlock, Ready, Defining, Carrying, Stepped, Compares};
@@ -121,8 +123,17 @@ fn prototype_step(s: &[u8], p: Progress, table: &mut [u32], id: u32, fields: usi
 }
 
 // A block of this id, whose own id starts at `id_at`, under the definition in force.
-fn block_step(s: &[u8], version: u32, p: Progress, table: &[u32], id: u32, id_at: usize) -> ReadStep
+fn block_step(
+    chars: &CharPairs,
+    s: &[u8],
+    version: u32,
+    p: Progress,
+    table: &[u32],
+    id: u32,
+    id_at: usize,
+) -> ReadStep
     requires { ⌜ Ready (now s) p (now table) ⌝ }
+    requires { ⌜ CharPairs (now chars) ⌝ }
     ensures { λ r. ⌜ Carrying version (now (s .entry)) p (now (table .entry)) false id «id_at» r ⌝ }
 {
     let found = find(s, table, p.rows, id);
@@ -130,15 +141,22 @@ fn block_step(s: &[u8], version: u32, p: Progress, table: &[u32], id: u32, id_at
         FoundRow::Nothing => return ReadStep::Refused(refused(UNDEFINED_PROTOTYPE, p.at)),
         FoundRow::At { in_force, last: _ } => {
             let prototype = size(in_force);
-            let end = block_parser(s, version, prototype, id_at);
+            let end = block_parser(chars, s, version, prototype, id_at);
             return behind_block(p, prototype, end);
         }
     }
 }
 
 // The record at p.
-fn record_step(s: &[u8], version: u32, p: Progress, table: &mut [u32]) -> ReadStep
+fn record_step(
+    chars: &CharPairs,
+    s: &[u8],
+    version: u32,
+    p: Progress,
+    table: &mut [u32],
+) -> ReadStep
     requires { ⌜ Ready (now s) p (now table) ⌝ }
+    requires { ⌜ CharPairs (now chars) ⌝ }
     ensures { λ r. ⌜ Stepped version (now (s .entry)) p (now (table .entry)) false r (now (table .exit)) ⌝ }
 {
     let head = head_parser(s, p.at);
@@ -146,7 +164,7 @@ fn record_step(s: &[u8], version: u32, p: Progress, table: &mut [u32]) -> ReadSt
         Head::End(next) => return ReadStep::End(next),
         Head::BadHead(f) => return ReadStep::Refused(f),
         Head::Prototype { id, name: _, next } => return prototype_step(s, p, table, id, next),
-        Head::Block { id, next } => return block_step(s, version, p, table, id, next),
+        Head::Block { id, next } => return block_step(chars, s, version, p, table, id, next),
     }
 }
 
@@ -166,6 +184,7 @@ pub fn entry_of(at: usize, next: usize, under: Under) -> IndexRecord
 // The records of a version from `start` on, with an empty table, held against an index, an empty one where none is asked about: so there is one loop, and
 // what it calls for each record is compiled into it.
 pub fn walk(
+    chars: &CharPairs,
     s: &[u8],
     version: u32,
     start: usize,
@@ -174,6 +193,7 @@ pub fn walk(
     width: usize,
 ) -> Compared
     requires { ⌜ (length (now s) ≤ lengthLimit) × (start ≤ length (now s)) × Width width ⌝ }
+    requires { ⌜ CharPairs (now chars) ⌝ }
     ensures { λ r. ⌜ Compares version (now (s .entry)) start (now (table .entry)) (now (index .entry)) width r (now (table .exit)) ⌝ }
 {
     let mut p = Progress {
@@ -184,7 +204,7 @@ pub fn walk(
     };
     let mut agreed: usize = 0;
     loop {
-        let step = record_step(s, version, p, table);
+        let step = record_step(chars, s, version, p, table);
         match step {
             ReadStep::End(next) => return Compared::Read {
                 totals: Totals {

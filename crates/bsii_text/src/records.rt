@@ -1,4 +1,6 @@
 // The blocks of a file, and the frame around them.
+use bsii_base38::CharPairs;
+use bsii_base38::char_pairs;
 use bsii_string::answers::Refusal;
 use bsii_string::numbers::size;
 use bsii_table::FoundRow;
@@ -15,6 +17,7 @@ ghost use lib.ListN.{length};
 ghost use Rattle.bsii_format.specs.File.{lengthLimit};
 ghost use Rattle.bsii_format.specs.Text.{valueText};
 ghost use Rattle.bsii_format.specs.BlockText.{everyBlock};
+ghost use Rattle.bsii_base38.specs.Pairs.{CharPairs};
 ghost use Rattle.bsii_table.specs.Rows.{Rows};
 ghost use Rattle.bsii_walk.specs.Seek.{Readable};
 ghost use Rattle.bsii_text.specs.Records.{BlockStep, PrototypeStep, RecordWritten, RecordsWritten, BsiiWritten};
@@ -34,6 +37,7 @@ pub enum Texts {
 
 // The block at an offset, of that prototype id, whose id starts at `id`.
 fn write_block(
+    chars: &CharPairs,
     out: &mut [u8],
     to: usize,
     s: &[u8],
@@ -45,6 +49,7 @@ fn write_block(
     id: usize,
 ) -> WriteStep
     requires { ⌜ Rows (now table) rows ⌝ }
+    requires { ⌜ CharPairs (now chars) ⌝ }
     ensures { λ r. ⌜ BlockStep valueText version (now (s .entry)) offset (now (table .entry)) rows «prototype_id» id (now (out .entry)) to r (now (out .exit)) ⌝ }
 {
     let found = find(table, rows, prototype_id);
@@ -53,7 +58,7 @@ fn write_block(
         FoundRow::At { in_force, last } => {
             let under = size(in_force);
             let named = size(last);
-            let written = write_data_block(out, to, s, version, offset, id, under, named);
+            let written = write_data_block(chars, out, to, s, version, offset, id, under, named);
             match written {
                 Written::Refused(f) => return WriteStep::Refused(f),
                 Written::Next { at, to: end } => return WriteStep::Go { at, to: end },
@@ -82,6 +87,7 @@ fn pass_prototype(
 }
 
 fn write_record(
+    chars: &CharPairs,
     out: &mut [u8],
     to: usize,
     s: &[u8],
@@ -91,6 +97,7 @@ fn write_record(
     rows: usize,
 ) -> WriteStep
     requires { ⌜ (length (now s) ≤ lengthLimit) × (at ≤ length (now s)) × Rows (now table) rows ⌝ }
+    requires { ⌜ CharPairs (now chars) ⌝ }
     ensures { λ r. ⌜ RecordWritten valueText everyBlock version (now (s .entry)) at (now (table .entry)) rows (now (out .entry)) to r (now (table .exit)) (now (out .exit)) ⌝ }
 {
     let kind = kind_at(s, at);
@@ -98,6 +105,7 @@ fn write_record(
         RecordKind::Ends => return WriteStep::End,
         RecordKind::Defines(id) => return pass_prototype(to, s, at, table, rows, id),
         RecordKind::Carries { id, next } => return write_block(
+            chars,
             out,
             to,
             s,
@@ -113,6 +121,7 @@ fn write_record(
 
 // The blocks of the records from `start` on.
 fn write_records(
+    chars: &CharPairs,
     out: &mut [u8],
     to: usize,
     s: &[u8],
@@ -122,12 +131,13 @@ fn write_records(
     rows: usize,
 ) -> Texts
     requires { ⌜ Readable version (now s) start (now table) rows ⌝ }
+    requires { ⌜ CharPairs (now chars) ⌝ }
     ensures { λ r. ⌜ RecordsWritten valueText everyBlock version (now (s .entry)) start (now (table .entry)) rows (now (out .entry)) to r (now (table .exit)) (now (out .exit)) ⌝ }
 {
     let mut at = start;
     let mut here = to;
     loop {
-        let step = write_record(out, here, s, version, at, table, rows);
+        let step = write_record(chars, out, here, s, version, at, table, rows);
         match step {
             WriteStep::End => return Texts::To(here),
             WriteStep::Refused(f) => return Texts::Refused(f),
@@ -152,7 +162,8 @@ pub fn write_bsii(
     ensures { λ r. ⌜ BsiiWritten valueText everyBlock version (now (s .entry)) start (now (table .entry)) rows (now (out .entry)) r (now (table .exit)) (now (out .exit)) ⌝ }
 {
     let opening = put_all(out, 0x8000_0000_0000_0000, b"SiiNunit\n{\n");
-    let blocks = write_records(out, opening, s, version, start, table, rows);
+    let chars = char_pairs();
+    let blocks = write_records(&chars, out, opening, s, version, start, table, rows);
     match blocks {
         Texts::Refused(f) => return Texts::Refused(f),
         Texts::To(end) => return Texts::To(put_all(out, end, b"}\n")),

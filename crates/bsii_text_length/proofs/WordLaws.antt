@@ -11,7 +11,8 @@ use lib.ListN.{length, getD}
 use Rattle.bsii_format.specs.Strings.{charEncodings, digitThen, base38From, base38, isSome, spelled, characters}
 use Rattle.bsii_format.specs.Text.{orEmpty, encodedStringText}
 use Rattle.bsii_format.proofs.Lists.{lt-or-le}
-use Rattle.bsii_text_length.specs.Words.{charOf, spellingFrom, spelling, encodedText}
+use Rattle.bsii_base38.specs.Pairs.{charOf}
+use Rattle.bsii_text_length.specs.Words.{spellingFrom, spelling, encodedText}
 
 -- more fuel than the rest changes nothing
 fuel : (f g n : ℕ) → n ≤ f → n ≤ g → spellingFrom f n ≡ spellingFrom g n

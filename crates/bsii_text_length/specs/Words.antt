@@ -1,13 +1,8 @@
--- The text of any word: that of an accepted one has no digit 0 and is the format's.
+-- The text of any word, with the mark for each digit 0: an accepted word has none, and its text is the format's.
 use Prim.Native.Nat.{ℕ, zero, suc, _/_, _%_}
-use mathlib.Core.List.{List, [], _∷_, _++_}
-use lib.ListN.{getD}
+use mathlib.Core.List.{List, [], _∷_}
 use Rattle.bsii_format.specs.Ascii.{ascii}
-use Rattle.bsii_format.specs.Strings.{charEncodings}
-
--- `?` stands in for a digit 0
-unfoldable pub charOf : ℕ → ℕ
-charOf d = getD (ascii "?" ++ charEncodings) d 0
+use Rattle.bsii_base38.specs.Pairs.{charOf}
 
 -- `fuel` is at least the rest, so it never runs out
 unfoldable pub spellingFrom : ℕ → ℕ → List ℕ

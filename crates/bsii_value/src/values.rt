@@ -6,6 +6,7 @@ use crate::types::arity;
 use crate::types::byte_count;
 use crate::types::shape_of;
 use crate::types::width;
+use bsii_base38::CharPairs;
 use bsii_string::answers::Num;
 use bsii_string::answers::Parsed;
 use bsii_string::answers::UNLISTED_TYPE;
@@ -25,6 +26,7 @@ ghost use Rattle.bsii_format.specs.Reader.{repeat};
 ghost use Rattle.bsii_format.specs.Numbers.{number};
 ghost use Rattle.bsii_format.specs.Types.{numbers, many};
 ghost use Rattle.bsii_format.specs.Values.{elementParser, shapeParser, valueParser};
+ghost use Rattle.bsii_base38.specs.Pairs.{CharPairs};
 ghost use Rattle.bsii_string.specs.Answers.{endOf};
 ghost use Rattle.bsii_value.specs.Kinds.{numericIs, kindIs};
 
@@ -72,24 +74,26 @@ pub fn numeric_end(s: &[u8], at: usize, n: Numeric) -> Parsed
     Parsed::Next(end)
 }
 
-pub fn element_parser(s: &[u8], at: usize, kind: Kind) -> Parsed
+pub fn element_parser(chars: &CharPairs, s: &[u8], at: usize, kind: Kind) -> Parsed
+    requires { ⌜ CharPairs (now chars) ⌝ }
     ensures { λ r. ⌜ r ≡ endOf (elementParser (kindIs kind) at (drop at (now (s .entry)))) ⌝ }
 {
     match kind {
         Kind::Numbers(n) => numeric_end(s, at, n),
         Kind::String => str_end(s, at),
-        Kind::EncodedString => word_end(s, at),
-        Kind::Id => id_parser(s, at),
+        Kind::EncodedString => word_end(chars, s, at),
+        Kind::Id => id_parser(chars, s, at),
     }
 }
 
-fn elements_end(s: &[u8], start: usize, count: u32, kind: Kind) -> Parsed
+fn elements_end(chars: &CharPairs, s: &[u8], start: usize, count: u32, kind: Kind) -> Parsed
+    requires { ⌜ CharPairs (now chars) ⌝ }
     ensures { λ r. ⌜ r ≡ endOf (repeat count (elementParser (kindIs kind)) start (drop start (now (s .entry)))) ⌝ }
 {
     let mut left = count;
     let mut at = start;
     while 0 < left {
-        let element = element_parser(s, at, kind);
+        let element = element_parser(chars, s, at, kind);
         match element {
             Parsed::Next(next) => {
                 at = next;
@@ -101,7 +105,8 @@ fn elements_end(s: &[u8], start: usize, count: u32, kind: Kind) -> Parsed
     Parsed::Next(at)
 }
 
-fn array_parser(s: &[u8], at: usize, kind: Kind) -> Parsed
+fn array_parser(chars: &CharPairs, s: &[u8], at: usize, kind: Kind) -> Parsed
+    requires { ⌜ CharPairs (now chars) ⌝ }
     ensures { λ r. ⌜ r ≡ endOf (shapeParser (some (many (kindIs kind))) at (drop at (now (s .entry)))) ⌝ }
 {
     let count = le_u32(s, at);
@@ -109,12 +114,13 @@ fn array_parser(s: &[u8], at: usize, kind: Kind) -> Parsed
         Num::Short(f) => Parsed::Fault(f),
         Num::Got(n, next) => match kind {
             Kind::Numbers(form) => numbers_end(s, next, product(n, arity(form)), width(form)),
-            _ => elements_end(s, next, n, kind),
+            _ => elements_end(chars, s, next, n, kind),
         },
     }
 }
 
-pub fn value_parser(s: &[u8], at: usize, version: u32, type_id: u32) -> Parsed
+pub fn value_parser(chars: &CharPairs, s: &[u8], at: usize, version: u32, type_id: u32) -> Parsed
+    requires { ⌜ CharPairs (now chars) ⌝ }
     ensures { λ r. ⌜ r ≡ endOf (valueParser version «type_id» at (drop at (now (s .entry)))) ⌝ }
 {
     let shape = shape_of(version, type_id);
@@ -124,10 +130,10 @@ pub fn value_parser(s: &[u8], at: usize, version: u32, type_id: u32) -> Parsed
         Shape::One(kind) => match kind {
             Kind::Numbers(n) => return numeric_end(s, at, n),
             Kind::String => return str_end(s, at),
-            Kind::EncodedString => return word_end(s, at),
-            Kind::Id => return id_parser(s, at),
+            Kind::EncodedString => return word_end(chars, s, at),
+            Kind::Id => return id_parser(chars, s, at),
         },
-        Shape::Many(kind) => return array_parser(s, at, kind),
+        Shape::Many(kind) => return array_parser(chars, s, at, kind),
         Shape::Unlisted => return Parsed::Fault(refused(UNLISTED_TYPE, at)),
     }
 }

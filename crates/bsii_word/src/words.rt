@@ -1,4 +1,7 @@
 // Encoded words and ids.
+use bsii_base38::CharPairs;
+use bsii_base38::has_zero;
+use bsii_base38::low_zero;
 use bsii_string::answers::Num;
 use bsii_string::answers::Num64;
 use bsii_string::answers::Parsed;
@@ -10,44 +13,50 @@ use bsii_string::numbers::le_u8;
 use bsii_string::numbers::le_u64;
 use bsii_string::numbers::left;
 ghost use mathlib.Core.Path.{_≡_};
-ghost use Prim.Native.Nat.{_<_};
 ghost use lib.ListN.{drop};
 ghost use Rattle.bsii_format.specs.Reader.{repeat};
 ghost use Rattle.bsii_format.specs.Numbers.{number};
-ghost use Rattle.bsii_format.specs.Strings.{spelled as spelledOf, encodedStrParser, idParser};
+ghost use Rattle.bsii_format.specs.Strings.{base38, encodedStrParser, idParser};
+ghost use Rattle.bsii_base38.specs.Pairs.{CharPairs};
 ghost use Rattle.bsii_string.specs.Answers.{wordOf, endOf};
+ghost use Rattle.bsii_word.specs.Words.{spelledAs};
 
-// Whether no digit to base 38 is 0, of two at most: only the last can be.
-fn short_spelled(n: u64) -> bool
-    requires { ⌜ n < 1444 ⌝ }
-    ensures { λ r. ⌜ r ≡ spelledOf n ⌝ }
-{
-    if n == 0 {
-        return true;
-    }
-    n % 38 != 0
+// How many characters a word has, or that a digit is 0.
+pub enum Spelled {
+    Length(usize),
+    ZeroDigit,
 }
 
-// Whether no digit to base 38 is 0. Two digits a turn, 1444 being the square of 38: half as many divisions wait for the one before, and the digits are
-// those of a remainder below 1444.
-pub fn spelled(n: u64) -> bool
-    ensures { λ r. ⌜ r ≡ spelledOf n ⌝ }
+// Two digits a turn: half as many divisions wait for the one before. Above the last digit the rest is zero, which is no fault: so of the last one or two
+// only the lower is asked about.
+pub fn spelled_length(chars: &CharPairs, n: u64) -> Spelled
+    requires { ⌜ CharPairs (now chars) ⌝ }
+    ensures { λ r. ⌜ r ≡ spelledAs (base38 n) ⌝ }
 {
     let mut rest = n;
+    let mut long: usize = 0;
     while 1443 < rest {
-        let pair = rest % 1444;
-        if pair % 38 == 0 {
-            return false;
+        let above = rest / 1444;
+        if has_zero(chars, rest - above * 1444) {
+            return Spelled::ZeroDigit;
         }
-        if pair < 38 {
-            return false;
-        }
-        rest = rest / 1444;
+        rest = above;
+        long += 2;
     }
-    short_spelled(rest)
+    if rest == 0 {
+        return Spelled::Length(long);
+    }
+    if low_zero(chars, rest) {
+        return Spelled::ZeroDigit;
+    }
+    if rest < 38 {
+        return Spelled::Length(long + 1);
+    }
+    Spelled::Length(long + 2)
 }
 
-pub fn encoded_str_parser(s: &[u8], at: usize) -> Word
+pub fn encoded_str_parser(chars: &CharPairs, s: &[u8], at: usize) -> Word
+    requires { ⌜ CharPairs (now chars) ⌝ }
     ensures { λ r. ⌜ wordOf (now (s .entry)) r ≡ encodedStrParser at (drop at (now (s .entry))) ⌝ }
 {
     let word = le_u64(s, at);
@@ -55,32 +64,34 @@ pub fn encoded_str_parser(s: &[u8], at: usize) -> Word
         Num64::Short64(f) => Word::Refused(f),
         Num64::Got64(n, next) => {
             let low = n % 0x8000_0000_0000_0000;
-            if spelled(low) {
-                Word::Low63(low, next)
-            } else {
-                Word::Refused(refused(ZERO_DIGIT, at))
+            let spelling = spelled_length(chars, low);
+            match spelling {
+                Spelled::Length(_) => Word::Low63(low, next),
+                Spelled::ZeroDigit => Word::Refused(refused(ZERO_DIGIT, at)),
             }
         }
     }
 }
 
-pub fn word_end(s: &[u8], at: usize) -> Parsed
+pub fn word_end(chars: &CharPairs, s: &[u8], at: usize) -> Parsed
+    requires { ⌜ CharPairs (now chars) ⌝ }
     ensures { λ r. ⌜ r ≡ endOf (encodedStrParser at (drop at (now (s .entry)))) ⌝ }
 {
-    let word = encoded_str_parser(s, at);
+    let word = encoded_str_parser(chars, s, at);
     match word {
         Word::Low63(_, next) => Parsed::Next(next),
         Word::Refused(f) => Parsed::Fault(f),
     }
 }
 
-fn words_end(s: &[u8], start: usize, count: u32) -> Parsed
+fn words_end(chars: &CharPairs, s: &[u8], start: usize, count: u32) -> Parsed
+    requires { ⌜ CharPairs (now chars) ⌝ }
     ensures { λ r. ⌜ r ≡ endOf (repeat count encodedStrParser start (drop start (now (s .entry)))) ⌝ }
 {
     let mut left = count;
     let mut at = start;
     while 0 < left {
-        let word = word_end(s, at);
+        let word = word_end(chars, s, at);
         match word {
             Parsed::Next(next) => {
                 at = next;
@@ -102,7 +113,8 @@ fn u64_end(s: &[u8], at: usize) -> Parsed
     Parsed::Next(at + 8)
 }
 
-pub fn id_parser(s: &[u8], at: usize) -> Parsed
+pub fn id_parser(chars: &CharPairs, s: &[u8], at: usize) -> Parsed
+    requires { ⌜ CharPairs (now chars) ⌝ }
     ensures { λ r. ⌜ r ≡ endOf (idParser at (drop at (now (s .entry)))) ⌝ }
 {
     let count = le_u8(s, at);
@@ -112,7 +124,7 @@ pub fn id_parser(s: &[u8], at: usize) -> Parsed
             if n == 0xff {
                 return u64_end(s, next);
             }
-            words_end(s, next, n)
+            words_end(chars, s, next, n)
         }
     }
 }

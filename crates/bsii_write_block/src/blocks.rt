@@ -1,4 +1,5 @@
 // Data blocks.
+use bsii_base38::CharPairs;
 use bsii_definition::pairs::Definition;
 use bsii_definition::pairs::Pair;
 use bsii_definition::pairs::pair_at;
@@ -19,6 +20,7 @@ use bsii_write_value::values::Lines;
 ghost use Prim.Native.Nat.{_+_, _≤_};
 ghost use lib.ListN.{length};
 ghost use Rattle.bsii_format.specs.Text.{valueText};
+ghost use Rattle.bsii_base38.specs.Pairs.{CharPairs};
 ghost use Rattle.bsii_write_block.specs.Blocks.{FieldTurned, FieldsWritten, BodyWritten, BlockWritten, SameFields};
 
 // The offset behind what was written, and the position behind its text; or a refusal.
@@ -42,7 +44,8 @@ pub enum FieldTurn {
 }
 
 // The next field.
-fn write_next(out: &mut [u8], s: &[u8], version: u32, p: FieldPlace) -> FieldTurn
+fn write_next(chars: &CharPairs, out: &mut [u8], s: &[u8], version: u32, p: FieldPlace) -> FieldTurn
+    requires { ⌜ CharPairs (now chars) ⌝ }
     ensures { λ r. ⌜ FieldTurned valueText version (now (s .entry)) p (now (out .entry)) r (now (out .exit)) ⌝ }
 {
     let at = p.at;
@@ -64,7 +67,7 @@ fn write_next(out: &mut [u8], s: &[u8], version: u32, p: FieldPlace) -> FieldTur
                 name,
                 name_end,
             };
-            let lines = write_field(out, p.to, s, at, version, type_id, last);
+            let lines = write_field(chars, out, p.to, s, at, version, type_id, last);
             match lines {
                 Lines::NotInList => return FieldTurn::Refused(refused(ENUM_VALUE, at)),
                 Lines::Next {
@@ -83,6 +86,7 @@ fn write_next(out: &mut [u8], s: &[u8], version: u32, p: FieldPlace) -> FieldTur
 
 // The fields of the values from `start` on, which stand under the definitions from `fields` on and are named by those from `last_fields` on.
 fn write_fields(
+    chars: &CharPairs,
     out: &mut [u8],
     to: usize,
     s: &[u8],
@@ -91,6 +95,7 @@ fn write_fields(
     fields: usize,
     last_fields: usize,
 ) -> Written
+    requires { ⌜ CharPairs (now chars) ⌝ }
     ensures { λ r. ⌜ FieldsWritten valueText version (now (s .entry)) start fields «last_fields» (now (out .entry)) to r (now (out .exit)) ⌝ }
 {
     let mut p = FieldPlace {
@@ -100,7 +105,7 @@ fn write_fields(
         to,
     };
     loop {
-        let turn = write_next(out, s, version, p);
+        let turn = write_next(chars, out, s, version, p);
         match turn {
             FieldTurn::End => return Written::Next { at: p.at, to: p.to },
             FieldTurn::Refused(f) => return Written::Refused(f),
@@ -113,6 +118,7 @@ fn write_fields(
 
 // A block whose definitions start at `fields`, with its name from `name` to `last_fields`, where the last ones start, and its id from `id` to `start`.
 fn write_body(
+    chars: &CharPairs,
     out: &mut [u8],
     to: usize,
     s: &[u8],
@@ -124,10 +130,11 @@ fn write_body(
     last_fields: usize,
 ) -> Written
     requires { ⌜ (id ≤ start) × (start ≤ length (now s)) × (name ≤ «last_fields») × («last_fields» ≤ length (now s)) ⌝ }
+    requires { ⌜ CharPairs (now chars) ⌝ }
     ensures { λ r. ⌜ BodyWritten valueText version (now (s .entry)) id start fields name «last_fields» (now (out .entry)) to r (now (out .exit)) ⌝ }
 {
-    let opening = write_opening(out, to, &s[name..last_fields], &s[id..start]);
-    let body = write_fields(out, opening, s, version, start, fields, last_fields);
+    let opening = write_opening(chars, out, to, &s[name..last_fields], &s[id..start]);
+    let body = write_fields(chars, out, opening, s, version, start, fields, last_fields);
     match body {
         Written::Refused(f) => return Written::Refused(f),
         Written::Next { at, to: end } => {
@@ -151,6 +158,7 @@ fn same_fields(s: &[u8], in_force: usize, last: usize, fields: usize, last_field
 
 // The block at an offset whose id starts at `id`; its definition in force and its last one stand at these offsets.
 pub fn write_data_block(
+    chars: &CharPairs,
     out: &mut [u8],
     to: usize,
     s: &[u8],
@@ -160,6 +168,7 @@ pub fn write_data_block(
     in_force: usize,
     last: usize,
 ) -> Written
+    requires { ⌜ CharPairs (now chars) ⌝ }
     ensures { λ r. ⌜ BlockWritten valueText version (now (s .entry)) offset id «in_force» last (now (out .entry)) to r (now (out .exit)) ⌝ }
 {
     let list = fields_at(s, in_force);
@@ -178,5 +187,16 @@ pub fn write_data_block(
         return Written::Refused(refused(FIELD_COUNT, offset));
     }
     let name = last + NAME;
-    write_body(out, to, s, version, id, start, fields, name, last_fields)
+    write_body(
+        chars,
+        out,
+        to,
+        s,
+        version,
+        id,
+        start,
+        fields,
+        name,
+        last_fields,
+    )
 }

@@ -1,4 +1,5 @@
 // The element i of an array, on a line of its own.
+use bsii_base38::CharPairs;
 use bsii_definition::enums::EnumString;
 use bsii_definition::pairs::Definition;
 use bsii_element_line::lines::id_element;
@@ -15,6 +16,7 @@ use bsii_value::values::numeric_end;
 use bsii_write_value::values::Lines;
 use bsii_write_value::values::enum_text;
 ghost use Rattle.bsii_format.specs.Types.{enum, numbers, string, encodedString, id};
+ghost use Rattle.bsii_base38.specs.Pairs.{CharPairs};
 ghost use Rattle.bsii_value.specs.Kinds.{numericIs};
 ghost use Rattle.bsii_definition.specs.Pairs.{InFile};
 ghost use Rattle.bsii_write_value.specs.Lines.{IndexedWritten};
@@ -102,6 +104,7 @@ pub fn write_string_element(
 }
 
 pub fn write_word_element(
+    chars: &CharPairs,
     out: &mut [u8],
     to: usize,
     s: &[u8],
@@ -110,6 +113,7 @@ pub fn write_word_element(
     i: u32,
 ) -> Lines
     requires { ⌜ InFile (now s) d ⌝ }
+    requires { ⌜ CharPairs (now chars) ⌝ }
     ensures { λ r. ⌜ IndexedWritten (now (s .entry)) at encodedString d i (now (out .entry)) to r (now (out .exit)) ⌝ }
 {
     let number = le_u64(s, at);
@@ -120,13 +124,21 @@ pub fn write_word_element(
             let name_end = d.name_end;
             return Lines::Next {
                 at: next,
-                to: word_element(out, to, &s[name..name_end], i, n % 0x8000_0000_0000_0000),
+                to: word_element(
+                    chars,
+                    out,
+                    to,
+                    &s[name..name_end],
+                    i,
+                    n % 0x8000_0000_0000_0000,
+                ),
             };
         }
     }
 }
 
 pub fn write_id_element(
+    chars: &CharPairs,
     out: &mut [u8],
     to: usize,
     s: &[u8],
@@ -135,6 +147,7 @@ pub fn write_id_element(
     i: u32,
 ) -> Lines
     requires { ⌜ InFile (now s) d ⌝ }
+    requires { ⌜ CharPairs (now chars) ⌝ }
     ensures { λ r. ⌜ IndexedWritten (now (s .entry)) at id d i (now (out .entry)) to r (now (out .exit)) ⌝ }
 {
     let end = skip_id(s, at);
@@ -145,7 +158,7 @@ pub fn write_id_element(
             let name_end = d.name_end;
             return Lines::Next {
                 at: next,
-                to: id_element(out, to, &s[name..name_end], i, &s[at..next]),
+                to: id_element(chars, out, to, &s[name..name_end], i, &s[at..next]),
             };
         }
     }

@@ -1,4 +1,5 @@
 // Ids.
+use bsii_base38::CharPairs;
 use bsii_digits::fill_four;
 use bsii_digits::fill_hex;
 use bsii_digits::hex_count;
@@ -21,6 +22,7 @@ ghost use Rattle.bsii_format.specs.Ascii.{ascii};
 ghost use Rattle.bsii_format.specs.Digits.{hexPadded};
 ghost use Rattle.bsii_format.specs.Text.{groups, idText};
 ghost use Rattle.bsii_format.specs.Strings.{nameless};
+ghost use Rattle.bsii_base38.specs.Pairs.{CharPairs};
 ghost use Rattle.bsii_window.specs.Stored.{Stored};
 ghost use Rattle.bsii_write_id.specs.Ids.{dottedAt, IdStored, IdLength, IdWritten};
 
@@ -77,8 +79,9 @@ fn store_nameless(out: &mut [u8], to: usize, n: u64) -> usize
 }
 
 // `count` words behind the first one, without their bit 63, each with a dot in front.
-fn store_dotted(out: &mut [u8], to: usize, raw: &[u8], count: u32) -> usize
+fn store_dotted(chars: &CharPairs, out: &mut [u8], to: usize, raw: &[u8], count: u32) -> usize
     requires { ⌜ to + 14 * count ≤ length (now out) ⌝ }
+    requires { ⌜ CharPairs (now chars) ⌝ }
     ensures { λ r. ⌜ Stored (now (out .entry)) to (dottedAt count (now (raw .entry)) 9) r (now (out .exit)) × (r ≤ to + 14 * count) ⌝ }
 {
     let mut left = count;
@@ -86,7 +89,7 @@ fn store_dotted(out: &mut [u8], to: usize, raw: &[u8], count: u32) -> usize
     let mut here = to;
     while 0 < left {
         let next = store_byte(out, here, b'.');
-        here = store_word(out, next, u64_at(raw, place) % 0x8000_0000_0000_0000);
+        here = store_word(chars, out, next, u64_at(raw, place) % 0x8000_0000_0000_0000);
         place += 8;
         left -= 1;
     }
@@ -94,8 +97,9 @@ fn store_dotted(out: &mut [u8], to: usize, raw: &[u8], count: u32) -> usize
 }
 
 // The id of these bytes, which were accepted. Fewer bytes than the words need are no id.
-pub fn store_id(out: &mut [u8], to: usize, raw: &[u8]) -> usize
+pub fn store_id(chars: &CharPairs, out: &mut [u8], to: usize, raw: &[u8]) -> usize
     requires { ⌜ to + 29 + 2 * length (now raw) ≤ length (now out) ⌝ }
+    requires { ⌜ CharPairs (now chars) ⌝ }
     ensures { λ r. ⌜ IdStored (now (raw .entry)) (now (out .entry)) to r (now (out .exit)) ⌝ }
 {
     let n = u8_at(raw, 0);
@@ -108,8 +112,8 @@ pub fn store_id(out: &mut [u8], to: usize, raw: &[u8]) -> usize
     if raw.len() / 8 < n as usize {
         return to;
     }
-    let next = store_word(out, to, u64_at(raw, 1) % 0x8000_0000_0000_0000);
-    store_dotted(out, next, raw, n - 1)
+    let next = store_word(chars, out, to, u64_at(raw, 1) % 0x8000_0000_0000_0000);
+    store_dotted(chars, out, next, raw, n - 1)
 }
 
 fn dotted_length(raw: &[u8], count: u32) -> usize
@@ -143,7 +147,8 @@ fn id_length(raw: &[u8]) -> usize
 }
 
 // No id has more than 254 words, so longer bytes are none. Across an edge of the window it is put from an array.
-pub fn write_id(out: &mut [u8], at: usize, raw: &[u8]) -> usize
+pub fn write_id(chars: &CharPairs, out: &mut [u8], at: usize, raw: &[u8]) -> usize
+    requires { ⌜ CharPairs (now chars) ⌝ }
     ensures { λ r. ⌜ IdWritten (now (raw .entry)) (now (out .entry)) at r (now (out .exit)) ⌝ }
 {
     if 2033 < raw.len() {
@@ -154,11 +159,11 @@ pub fn write_id(out: &mut [u8], at: usize, raw: &[u8]) -> usize
         Overlap::Past => return further(at, id_length(raw)),
         Overlap::Across => {
             let mut text = [0u8; 4096];
-            let end = store_id(&mut text, 0, raw);
+            let end = store_id(chars, &mut text, 0, raw);
             return put_all(out, at, &text[..end]);
         }
         Overlap::Inside(start) => {
-            let end = store_id(out, start, raw);
+            let end = store_id(chars, out, start, raw);
             return end + 0x8000_0000_0000_0000;
         }
     }

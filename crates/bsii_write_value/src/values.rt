@@ -1,4 +1,5 @@
 // The value of a field, on a line of its own.
+use bsii_base38::CharPairs;
 use bsii_definition::enums::EnumString;
 use bsii_definition::enums::enum_string;
 use bsii_definition::pairs::Definition;
@@ -16,6 +17,7 @@ use bsii_string::strings::skip_str;
 use bsii_value::types::Numeric;
 use bsii_value::values::numeric_end;
 ghost use Rattle.bsii_format.specs.Types.{enum, numbers, string, encodedString, id};
+ghost use Rattle.bsii_base38.specs.Pairs.{CharPairs};
 ghost use Rattle.bsii_value.specs.Kinds.{numericIs};
 ghost use Rattle.bsii_definition.specs.Pairs.{InFile};
 ghost use Rattle.bsii_write_value.specs.Lines.{EnumTextOf, SingleWritten};
@@ -106,8 +108,16 @@ pub fn write_string_value(out: &mut [u8], to: usize, s: &[u8], at: usize, d: Def
 }
 
 // A word is the low 63 bits.
-pub fn write_word(out: &mut [u8], to: usize, s: &[u8], at: usize, d: Definition) -> Lines
+pub fn write_word(
+    chars: &CharPairs,
+    out: &mut [u8],
+    to: usize,
+    s: &[u8],
+    at: usize,
+    d: Definition,
+) -> Lines
     requires { ⌜ InFile (now s) d ⌝ }
+    requires { ⌜ CharPairs (now chars) ⌝ }
     ensures { λ r. ⌜ SingleWritten (now (s .entry)) at encodedString d (now (out .entry)) to r (now (out .exit)) ⌝ }
 {
     let number = le_u64(s, at);
@@ -118,14 +128,28 @@ pub fn write_word(out: &mut [u8], to: usize, s: &[u8], at: usize, d: Definition)
             let name_end = d.name_end;
             return Lines::Next {
                 at: next,
-                to: word_line(out, to, &s[name..name_end], n % 0x8000_0000_0000_0000),
+                to: word_line(
+                    chars,
+                    out,
+                    to,
+                    &s[name..name_end],
+                    n % 0x8000_0000_0000_0000,
+                ),
             };
         }
     }
 }
 
-pub fn write_id_value(out: &mut [u8], to: usize, s: &[u8], at: usize, d: Definition) -> Lines
+pub fn write_id_value(
+    chars: &CharPairs,
+    out: &mut [u8],
+    to: usize,
+    s: &[u8],
+    at: usize,
+    d: Definition,
+) -> Lines
     requires { ⌜ InFile (now s) d ⌝ }
+    requires { ⌜ CharPairs (now chars) ⌝ }
     ensures { λ r. ⌜ SingleWritten (now (s .entry)) at id d (now (out .entry)) to r (now (out .exit)) ⌝ }
 {
     let end = skip_id(s, at);
@@ -136,7 +160,7 @@ pub fn write_id_value(out: &mut [u8], to: usize, s: &[u8], at: usize, d: Definit
             let name_end = d.name_end;
             return Lines::Next {
                 at: next,
-                to: id_line(out, to, &s[name..name_end], &s[at..next]),
+                to: id_line(chars, out, to, &s[name..name_end], &s[at..next]),
             };
         }
     }

@@ -8,7 +8,6 @@ use Rattle.bsii_base38.proofs.char_pairs.Tie as tie
 use Rattle.bsii_base38.proofs.char_pairs.Reads as reads
 use Rattle.bsii_base38.proofs.char_pairs.Lts as lts
 
--- src/lib.rt:12:1
 returns : tie.Need-returns
 unfolding holds pairOf charOf charEncodings
 returns c = rule _ refl

@@ -4,15 +4,12 @@ use Rattle.bsii_base38.proofs.pair_at.Tie as tie
 use Rattle.bsii_base38.proofs.pair_at.Reads as reads
 use Rattle.bsii_base38.proofs.pair_at.Lts as lts
 
--- src/lib.rt:22:5
 mul-result : tie.Need-mul-result
 mul-result c = search needs
 
--- src/lib.rt:22:5
 element-copy-out-result : tie.Need-element-copy-out-result
 element-copy-out-result c = search needs
 
--- src/lib.rt:18:1
 returns : tie.Need-returns
 returns c = c .before .pre .0 .entries _ (c .before .pre .1)
 

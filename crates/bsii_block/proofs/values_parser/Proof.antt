@@ -14,10 +14,10 @@ use Rattle.bsii_block.proofs.values_parser.Statement.{statement}
 use Rattle.bsii_block.proofs.values_parser.Tie as tie
 
 abbrev Inv-loop : tie.InvT-loop
-Inv-loop s version fields start field₀ at₀ count₀ field at count = InStep version s fields start field at count
+Inv-loop chars s version fields start field₀ at₀ count₀ field at count = InStep version s fields start field at count
 
 abbrev μ-loop : tie.MeasureT-loop
-μ-loop s version fields start field₀ at₀ count₀ field at count = length s - field
+μ-loop chars s version fields start field₀ at₀ count₀ field at count = length s - field
 
 loop-holds : tie.Need-loop-holds Inv-loop μ-loop
 loop-holds c = step-start

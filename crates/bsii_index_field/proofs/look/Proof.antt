@@ -12,6 +12,9 @@ enum-known-under c = search needs
 enum-known-under-2 : tie.Need-enum-known-under-2
 enum-known-under-2 c = search needs
 
+char-pairs-requires : tie.Need-char-pairs-requires
+char-pairs-requires c κs = search needs
+
 block-head-requires : tie.Need-block-head-requires
 block-head-requires c κs = search needs
 
@@ -29,13 +32,13 @@ returns c = look-unread (c .before .before .before .prototype-parser .ensures) (
 
 returns-2 : tie.Need-returns-2
 returns-2 c =
-    look-bad (c .before .before .before .before .before .before .before .prototype-parser .ensures) (c .before .before .before .before .before .under2 .given .1)
-    (c .before .before .before .block-head .ensures) (c .before .head .given .1)
+    let told = c .before .before .before .before .before .before .before in
+    look-bad (told .before .before .prototype-parser .ensures) (told .under2 .given .1) (c .before .before .before .block-head .ensures) (c .before .head .given .1)
 
 returns-3 : tie.Need-returns-3
 returns-3 c =
-    look-read (c .before .before .before .before .before .before .before .before .prototype-parser .ensures) (c .before .before .before .before .before .before .under2 .given .1)
-    (c .before .before .before .before .block-head .ensures) (c .before .before .head2 .given .1) (c .block-field .ensures)
+    let told = c .before .before .before .before .before .before .before .before .before in
+    look-read (told .before .before .prototype-parser .ensures) (told .under2 .given .1) (c .before .before .before .before .before .block-head .ensures) (c .before .before .before .head2 .given .1) (c .block-field .ensures)
 
 pub look-spec : {M : Type 1} → statement M
 look-spec =
@@ -44,6 +47,7 @@ look-spec =
     prototype-parser-requires
     enum-known-under
     enum-known-under-2
+    char-pairs-requires
     block-head-requires
     enum-known-head
     enum-known-head-2

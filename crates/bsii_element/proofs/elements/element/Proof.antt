@@ -28,8 +28,8 @@ single-requires c κs = search needs
 enum-known-shape-2 : tie.Need-enum-known-shape-2
 enum-known-shape-2 c = search needs
 
-value-parser-requires : tie.Need-value-parser-requires
-value-parser-requires c κs = search needs
+array-end-requires : tie.Need-array-end-requires
+array-end-requires c κs = ap shapeIs (sym (c .before .shape2 .given .1)) ∙ c .before .before .before .shape-of .ensures
 
 enum-told : tie.Need-enum-told
 enum-told c = search needs
@@ -55,17 +55,18 @@ returns c =
 returns-2 : tie.Need-returns-2
 unfolding elementCall valueParser
 returns-2 c =
-    let a = c .before .before .before .before .before .before .before .before .before .args in
-    let k = c .before .before .before .before .before .shape2 .given in
-    let o : some (many (kindIs (k .0 .0))) ≡ shapeOf (a .version) (a .type-id) = ap shapeIs (sym (k .1)) ∙ c .before .before .before .before .before .before .before .shape-of .ensures in
-    c .in-array .ensures _ (sym (c .before .enum-told .given .1) ∙ c .before .before .before .value-parser .ensures ∙ ap (λ (o : Option Shape). endOf (shapeParser o 0 (now (a .part)))) (sym o))
-    ∙ ap (λ (o : Option Shape). ofValue (a .index) (shapeParser o 0 (now (a .part)))) o
+    let told = c .before .before .before .before .before in
+    let a = told .before .before .before .before .args in
+    c .in-array .ensures _ (sym (c .before .enum-told .given .1) ∙ c .before .before .before .array-end .ensures)
+    ∙ ap (λ (o : Option Shape). ofValue (a .index) (shapeParser o 0 (now (a .part)))) (ap shapeIs (sym (told .shape2 .given .1)) ∙ told .before .before .shape-of .ensures)
 
 returns-3 : tie.Need-returns-3
-unfolding elementCall
+unfolding elementCall valueParser
 returns-3 c =
-    let a = c .before .before .before .before .before .before .before .before .before .args in
-    value-fault (a .index) (valueParser (a .version) (a .type-id) 0 (now (a .part))) (sym (c .before .whole .given .1) ∙ c .before .before .before .value-parser .ensures)
+    let told = c .before .before .before .before .before in
+    let a = told .before .before .before .before .args in
+    value-fault (a .index) (shapeParser (some (many (kindIs (told .shape2 .given .0 .0)))) 0 (now (a .part))) (sym (c .before .whole .given .1) ∙ c .before .before .before .array-end .ensures)
+    ∙ ap (λ (o : Option Shape). ofValue (a .index) (shapeParser o 0 (now (a .part)))) (ap shapeIs (sym (told .shape2 .given .1)) ∙ told .before .before .shape-of .ensures)
 
 returns-4 : tie.Need-returns-4
 unfolding elementCall valueParser shapeParser fail ofValue
@@ -82,7 +83,7 @@ element-spec =
     enum-known-shape
     single-requires
     enum-known-shape-2
-    value-parser-requires
+    array-end-requires
     enum-told
     in-array-requires
     enum-known-whole

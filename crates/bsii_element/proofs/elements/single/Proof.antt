@@ -25,6 +25,9 @@ returns c =
     let a = c .before .before .before .args in
     c .decode .ensures ∙ single-first (kindIs (a .kind)) (now (a .part)) ∙ ap (λ (i : ℕ). ofValue i (shapeParser (some (one (kindIs (a .kind)))) 0 (now (a .part)))) (sym (c .before .if1 .taken))
 
+char-pairs-requires : tie.Need-char-pairs-requires
+char-pairs-requires c κs = search needs
+
 element-parser-requires : tie.Need-element-parser-requires
 element-parser-requires c κs = search needs
 
@@ -40,12 +43,12 @@ enum-known-end c = search needs
 returns-2 : tie.Need-returns-2
 returns-2 c =
     let told = c .before in
-    let a = told .before .before .before .before .before .args in
-    ap (λ (f : Refusal). refuses (faultIs f)) (c .refused .ensures) ∙ single-other (kindIs (a .kind)) (now (a .part)) (a .index) (told .before .before .before .if1 .left) (sym (told .enum-told .given .1) ∙ told .before .before .element-parser .ensures)
+    let a = told .before .before .before .before .before .before .before .args in
+    ap (λ (f : Refusal). refuses (faultIs f)) (c .refused .ensures) ∙ single-other (kindIs (a .kind)) (now (a .part)) (a .index) (told .before .before .before .before .before .if1 .left) (sym (told .enum-told .given .1) ∙ told .before .before .element-parser .ensures)
 
 returns-3 : tie.Need-returns-3
 returns-3 c =
-    let a = c .before .before .before .before .before .before .args in
+    let a = c .before .before .before .before .before .before .before .before .args in
     value-fault (a .index) (shapeParser (some (one (kindIs (a .kind)))) 0 (now (a .part))) (sym (c .before .end .given .1) ∙ c .before .before .before .element-parser .ensures ∙ sym (one-end (kindIs (a .kind)) 0 (now (a .part))))
 
 pub single-spec : {M : Type 1} → statement M
@@ -54,6 +57,7 @@ single-spec =
     (tie.spec
     decode-requires
     returns
+    char-pairs-requires
     element-parser-requires
     enum-told
     refused-requires

@@ -13,29 +13,29 @@ use borrow.Author.Needs.{needs}
 use Rattle.bsii_element.proofs.elements.text.Statement.{statement}
 use Rattle.bsii_element.proofs.elements.text.Tie as tie
 
-element-parser-requires : tie.Need-element-parser-requires
-element-parser-requires c κs = search needs
+str-end-requires : tie.Need-str-end-requires
+str-end-requires c κs = search needs
 
 enum-known-end : tie.Need-enum-known-end
 enum-known-end c = search needs
 
-add-t8 : tie.Need-add-t8
+add-t7 : tie.Need-add-t7
 unfolding elementParser
-add-t8 c =
+add-t7 c =
     let a = c .before .before .before .before .before .args in
-    omega (arith, string-next (now (a .s)) (a .at) (sym (c .before .end .given .1) ∙ c .before .before .before .element-parser .ensures ∙ mapped str strParser (a .at) (drop (a .at) (now (a .s)))))
+    omega (arith, string-next (now (a .s)) (a .at) (sym (c .before .end .given .1) ∙ c .before .before .before .str-end .ensures))
+
+sub-t8 : tie.Need-sub-t8
+unfolding elementParser
+sub-t8 c =
+    let a = c .before .before .before .before .before .args in
+    omega (arith, string-next (now (a .s)) (a .at) (sym (c .before .end .given .1) ∙ c .before .before .before .str-end .ensures))
 
 sub-t9 : tie.Need-sub-t9
 unfolding elementParser
 sub-t9 c =
     let a = c .before .before .before .before .before .args in
-    omega (arith, string-next (now (a .s)) (a .at) (sym (c .before .end .given .1) ∙ c .before .before .before .element-parser .ensures ∙ mapped str strParser (a .at) (drop (a .at) (now (a .s)))))
-
-sub-t10 : tie.Need-sub-t10
-unfolding elementParser
-sub-t10 c =
-    let a = c .before .before .before .before .before .args in
-    omega (arith, string-next (now (a .s)) (a .at) (sym (c .before .end .given .1) ∙ c .before .before .before .element-parser .ensures ∙ mapped str strParser (a .at) (drop (a .at) (now (a .s)))))
+    omega (arith, string-next (now (a .s)) (a .at) (sym (c .before .end .given .1) ∙ c .before .before .before .str-end .ensures))
 
 enum-known-end-2 : tie.Need-enum-known-end-2
 enum-known-end-2 c = search needs
@@ -44,22 +44,23 @@ returns : tie.Need-returns
 unfolding elementParser
 returns c =
     let a = c .before .before .before .before .before .args in
-    string-decoded (now (a .s)) (a .at) (sym (c .before .end .given .1) ∙ c .before .before .before .element-parser .ensures ∙ mapped str strParser (a .at) (drop (a .at) (now (a .s))))
+    string-decoded (now (a .s)) (a .at) (sym (c .before .end .given .1) ∙ c .before .before .before .str-end .ensures)
 
 returns-2 : tie.Need-returns-2
+unfolding elementParser
 returns-2 c =
     let a = c .before .before .before .before .before .args in
-    decoded-fault (a .at) (elementParser string (a .at) (drop (a .at) (now (a .s)))) (sym (c .before .end2 .given .1) ∙ c .before .before .before .element-parser .ensures)
+    decoded-fault (a .at) (elementParser string (a .at) (drop (a .at) (now (a .s)))) (sym (c .before .end2 .given .1) ∙ c .before .before .before .str-end .ensures ∙ sym (mapped str strParser (a .at) (drop (a .at) (now (a .s)))))
 
 pub text-spec : {M : Type 1} → statement M
 text-spec =
     tie.close
     (tie.spec
-    element-parser-requires
+    str-end-requires
     enum-known-end
-    add-t8
+    add-t7
+    sub-t8
     sub-t9
-    sub-t10
     enum-known-end-2
     returns
     returns-2)

@@ -12,8 +12,8 @@ use borrow.Author.Needs.{needs}
 use Rattle.bsii_element.proofs.numeric.numeric.Statement.{statement}
 use Rattle.bsii_element.proofs.numeric.numeric.Tie as tie
 
-element-parser-requires : tie.Need-element-parser-requires
-element-parser-requires c κs = search needs
+numeric-end-requires : tie.Need-numeric-end-requires
+numeric-end-requires c κs = search needs
 
 enum-told : tie.Need-enum-told
 enum-told c = search needs
@@ -21,12 +21,12 @@ enum-told c = search needs
 sub-numeric-of : tie.Need-sub-numeric-of
 sub-numeric-of c =
     let a = c .before .before .before .before .args in
-    numbers-inside (numericIs (a .n)) (now (a .s)) (a .at) (sym (c .enum-told .given .1) ∙ c .before .before .element-parser .ensures)
+    numbers-inside (numericIs (a .n)) (now (a .s)) (a .at) (sym (c .enum-told .given .1) ∙ c .before .before .numeric-end .ensures)
 
 part-numeric-of-start : tie.Need-part-numeric-of-start
 part-numeric-of-start c =
     let a = c .before .before .before .before .args in
-    omega (arith, numbers-inside (numericIs (a .n)) (now (a .s)) (a .at) (sym (c .enum-told .given .1) ∙ c .before .before .element-parser .ensures))
+    omega (arith, numbers-inside (numericIs (a .n)) (now (a .s)) (a .at) (sym (c .enum-told .given .1) ∙ c .before .before .numeric-end .ensures))
 
 part-numeric-of-end : tie.Need-part-numeric-of-end
 part-numeric-of-end c = search needs
@@ -41,18 +41,18 @@ returns : tie.Need-returns
 returns c =
     let told = c .before .before in
     let a = told .before .before .before .before .args in
-    c .numeric-of .ensures ∙ numbers-decoded (numericIs (a .n)) (now (a .s)) (a .at) (sym (told .enum-told .given .1) ∙ told .before .before .element-parser .ensures)
+    c .numeric-of .ensures ∙ numbers-decoded (numericIs (a .n)) (now (a .s)) (a .at) (sym (told .enum-told .given .1) ∙ told .before .before .numeric-end .ensures)
 
 returns-2 : tie.Need-returns-2
 returns-2 c =
     let a = c .before .before .before .before .before .args in
-    decoded-fault (a .at) (elementParser (numbers (numericIs (a .n))) (a .at) (drop (a .at) (now (a .s)))) (sym (c .before .end .given .1) ∙ c .before .before .before .element-parser .ensures)
+    decoded-fault (a .at) (elementParser (numbers (numericIs (a .n))) (a .at) (drop (a .at) (now (a .s)))) (sym (c .before .end .given .1) ∙ c .before .before .before .numeric-end .ensures)
 
 pub numeric-spec : {M : Type 1} → statement M
 numeric-spec =
     tie.close
     (tie.spec
-    element-parser-requires
+    numeric-end-requires
     enum-told
     sub-numeric-of
     part-numeric-of-start

@@ -24,8 +24,8 @@ refused-requires c κs = search needs
 enum-known-value : tie.Need-enum-known-value
 enum-known-value c = search needs
 
-sub-t16 : tie.Need-sub-t16
-sub-t16 c =
+sub-t17 : tie.Need-sub-t17
+sub-t17 c =
     field-room (c .before .before .before .before .before .before .before .field-index .ensures) (c .before .before .before .before .before .before .block-values .ensures)
     (c .before .before .before .before .values2 .given .1) (c .before .value .given .1)
 
@@ -54,7 +54,7 @@ block-field-spec =
     enum-told
     refused-requires
     enum-known-value
-    sub-t16
+    sub-t17
     returns
     returns-2
     returns-3)

@@ -13,11 +13,11 @@ use Rattle.bsii_index_field.proofs.blocks.block_values.Statement.{state
 use Rattle.bsii_index_field.proofs.blocks.block_values.Tie as tie
 
 abbrev Inv-loop : tie.InvT-loop
-Inv-loop s version fields start index field₀ at₀ passed₀ kept₀ field at passed kept =
+Inv-loop chars s version fields start index field₀ at₀ passed₀ kept₀ field at passed kept =
     InStep version s fields start field at passed × Keeping version s fields start field at passed index kept
 
 abbrev μ-loop : tie.MeasureT-loop
-μ-loop s version fields start index field₀ at₀ passed₀ kept₀ field at passed kept = length s - field
+μ-loop chars s version fields start index field₀ at₀ passed₀ kept₀ field at passed kept = length s - field
 
 loop-holds : tie.Need-loop-holds Inv-loop μ-loop
 loop-holds c = (step-start, keep-start (c .before .args .index))

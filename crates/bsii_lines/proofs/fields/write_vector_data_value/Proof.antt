@@ -10,10 +10,10 @@ use Rattle.bsii_lines.proofs.fields.write_vector_data_value.Statement.{
 use Rattle.bsii_lines.proofs.fields.write_vector_data_value.Tie as tie
 
 abbrev Inv-loop : tie.InvT-loop
-Inv-loop out₀ to s start kind d count at₀ here₀ i₀ out at here i = Going s start (kindIs kind) d count out₀ to at here i out × (i ≤ count)
+Inv-loop chars out₀ to s start kind d count at₀ here₀ i₀ out at here i = Going s start (kindIs kind) d count out₀ to at here i out × (i ≤ count)
 
 abbrev μ-loop : tie.MeasureT-loop
-μ-loop out₀ to s start kind d count at₀ here₀ i₀ out at here i = count - i
+μ-loop chars out₀ to s start kind d count at₀ here₀ i₀ out at here i = count - i
 
 loop-holds : tie.Need-loop-holds Inv-loop μ-loop
 loop-holds c = let a = c .before .before .args in (go-start (now (a .s)) (a .start) (kindIs (a .kind)) (a .d) (a .count) (now (a .out)) (a .to) (omega arith) (omega arith), omega arith)

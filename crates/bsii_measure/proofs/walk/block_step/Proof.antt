@@ -38,8 +38,8 @@ returns-2 c =
 enum-known-block-2 : tie.Need-enum-known-block-2
 enum-known-block-2 c = search needs
 
-add-t16 : tie.Need-add-t16
-add-t16 c = search needs
+add-t17 : tie.Need-add-t17
+add-t17 c = search needs
 
 returns-3 : tie.Need-returns-3
 returns-3 c =
@@ -59,5 +59,5 @@ block-step-spec =
     enum-known-block
     returns-2
     enum-known-block-2
-    add-t16
+    add-t17
     returns-3)

@@ -32,7 +32,7 @@ enum-known-head-3 c = search needs
 prototype-step-requires : tie.Need-prototype-step-requires
 prototype-step-requires c κs =
     let a = c .before .before .before .before .before .before .before in
-    (a .pre, named-at (a .pre .ready) (sym (c .before .before .before .before .head-parser .ensures) ∙ ap (headIs (now (a .args .s))) (c .before .before .head3 .given .1)))
+    (a .pre .0, named-at (a .pre .0 .ready) (sym (c .before .before .before .before .head-parser .ensures) ∙ ap (headIs (now (a .args .s))) (c .before .before .head3 .given .1)))
 
 same-length : tie.Need-same-length
 same-length c = search needs
@@ -47,8 +47,8 @@ enum-known-head-4 c = search needs
 block-step-requires : tie.Need-block-step-requires
 block-step-requires c κs =
     let a = c .before .before .before .before .before .before .before in
-    let m = head-moves (now (a .args .s)) (a .args .p .at) (c .before .before .before .before .head-parser .ensures) (c .before .before .head4 .given .1) (a .pre .ready .inside) in
-    (a .pre, m .0, m .1)
+    let m = head-moves (now (a .args .s)) (a .args .p .at) (c .before .before .before .before .head-parser .ensures) (c .before .before .head4 .given .1) (a .pre .0 .ready .inside) in
+    ((a .pre .0, m .0, m .1), a .pre .1)
 
 same-length-2 : tie.Need-same-length-2
 same-length-2 c = search needs

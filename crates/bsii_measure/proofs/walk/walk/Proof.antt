@@ -9,18 +9,18 @@ use Rattle.bsii_measure.proofs.walk.walk.Statement.{statement}
 use Rattle.bsii_measure.proofs.walk.walk.Tie as tie
 
 abbrev Inv-loop : tie.InvT-loop
-Inv-loop s version start table₀ p₀ sum₀ table p sum = Walking version s start table₀ p sum table
+Inv-loop chars s version start table₀ p₀ sum₀ table p sum = Walking version s start table₀ p sum table
 
 abbrev μ-loop : tie.MeasureT-loop
-μ-loop s version start table₀ p₀ sum₀ table p sum = length s - p .at
+μ-loop chars s version start table₀ p₀ sum₀ table p sum = length s - p .at
 
 loop-holds : tie.Need-loop-holds Inv-loop μ-loop
 loop-holds c =
-    let b = c .before .before in walking-start (now (b .args .s)) (b .args .start) (now (b .args .table)) (b .pre .1)
+    let b = c .before .before in walking-start (now (b .args .s)) (b .args .start) (now (b .args .table)) (b .pre .0 .1)
 
 record-step-requires : tie.Need-record-step-requires Inv-loop μ-loop
 record-step-requires c κs =
-    walking-stands (c .before .loop .inv) (c .before .before .before .before .pre .0)
+    let b = c .before .before .before .before in (walking-stands (c .before .loop .inv) (b .pre .0 .0), b .pre .1)
 
 enum-known-step : tie.Need-enum-known-step Inv-loop μ-loop
 enum-known-step c = search needs

@@ -38,7 +38,7 @@ framed-requires c κs =
     let b = c .before .before .before .before .before .before .before .before .before in
     let f = c .before .before .before .before .before in
     let d = sym (c .before .id2 .given .1) ∙ c .before .before .before .id-measured .ensures in
-    let g = begins (b .args .prototype) (b .args .at) (b .pre) (λ i. omega (arith, c .before .before .before .before .before .before .before .before .shared-slice-known .given i)) (f .before .before .fields-at .ensures) (f .fields2 .given .1) d in
+    let g = begins (b .args .prototype) (b .args .at) (b .pre .0) (λ i. omega (arith, c .before .before .before .before .before .before .before .before .shared-slice-known .given i)) (f .before .before .fields-at .ensures) (f .fields2 .given .1) d in
     g .frame
 
 values-summed-requires : tie.Need-values-summed-requires
@@ -46,15 +46,15 @@ values-summed-requires c κs =
     let b = c .before .before .before .before .before .before .before .before .before .before in
     let f = c .before .before .before .before .before .before in
     let d = sym (c .before .before .id2 .given .1) ∙ c .before .before .before .before .id-measured .ensures in
-    let g = begins (b .args .prototype) (b .args .at) (b .pre) (λ i. omega (arith, c .before .before .before .before .before .before .before .before .before .shared-slice-known .given i)) (f .before .before .fields-at .ensures) (f .fields2 .given .1) d in
-    (rw (c .framed .ensures) (g .room), g .positive)
+    let g = begins (b .args .prototype) (b .args .at) (b .pre .0) (λ i. omega (arith, c .before .before .before .before .before .before .before .before .before .shared-slice-known .given i)) (f .before .before .fields-at .ensures) (f .fields2 .given .1) d in
+    ((rw (c .framed .ensures) (g .room), g .positive), b .pre .1)
 
 returns-3 : tie.Need-returns-3
 returns-3 c =
     let b = c .before .before .before .before .before .before .before .before .before .before .before in
     let f = c .before .before .before .before .before .before .before in
     let d = sym (c .before .before .before .id2 .given .1) ∙ c .before .before .before .before .before .id-measured .ensures in
-    let g = begins (b .args .prototype) (b .args .at) (b .pre) (λ i. omega (arith, c .before .before .before .before .before .before .before .before .before .before .shared-slice-known .given i)) (f .before .before .fields-at .ensures) (f .fields2 .given .1) d in
+    let g = begins (b .args .prototype) (b .args .at) (b .pre .0) (λ i. omega (arith, c .before .before .before .before .before .before .before .before .before .before .shared-slice-known .given i)) (f .before .before .fields-at .ensures) (f .fields2 .given .1) d in
     block-values (f .before .before .fields-at .ensures) (f .fields2 .given .1) d (g .late) (rw (c .before .framed .ensures) at (c .values-summed .ensures))
 
 pub block-summed-spec : {M : Type 1} → statement M

@@ -28,15 +28,15 @@ returns-2 c =
 enum-known-value-2 : tie.Need-enum-known-value-2
 enum-known-value-2 c = search needs
 
-add-t12 : tie.Need-add-t12
-add-t12 c =
+add-t13 : tie.Need-add-t13
+add-t13 c =
     let b = c .before .before .before .before .before .before .before .before .before in
-    omega (arith, b .pre .0 .short, field-fits (b .args .d) (c .before .before .before .before .value-measured .ensures) (c .before .before .value2 .given .1) (b .pre .0))
+    omega (arith, b .pre .0 .0 .short, field-fits (b .args .d) (c .before .before .before .before .value-measured .ensures) (c .before .before .value2 .given .1) (b .pre .0 .0))
 
 returns-3 : tie.Need-returns-3
 returns-3 c =
     let b = c .before .before .before .before .before .before .before .before .before in
-    field-next (b .args .d) (c .before .before .before .before .value-measured .ensures) (c .before .before .value2 .given .1) (b .pre .0) (c .before .before .before .before .before .before .if1 .left) (b .pre .2)
+    field-next (b .args .d) (c .before .before .before .before .value-measured .ensures) (c .before .before .value2 .given .1) (b .pre .0 .0) (c .before .before .before .before .before .before .if1 .left) (b .pre .0 .2)
 
 pub field-summed-spec : {M : Type 1} → statement M
 field-summed-spec =
@@ -49,5 +49,5 @@ field-summed-spec =
     enum-known-value
     returns-2
     enum-known-value-2
-    add-t12
+    add-t13
     returns-3)

@@ -11,13 +11,13 @@ use Rattle.bsii_measure_block.proofs.fields.values_summed.Statement.{st
 use Rattle.bsii_measure_block.proofs.fields.values_summed.Tie as tie
 
 abbrev Inv-loop : tie.InvT-loop
-Inv-loop s version fields start field₀ at₀ sum₀ field at sum = Adding version s fields start sum₀ field at sum
+Inv-loop chars s version fields start field₀ at₀ sum₀ field at sum = Adding version s fields start sum₀ field at sum
 
 abbrev μ-loop : tie.MeasureT-loop
-μ-loop s version fields start field₀ at₀ sum₀ field at sum = length s - field
+μ-loop chars s version fields start field₀ at₀ sum₀ field at sum = length s - field
 
 loop-holds : tie.Need-loop-holds Inv-loop μ-loop
-loop-holds c = adding-start (c .before .pre .0)
+loop-holds c = adding-start (c .before .pre .0 .0)
 
 accepted-at-requires : tie.Need-accepted-at-requires Inv-loop μ-loop
 accepted-at-requires c κs = search needs
@@ -25,14 +25,14 @@ accepted-at-requires c κs = search needs
 returns : tie.Need-returns Inv-loop μ-loop
 returns c = adding-last (c .before .before .before .loop .inv) (c .before .before .accepted-at .ensures .none (c .if1 .taken))
 
-add-t16 : tie.Need-add-t16 Inv-loop μ-loop
-add-t16 c = omega (arith, field-inside (now (c .before .before .before .before .before .args .s)) (c .before .before .before .loop .field) (c .before .before .accepted-at .ensures .field (c .if1 .left)))
+add-t17 : tie.Need-add-t17 Inv-loop μ-loop
+add-t17 c = omega (arith, field-inside (now (c .before .before .before .before .before .args .s)) (c .before .before .before .loop .field) (c .before .before .accepted-at .ensures .field (c .if1 .left)))
 
 field-summed-requires : tie.Need-field-summed-requires Inv-loop μ-loop
 field-summed-requires c κs =
     let l = c .before .before .before in
     let f = field-inside (now (l .before .before .args .s)) (l .loop .field) (c .before .before .accepted-at .ensures .field (c .if1 .left)) in
-    (l .loop .inv .room, omega (arith, l .loop .inv .later), record { ordered = f .2; inside = f .3 })
+    ((l .loop .inv .room, omega (arith, l .loop .inv .later), record { ordered = f .2; inside = f .3 }), search needs)
 
 enum-known-value : tie.Need-enum-known-value Inv-loop μ-loop
 enum-known-value c = search needs
@@ -58,7 +58,7 @@ values-summed-spec =
     loop-holds
     accepted-at-requires
     returns
-    add-t16
+    add-t17
     field-summed-requires
     enum-known-value
     returns-2

@@ -9,10 +9,10 @@ use Rattle.bsii_measure_value.proofs.rows.elements_measured.Statement.{
 use Rattle.bsii_measure_value.proofs.rows.elements_measured.Tie as tie
 
 abbrev Inv-loop : tie.InvT-loop
-Inv-loop s start count kind name at₀ long₀ i₀ at long i = Adding s start count (kindIs kind) name at long i
+Inv-loop chars s start count kind name at₀ long₀ i₀ at long i = Adding s start count (kindIs kind) name at long i
 
 abbrev μ-loop : tie.MeasureT-loop
-μ-loop s start count kind name at₀ long₀ i₀ at long i = count - i
+μ-loop chars s start count kind name at₀ long₀ i₀ at long i = count - i
 
 loop-holds : tie.Need-loop-holds Inv-loop μ-loop
 loop-holds c = let a = c .before .args in adding-start (now (a .s)) (a .start) (a .count) (kindIs (a .kind)) (a .name) (omega arith)

@@ -49,7 +49,7 @@ enum-told-4 : tie.Need-enum-told-4
 enum-told-4 c = search needs
 
 returns-4 : tie.Need-returns-4
-returns-4 c = absurd (subst (λ (k : Kind). NoNumbers (kindIs k)) (c .enum-told4 .given .1) (c .before .before .before .pre .1))
+returns-4 c = absurd (subst (λ (k : Kind). NoNumbers (kindIs k)) (c .enum-told4 .given .1) (c .before .before .before .pre .0 .1))
 
 pub other-measured-spec : {M : Type 1} → statement M
 other-measured-spec =

@@ -29,7 +29,7 @@ row-measured-requires : tie.Need-row-measured-requires
 row-measured-requires c κs =
     let a = c .before .before .before .before .before .args in
     let e = sym (c .before .before .before .le-u32 .ensures) ∙ ap (numOf (now (a .s))) (c .before .count2 .given .1) in
-    (omega arith, first-at (now (a .s)) (a .at) (a .name) (kindIs (a .kind)) e (omega arith) .1, omega arith)
+    ((omega arith, first-at (now (a .s)) (a .at) (a .name) (kindIs (a .kind)) e (omega arith) .1, omega arith), search needs)
 
 enum-known-row : tie.Need-enum-known-row
 enum-known-row c = search needs
@@ -43,8 +43,8 @@ returns-2 c =
 enum-known-row-2 : tie.Need-enum-known-row-2
 enum-known-row-2 c = search needs
 
-add-t13 : tie.Need-add-t13
-add-t13 c = search needs
+add-t14 : tie.Need-add-t14
+add-t14 c = search needs
 
 cast-decimal-count : tie.Need-cast-decimal-count
 cast-decimal-count c = search needs
@@ -52,14 +52,14 @@ cast-decimal-count c = search needs
 decimal-count-requires : tie.Need-decimal-count-requires
 decimal-count-requires c κs = search needs
 
-add-t16 : tie.Need-add-t16
-add-t16 c =
+add-t17 : tie.Need-add-t17
+add-t17 c =
     let a = c .before .before .before .before .before .before .before .before .before .before .args in
     let e = sym (c .before .before .before .before .before .before .before .before .le-u32 .ensures) ∙ ap (numOf (now (a .s))) (c .before .before .before .before .before .before .count2 .given .1) in
     omega (arith, c .decimal-count .ensures, at-most-twenty (c .before .before .before .before .before .before .count2 .given .0 .0) (omega arith))
 
-add-t17 : tie.Need-add-t17
-add-t17 c =
+add-t18 : tie.Need-add-t18
+add-t18 c =
     let a = c .before .before .before .before .before .before .before .before .before .before .args in
     let e = sym (c .before .before .before .before .before .before .before .before .le-u32 .ensures) ∙ ap (numOf (now (a .s))) (c .before .before .before .before .before .before .count2 .given .1) in
     let w = row-by (c .before .before .row2 .given .1) (c .before .before .before .before .row-measured .ensures) in
@@ -84,9 +84,9 @@ array-measured-spec =
     enum-known-row
     returns-2
     enum-known-row-2
-    add-t13
+    add-t14
     cast-decimal-count
     decimal-count-requires
-    add-t16
     add-t17
+    add-t18
     returns-3)

@@ -21,7 +21,7 @@ returns c =
     subst (λ (k : Kind). RowMeasured (now (a .s)) (a .start) (a .count) (kindIs k) (a .name) (c .numbers-measured .result)) (sym (c .before .before .kind .given .1)) (c .numbers-measured .ensures)
 
 elements-measured-requires : tie.Need-elements-measured-requires
-elements-measured-requires c κs = (omega arith, omega arith, omega arith, others (c .before .before .args .kind) (c .match .keys2))
+elements-measured-requires c κs = ((omega arith, omega arith, omega arith, others (c .before .before .args .kind) (c .match .keys2)), search needs)
 
 returns-2 : tie.Need-returns-2
 returns-2 c = search needs

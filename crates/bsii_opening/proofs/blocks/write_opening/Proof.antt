@@ -33,7 +33,7 @@ store-text-requires : tie.Need-store-text-requires
 store-text-requires c κs = omega (arith, starts _ (c .before .before .before .before .before .before .before .place .given .1) (c .before .before .before .before .before .before .before .before .before .overlap-of .ensures), c .before .before .before .before .store-name .ensures .next, stored-same (c .before .before .before .before .store-name .ensures))
 
 store-id-requires : tie.Need-store-id-requires
-store-id-requires c κs = omega (arith, starts _ (c .before .before .before .before .before .before .before .before .before .before .before .place .given .1) (c .before .before .before .before .before .before .before .before .before .before .before .before .before .overlap-of .ensures), c .before .before .before .before .before .before .before .before .store-name .ensures .next, stored-same (c .before .before .before .before .before .before .before .before .store-name .ensures), c .before .before .before .store-text .ensures .next, stored-same (c .before .before .before .store-text .ensures))
+store-id-requires c κs = (omega (arith, starts _ (c .before .before .before .before .before .before .before .before .before .before .before .place .given .1) (c .before .before .before .before .before .before .before .before .before .before .before .before .before .overlap-of .ensures), c .before .before .before .before .before .before .before .before .store-name .ensures .next, stored-same (c .before .before .before .before .before .before .before .before .store-name .ensures), c .before .before .before .store-text .ensures .next, stored-same (c .before .before .before .store-text .ensures)), search needs)
 
 slice-aggregate-store-text-2 : tie.Need-slice-aggregate-store-text-2
 slice-aggregate-store-text-2 c = search needs

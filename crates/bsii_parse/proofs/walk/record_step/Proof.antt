@@ -32,7 +32,7 @@ prototype-step-requires c κs =
     let told = c .before .before in
     let parsed = told .before .before in
     let a = parsed .before .before .before in
-    (a .pre, named-at (a .pre) (sym (parsed .head-parser .ensures) ∙ ap (headIs (now (a .args .s))) (told .head3 .given .1)))
+    (a .pre .0, named-at (a .pre .0) (sym (parsed .head-parser .ensures) ∙ ap (headIs (now (a .args .s))) (told .head3 .given .1)))
 
 same-length : tie.Need-same-length
 same-length c = search needs

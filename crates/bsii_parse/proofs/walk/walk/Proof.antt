@@ -11,16 +11,16 @@ use Rattle.bsii_parse.proofs.walk.walk.Statement.{statement}
 use Rattle.bsii_parse.proofs.walk.walk.Tie as tie
 
 abbrev Inv-loop : tie.InvT-loop
-Inv-loop s version start table₀ index width p₀ agreed₀ table p agreed = Comparing version s start table₀ index width p table agreed
+Inv-loop chars s version start table₀ index width p₀ agreed₀ table p agreed = Comparing version s start table₀ index width p table agreed
 
 abbrev μ-loop : tie.MeasureT-loop
-μ-loop s version start table₀ index width p₀ agreed₀ table p agreed = length s - p .at
+μ-loop chars s version start table₀ index width p₀ agreed₀ table p agreed = length s - p .at
 
 loop-holds : tie.Need-loop-holds Inv-loop μ-loop
-loop-holds c = let b = c .before .before .before in comparing-start (now (b .args .s)) (b .args .start) (now (b .args .table)) (now (b .args .index)) (b .args .width) (b .pre .1)
+loop-holds c = let b = c .before .before .before in comparing-start (now (b .args .s)) (b .args .start) (now (b .args .table)) (now (b .args .index)) (b .args .width) (b .pre .0 .1)
 
 record-step-requires : tie.Need-record-step-requires Inv-loop μ-loop
-record-step-requires c κs = let l = c .before in let b = l .before .before .before .before in along-ready (b .pre .0) (l .loop .inv .along)
+record-step-requires c κs = let l = c .before in let b = l .before .before .before .before in (along-ready (b .pre .0 .0) (l .loop .inv .along), b .pre .1)
 
 enum-known-step : tie.Need-enum-known-step Inv-loop μ-loop
 enum-known-step c = search needs
@@ -74,7 +74,7 @@ agree-requires : tie.Need-agree-requires Inv-loop μ-loop
 agree-requires c κs =
     let l = c .before .before .before .before .before .before .before .before in
     let b = l .before .before .before .before in
-    (b .pre .2, comparing-few (l .loop .inv) (b .pre .0))
+    (b .pre .0 .2, comparing-few (l .loop .inv) (b .pre .0 .0))
 
 loop-less-2 : tie.Need-loop-less-2 Inv-loop μ-loop
 loop-less-2 c =

@@ -14,6 +14,9 @@ slice-aggregate-put-all c = search needs
 put-all-requires : tie.Need-put-all-requires
 put-all-requires c κs = search needs
 
+char-pairs-requires : tie.Need-char-pairs-requires
+char-pairs-requires c κs = search needs
+
 write-records-requires : tie.Need-write-records-requires
 write-records-requires c κs = search needs
 
@@ -31,7 +34,7 @@ unfolding fileOpening
 returns c =
     let told = c .before in
     let walked = told .before .before .before .before .before .before in
-    let opened = walked .before .before .before .before .before in
+    let opened = walked .before .before .before .before .before .before .before in
     let a = opened .before .before .before .before .before .before .args in
     file-refused valueText everyBlock (now (a .s)) (a .start) (now (a .table)) (a .rows) (opened .put-all .ensures) (records-by valueText everyBlock (told .blocks2 .given .1) (walked .write-records .ensures))
 
@@ -55,7 +58,7 @@ unfolding fileOpening closing
 returns-2 c =
     let told = c .before .before .before .before .before .before in
     let walked = told .before .before .before .before .before .before in
-    let opened = walked .before .before .before .before .before in
+    let opened = walked .before .before .before .before .before .before .before in
     let a = opened .before .before .before .before .before .before .args in
     file-written valueText everyBlock (now (a .s)) (a .start) (now (a .table)) (a .rows) (opened .put-all .ensures) (records-by valueText everyBlock (told .blocks3 .given .1) (walked .write-records .ensures)) (c .before .before .put-all2 .ensures)
 
@@ -65,6 +68,7 @@ write-bsii-spec =
     (tie.spec
     slice-aggregate-put-all
     put-all-requires
+    char-pairs-requires
     write-records-requires
     enum-known-blocks
     same-length

@@ -17,7 +17,7 @@ enum-told : tie.Need-enum-told
 enum-told c = search needs
 
 returns : tie.Need-returns
-returns c = let b = c .before .before .before .before .before .before in let a = b .args in record-end valueText everyBlock (now (a .s)) (a .at) (now (a .table)) (a .rows) (now (a .out)) (a .to) (b .pre .1) (c .before .before .kind-at .ensures) (c .enum-told .given .1)
+returns c = let b = c .before .before .before .before .before .before in let a = b .args in record-end valueText everyBlock (now (a .s)) (a .at) (now (a .table)) (a .rows) (now (a .out)) (a .to) (b .pre .0 .1) (c .before .before .kind-at .ensures) (c .enum-told .given .1)
 
 enum-known-kind : tie.Need-enum-known-kind
 enum-known-kind c = search needs
@@ -29,7 +29,7 @@ same-length : tie.Need-same-length
 same-length c = search needs
 
 returns-2 : tie.Need-returns-2
-returns-2 c = let b = c .before .before .before .before .before .before .before .before .before .before .before in let a = b .args in record-prototype valueText everyBlock (now (a .s)) (a .at) (now (a .table)) (a .rows) (now (a .out)) (a .to) (b .pre .1) (c .before .before .before .before .before .before .before .kind-at .ensures) (c .before .before .before .before .before .kind .given .1) (omega arith) (omega arith) (c .before .before .pass-prototype .ensures)
+returns-2 c = let b = c .before .before .before .before .before .before .before .before .before .before .before in let a = b .args in record-prototype valueText everyBlock (now (a .s)) (a .at) (now (a .table)) (a .rows) (now (a .out)) (a .to) (b .pre .0 .1) (c .before .before .before .before .before .before .before .kind-at .ensures) (c .before .before .before .before .before .kind .given .1) (omega arith) (omega arith) (c .before .before .pass-prototype .ensures)
 
 enum-known-kind-2 : tie.Need-enum-known-kind-2
 enum-known-kind-2 c = search needs
@@ -44,7 +44,7 @@ same-length-3 : tie.Need-same-length-3
 same-length-3 c = search needs
 
 returns-3 : tie.Need-returns-3
-returns-3 c = let b = c .before .before .before .before .before .before .before .before .before .before .before .before in let a = b .args in record-block valueText everyBlock (now (a .s)) (a .at) (now (a .table)) (a .rows) (now (a .out)) (a .to) (b .pre .1) (c .before .before .before .before .before .before .before .before .kind-at .ensures) (λ rooms last env b l w. refl) (c .before .before .before .before .before .before .kind2 .given .1) (c .before .before .write-block .ensures)
+returns-3 c = let b = c .before .before .before .before .before .before .before .before .before .before .before .before in let a = b .args in record-block valueText everyBlock (now (a .s)) (a .at) (now (a .table)) (a .rows) (now (a .out)) (a .to) (b .pre .0 .1) (c .before .before .before .before .before .before .before .before .kind-at .ensures) (λ rooms last env b l w. refl) (c .before .before .before .before .before .before .kind2 .given .1) (c .before .before .write-block .ensures)
 
 pub write-record-spec : {M : Type 1} → statement M
 write-record-spec =

@@ -11,13 +11,13 @@ use Rattle.bsii_text.proofs.records.write_records.Statement.{statement}
 use Rattle.bsii_text.proofs.records.write_records.Tie as tie
 
 abbrev Inv-loop : tie.InvT-loop
-Inv-loop out₀ to s version start table₀ rows at₀ here₀ out table at here = Going valueText everyBlock version s start table₀ rows out₀ to at here table out
+Inv-loop chars out₀ to s version start table₀ rows at₀ here₀ out table at here = Going valueText everyBlock version s start table₀ rows out₀ to at here table out
 
 abbrev μ-loop : tie.MeasureT-loop
-μ-loop out₀ to s version start table₀ rows at₀ here₀ out table at here = length s - at
+μ-loop chars out₀ to s version start table₀ rows at₀ here₀ out table at here = length s - at
 
 loop-holds : tie.Need-loop-holds Inv-loop μ-loop
-loop-holds c = let b = c .before .before .before in let a = b .args in go-start valueText everyBlock (a .version) (now (a .s)) (a .start) (now (a .table)) (a .rows) (now (a .out)) (a .to) (b .pre .inside) (omega arith) (omega arith)
+loop-holds c = let b = c .before .before .before in let a = b .args in go-start valueText everyBlock (a .version) (now (a .s)) (a .start) (now (a .table)) (a .rows) (now (a .out)) (a .to) (b .pre .0 .inside) (omega arith) (omega arith)
 
 write-record-requires : tie.Need-write-record-requires Inv-loop μ-loop
 write-record-requires c κs =
@@ -25,7 +25,7 @@ write-record-requires c κs =
     let b = l .before .before .before .before in
     let a = b .args in
     let x = l .loop in
-    (b .pre .short, omega (arith, x .inv .inside, b .pre .inside), go-rows valueText everyBlock (a .version) (now (a .s)) (a .start) (now (a .table)) (a .rows) (now (a .out)) (a .to) (x .at) (x .here) (x .table) (x .out) (x .inv) (b .pre))
+    ((b .pre .0 .short, omega (arith, x .inv .inside, b .pre .0 .inside), go-rows valueText everyBlock (a .version) (now (a .s)) (a .start) (now (a .table)) (a .rows) (now (a .out)) (a .to) (x .at) (x .here) (x .table) (x .out) (x .inv) (b .pre .0)), search needs)
 
 enum-told : tie.Need-enum-told Inv-loop μ-loop
 enum-told c = search needs
@@ -75,7 +75,7 @@ loop-less c =
     let b = l .before .before .before .before in
     let a = b .args in
     let x = l .loop in
-    omega (arith, go-later valueText everyBlock (a .version) (now (a .s)) (a .start) (now (a .table)) (a .rows) (now (a .out)) (a .to) (x .at) (x .here) (x .table) (x .out) (x .inv) (walked .write-record .ensures) _ _ (told .step2 .given .1) (b .pre))
+    omega (arith, go-later valueText everyBlock (a .version) (now (a .s)) (a .start) (now (a .table)) (a .rows) (now (a .out)) (a .to) (x .at) (x .here) (x .table) (x .out) (x .inv) (walked .write-record .ensures) _ _ (told .step2 .given .1) (b .pre .0))
 
 loop-again : tie.Need-loop-again Inv-loop μ-loop
 loop-again c =
@@ -85,7 +85,7 @@ loop-again c =
     let b = l .before .before .before .before in
     let a = b .args in
     let x = l .loop in
-    go-on valueText everyBlock (a .version) (now (a .s)) (a .start) (now (a .table)) (a .rows) (now (a .out)) (a .to) (x .at) (x .here) (x .table) (x .out) (x .inv) (walked .write-record .ensures) _ _ (told .step2 .given .1) (b .pre)
+    go-on valueText everyBlock (a .version) (now (a .s)) (a .start) (now (a .table)) (a .rows) (now (a .out)) (a .to) (x .at) (x .here) (x .table) (x .out) (x .inv) (walked .write-record .ensures) _ _ (told .step2 .given .1) (b .pre .0)
 
 pub write-records-spec : {M : Type 1} → statement M
 write-records-spec =

@@ -14,11 +14,11 @@ use Rattle.bsii_value.proofs.values.elements_end.Statement.{statement}
 use Rattle.bsii_value.proofs.values.elements_end.Tie as tie
 
 abbrev Inv-loop : tie.InvT-loop
-Inv-loop s start count kind left₀ at₀ left at =
+Inv-loop chars s start count kind left₀ at₀ left at =
     endOf (repeat left (elementParser (kindIs kind)) at (drop at s)) ≡ endOf (repeat count (elementParser (kindIs kind)) start (drop start s))
 
 abbrev μ-loop : tie.MeasureT-loop
-μ-loop s start count kind left₀ at₀ left at = left
+μ-loop chars s start count kind left₀ at₀ left at = left
 
 loop-holds : tie.Need-loop-holds Inv-loop μ-loop
 loop-holds c = refl

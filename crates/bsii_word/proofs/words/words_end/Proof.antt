@@ -13,11 +13,11 @@ use Rattle.bsii_word.proofs.words.words_end.Statement.{statement}
 use Rattle.bsii_word.proofs.words.words_end.Tie as tie
 
 abbrev Inv-loop : tie.InvT-loop
-Inv-loop s start count left₀ at₀ left at =
+Inv-loop chars s start count left₀ at₀ left at =
     endOf (repeat left encodedStrParser at (drop at s)) ≡ endOf (repeat count encodedStrParser start (drop start s))
 
 abbrev μ-loop : tie.MeasureT-loop
-μ-loop s start count left₀ at₀ left at = left
+μ-loop chars s start count left₀ at₀ left at = left
 
 loop-holds : tie.Need-loop-holds Inv-loop μ-loop
 loop-holds c = refl

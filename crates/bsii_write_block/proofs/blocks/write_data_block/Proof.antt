@@ -93,7 +93,7 @@ write-body-requires c κs =
     let a = lasts .before .before .before .before .before .before .before .before .before .args in
     let n = name-inside (now (a .s)) (a .last) (lasts .before .before .fields-at2 .ensures) (lasts .last-list .given .1) in
     let i = element-moves id (now (a .s)) (a .id) (sym (ids .end .given .1) ∙ ids .before .before .skip-element .ensures) in
-    (omega (arith, i), i .1, n .0, n .1)
+    ((omega (arith, i), i .1, n .0, n .1), search needs)
 
 same-length : tie.Need-same-length
 same-length c = search needs

@@ -14,12 +14,12 @@ use Rattle.bsii_write_block.proofs.blocks.write_fields.Statement.{state
 use Rattle.bsii_write_block.proofs.blocks.write_fields.Tie as tie
 
 abbrev Inv-loop : tie.InvT-loop
-Inv-loop out₀ to s version start fields last-fields p₀ out p =
+Inv-loop chars out₀ to s version start fields last-fields p₀ out p =
     ((r : Written) (new : List ℕ) → FieldsFrom valueText version s p out r new → FieldsWritten valueText version s start fields last-fields out₀ to r new)
     × (length out ≡ length out₀)
 
 abbrev μ-loop : tie.MeasureT-loop
-μ-loop out₀ to s version start fields last-fields p₀ out p = length s - p .field
+μ-loop chars out₀ to s version start fields last-fields p₀ out p = length s - p .field
 
 loop-holds : tie.Need-loop-holds Inv-loop μ-loop
 loop-holds c = (λ r new h. h, refl)

@@ -35,7 +35,7 @@ write-field-requires : tie.Need-write-field-requires
 write-field-requires c κs =
     let chosen = c .before .before in
     let p = pair-by (chosen .pair .given .1) (chosen .before .before .pair-at .ensures) in
-    record { ordered = p .inside .2; inside = p .inside .3 }
+    (record { ordered = p .inside .2; inside = p .inside .3 }, search needs)
 
 enum-told-3 : tie.Need-enum-told-3
 enum-told-3 c = search needs

@@ -13,10 +13,10 @@ use Rattle.bsii_write_id.proofs.ids.store_dotted.Statement.{statement}
 use Rattle.bsii_write_id.proofs.ids.store_dotted.Tie as tie
 
 abbrev Inv-loop : tie.InvT-loop
-Inv-loop out₀ to raw count left₀ place₀ here₀ out left place here = (length out ≡ length out₀) × (here + 14 * left ≤ to + 14 * count) × (place + 8 * left ≡ 9 + 8 * count) × Rest out here (dottedAt left raw place) out₀ to (dottedAt count raw 9)
+Inv-loop chars out₀ to raw count left₀ place₀ here₀ out left place here = (length out ≡ length out₀) × (here + 14 * left ≤ to + 14 * count) × (place + 8 * left ≡ 9 + 8 * count) × Rest out here (dottedAt left raw place) out₀ to (dottedAt count raw 9)
 
 abbrev μ-loop : tie.MeasureT-loop
-μ-loop out₀ to raw count left₀ place₀ here₀ out left place here = left
+μ-loop chars out₀ to raw count left₀ place₀ here₀ out left place here = left
 
 loop-holds : tie.Need-loop-holds Inv-loop μ-loop
 loop-holds c = (refl, omega arith, omega arith, λ r new w. w)
@@ -28,7 +28,7 @@ u64-at-requires : tie.Need-u64-at-requires Inv-loop μ-loop
 u64-at-requires c κs = search needs
 
 store-word-requires : tie.Need-store-word-requires Inv-loop μ-loop
-store-word-requires c κs = omega (arith, c .before .before .before .before .store-byte .ensures .next, stored-same (c .before .before .before .before .store-byte .ensures))
+store-word-requires c κs = (omega (arith, c .before .before .before .before .store-byte .ensures .next, stored-same (c .before .before .before .before .store-byte .ensures)), search needs)
 
 add-place : tie.Need-add-place Inv-loop μ-loop
 add-place c = omega arith

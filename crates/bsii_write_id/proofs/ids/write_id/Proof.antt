@@ -51,7 +51,7 @@ array-share-prefix-text : tie.Need-array-share-prefix-text
 array-share-prefix-text c = search needs
 
 slice-aggregate-put-all : tie.Need-slice-aggregate-put-all
-slice-aggregate-put-all c = let f = c .before .before .before .store-id in sym (length-take-le (f .result) (f .last .0) (omega (arith, f .ensures .most, f .ensures .size)))
+slice-aggregate-put-all c = let f = c .before .before .before .store-id in sym (length-take-le (f .result) (f .last .1 .0) (omega (arith, f .ensures .most, f .ensures .size)))
 
 put-all-requires : tie.Need-put-all-requires
 put-all-requires c κs = search needs
@@ -68,7 +68,7 @@ enum-known-place : tie.Need-enum-known-place
 enum-known-place c = search needs
 
 store-id-requires-2 : tie.Need-store-id-requires-2
-store-id-requires-2 c κs = omega (arith, starts (29 + 2 * length (now (c .before .before .before .before .before .before .before .before .args .raw))) (c .before .before .place .given .1) (c .before .before .before .before .overlap-of .ensures) .1)
+store-id-requires-2 c κs = (omega (arith, starts (29 + 2 * length (now (c .before .before .before .before .before .before .before .before .args .raw))) (c .before .before .place .given .1) (c .before .before .before .before .overlap-of .ensures) .1), search needs)
 
 add-result : tie.Need-add-result
 add-result c =

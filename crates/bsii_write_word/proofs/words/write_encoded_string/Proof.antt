@@ -38,7 +38,7 @@ array-share-prefix-text : tie.Need-array-share-prefix-text
 array-share-prefix-text c = search needs
 
 slice-aggregate-put-all : tie.Need-slice-aggregate-put-all
-slice-aggregate-put-all c = let f = c .before .before .before .store-encoded in sym (length-take-le (f .result) (f .last .0) (omega arith))
+slice-aggregate-put-all c = let f = c .before .before .before .store-encoded in sym (length-take-le (f .result) (f .last .1 .0) (omega arith))
 
 put-all-requires : tie.Need-put-all-requires
 put-all-requires c κs = search needs
@@ -53,7 +53,7 @@ enum-known-place : tie.Need-enum-known-place
 enum-known-place c = search needs
 
 store-encoded-requires-2 : tie.Need-store-encoded-requires-2
-store-encoded-requires-2 c κs = starts 13 (c .before .before .place .given .1) (c .before .before .before .before .overlap-of .ensures) .1
+store-encoded-requires-2 c κs = (starts 13 (c .before .before .place .given .1) (c .before .before .before .before .overlap-of .ensures) .1, search needs)
 
 add-result : tie.Need-add-result
 add-result c = omega (arith, c .before .before .store-encoded2 .ensures .1, starts 13 (c .before .before .before .before .before .place .given .1) (c .before .before .before .before .before .before .before .overlap-of .ensures) .1)
