@@ -49,14 +49,14 @@ save-7 and the hostile files but enums.
 INPUT is save-1 to save-16, a save of so many megabytes, or a hostile file:
 prototypes, falling, names, long-text, arrays, redefinition, redefinitions,
 enums, enum-lists, a save with lists of 40 pairs, bare-string, a string of a
-megabyte; or one of 16 MiB that needs a table of more than 4,096 rows, and gets
-three words for each whole 17 bytes: rows-ORDER, prototypes alone, or
-blocks-ORDER, where the ORDER of the ids is rising, falling, random, low-equal,
-high-equal or reversed. Only with --write or --instructions: triple, triples,
-quadruple or quadruples, a save of one vector type (0x09, 0x0a, 0x17, 0x18), two
-of which the Rust does not read; placement or placements, one of placements
-(0x19, 0x1a), and placement-1 or placements-1, the same in version 1, which the
-Rust does not read.
+megabyte, words, a save of encoded words and named ids alone; or one of 16 MiB
+that needs a table of more than 4,096 rows, and gets three words for each whole
+17 bytes: rows-ORDER, prototypes alone, or blocks-ORDER, where the ORDER of the
+ids is rising, falling, random, low-equal, high-equal or reversed. Only with
+--write or --instructions: triple, triples, quadruple or quadruples, a save of
+one vector type (0x09, 0x0a, 0x17, 0x18), two of which the Rust does not read;
+placement or placements, one of placements (0x19, 0x1a), and placement-1 or
+placements-1, the same in version 1, which the Rust does not read.
 
 Exit status: 0 if all was measured, 1 if the two texts differ, valgrind is
 missing or something else failed, 2 for bad usage.

@@ -19,7 +19,7 @@ type Maker = fn() -> Vec<u8>;
 /// Names, what they are, and the files.
 pub type Files<const N: usize> = [(&'static str, &'static str, Maker); N];
 
-pub const ALL: Files<10> = [
+pub const ALL: Files<11> = [
     (
         "prototypes",
         "4,096 prototypes with ids in random order, and the smallest blocks of the last one",
@@ -61,6 +61,11 @@ pub const ALL: Files<10> = [
         "bare-string",
         "a string of a megabyte that needs no quotation marks",
         bare_string,
+    ),
+    (
+        "words",
+        "a save of 1 MB whose values are encoded words and named ids alone",
+        saves::words,
     ),
 ];
 

@@ -15,7 +15,7 @@ pub const PLOT: [usize; 7] = [1, 2, 4, 7, 10, 13, 16];
 /// The save that the bar is about.
 pub const NORMAL: &str = "save-7";
 /// Those that instructions are counted on if none are named: callgrind takes minutes for others.
-pub const COUNTED: [&str; 11] = [
+pub const COUNTED: [&str; 12] = [
     "save-1",
     NORMAL,
     "prototypes",
@@ -27,6 +27,7 @@ pub const COUNTED: [&str; 11] = [
     "redefinitions",
     "enum-lists",
     "bare-string",
+    "words",
 ];
 
 fn save(megabytes: usize) -> Input {

@@ -62,6 +62,9 @@ const TYPES: [(u32, usize); 32] = [
     (0x3c, 1),
 ];
 
+/// Of these, the ones of encoded words, alone or as the names of ids.
+const OF_WORDS: [u32; 7] = [0x03, 0x04, 0x39, 0x3a, 0x3b, 0x3c, 0x3d];
+
 const WORDS: [&str; 48] = [
     "cargo", "truck", "trailer", "driver", "garage", "company", "job", "offer", "time", "distance",
     "damage", "wear", "fuel", "route", "city", "profit", "bank", "loan", "skill", "level", "count",
@@ -74,8 +77,31 @@ const CITIES: [&str; 8] = [
     "dresden", "gdansk", "lille", "brno", "odense", "trieste", "cork", "x_42",
 ];
 
+/// What the fields and ids of a save are.
+#[derive(Clone, Copy, PartialEq)]
+enum Shape {
+    /// Fields of all types, ids of every kind.
+    Usual,
+    /// The same, but every second field is an enum with a long list of its own.
+    EnumLists,
+    /// Fields of encoded words and ids alone, and every id is named.
+    Words,
+}
+
+impl Shape {
+    /// The types of its fields with their weights.
+    fn types(self) -> Vec<(u32, usize)> {
+        let mut types = TYPES.to_vec();
+        if self == Shape::Words {
+            types.retain(|(type_id, _)| OF_WORDS.contains(type_id));
+        }
+        types
+    }
+}
+
 /// A prototype and its fields' types, with the numbers in the list of each of its enums.
 struct Kind {
+    shape: Shape,
     id: u32,
     record: Vec<u8>,
     types: Vec<u32>,
@@ -99,16 +125,16 @@ fn words_joined(random: &mut Random, count: usize) -> String {
     words.join("_")
 }
 
-fn type_of_field(random: &mut Random) -> u32 {
-    let sum = TYPES.iter().map(|(_, weight)| weight).sum();
+fn type_of_field(random: &mut Random, weighted: &[(u32, usize)]) -> u32 {
+    let sum = weighted.iter().map(|(_, weight)| weight).sum();
     let mut drawn = random.below(sum);
-    for (type_id, weight) in TYPES {
-        if drawn < weight {
-            return type_id;
+    for (type_id, weight) in weighted {
+        if drawn < *weight {
+            return *type_id;
         }
         drawn -= weight;
     }
-    TYPES[0].0
+    weighted[0].0
 }
 
 /// An enum with a long list of its own.
@@ -120,18 +146,20 @@ fn long_choice(random: &mut Random, name: &[u8]) -> Vec<u8> {
     choice(name, &pairs)
 }
 
-/// Prototype `number` is the same in saves of all sizes. In the save of enum lists every second
-/// field is an enum.
-fn kind(number: usize, has_lists: bool) -> Kind {
+/// Prototype `number` is the same in saves of all sizes.
+fn kind(number: usize, shape: Shape) -> Kind {
     let mut random = Random::new(SEED, number as u64);
     let mut fields = 3 + random.below(9);
     if random.chance(25) {
         fields += random.below(20);
     }
-    let mut types: Vec<u32> = (0..fields).map(|_| type_of_field(&mut random)).collect();
-    // Each listed type has a field of its own, whatever was drawn.
-    types[0] = TYPES[number % TYPES.len()].0;
-    if has_lists {
+    let weighted = shape.types();
+    let mut types: Vec<u32> = (0..fields)
+        .map(|_| type_of_field(&mut random, &weighted))
+        .collect();
+    // Each type has a field of its own, whatever was drawn.
+    types[0] = weighted[number % weighted.len()].0;
+    if shape == Shape::EnumLists {
         let enums = types.iter_mut().skip(1).step_by(2);
         enums.for_each(|type_id| *type_id = 0x37);
     }
@@ -140,20 +168,21 @@ fn kind(number: usize, has_lists: bool) -> Kind {
     for (field, type_id) in types.iter().enumerate() {
         let count = 1 + random.below(3);
         let name = format!("{}_{field}", words_joined(&mut random, count));
-        definitions.push(match type_id {
-            0x37 if has_lists => long_choice(&mut random, name.as_bytes()),
-            0x37 => choice(name.as_bytes(), &STATES),
+        definitions.push(match (type_id, shape) {
+            (0x37, Shape::EnumLists) => long_choice(&mut random, name.as_bytes()),
+            (0x37, _) => choice(name.as_bytes(), &STATES),
             _ => definition(*type_id, name.as_bytes()),
         });
     }
     let name = format!("{}_{number}", words_joined(&mut random, 2));
     Kind {
+        shape,
         id,
         record: prototype(id, name.as_bytes(), &definitions),
         types,
-        states: match has_lists {
-            true => (0..PAIRS).collect(),
-            false => STATES.map(|(number, _)| number).to_vec(),
+        states: match shape {
+            Shape::EnumLists => (0..PAIRS).collect(),
+            _ => STATES.map(|(number, _)| number).to_vec(),
         },
     }
 }
@@ -176,14 +205,27 @@ fn nameless_id(random: &mut Random) -> Vec<u8> {
     nameless(0x1a0_0000_0000 + (random.number() >> 30) * 16)
 }
 
-fn id(random: &mut Random) -> Vec<u8> {
+fn named_id(random: &mut Random) -> Vec<u8> {
+    let count = 1 + random.below(4);
+    named(&(0..count).map(|_| some_word(random)).collect::<Vec<_>>())
+}
+
+fn id(random: &mut Random, shape: Shape) -> Vec<u8> {
+    if shape == Shape::Words {
+        return named_id(random);
+    }
     match random.below(100) {
         0..55 => nameless_id(random),
         55..62 => named(&[]),
-        _ => {
-            let count = 1 + random.below(4);
-            named(&(0..count).map(|_| some_word(random)).collect::<Vec<_>>())
-        }
+        _ => named_id(random),
+    }
+}
+
+/// Blocks are nameless more often than what points to them.
+fn block_id(random: &mut Random, shape: Shape) -> Vec<u8> {
+    match shape != Shape::Words && random.chance(60) {
+        true => nameless_id(random),
+        false => id(random, shape),
     }
 }
 
@@ -245,7 +287,7 @@ fn elements(random: &mut Random, element: impl Fn(&mut Random) -> Vec<u8>) -> Ve
     bytes
 }
 
-fn value(random: &mut Random, type_id: u32, states: &[u32]) -> Vec<u8> {
+fn value(random: &mut Random, type_id: u32, kind: &Kind) -> Vec<u8> {
     let cut =
         |width: usize| move |random: &mut Random| number(random).to_le_bytes()[..width].to_vec();
     let three = |random: &mut Random| [cut(4)(random), cut(4)(random), cut(4)(random)].concat();
@@ -254,6 +296,7 @@ fn value(random: &mut Random, type_id: u32, states: &[u32]) -> Vec<u8> {
         false => some_word(random).to_le_bytes().to_vec(),
     };
     let flag = |random: &mut Random| vec![random.below(2) as u8];
+    let pointer = |random: &mut Random| id(random, kind.shape);
     match type_id {
         0x01 => text(random),
         0x02 => elements(random, text),
@@ -276,20 +319,17 @@ fn value(random: &mut Random, type_id: u32, states: &[u32]) -> Vec<u8> {
         0x32 | 0x34 => elements(random, cut(8)),
         0x35 => flag(random),
         0x36 => elements(random, flag),
-        0x37 => random.pick(states).to_le_bytes().to_vec(),
-        0x39 | 0x3b | 0x3d => id(random),
-        _ => elements(random, id),
+        0x37 => random.pick(&kind.states).to_le_bytes().to_vec(),
+        0x39 | 0x3b | 0x3d => pointer(random),
+        _ => elements(random, pointer),
     }
 }
 
 fn block(random: &mut Random, kind: &Kind) -> Vec<u8> {
     let mut bytes = kind.id.to_le_bytes().to_vec();
-    bytes.extend(match random.chance(60) {
-        true => nameless_id(random),
-        false => id(random),
-    });
+    bytes.extend(block_id(random, kind.shape));
     for type_id in &kind.types {
-        bytes.extend(value(random, *type_id, &kind.states));
+        bytes.extend(value(random, *type_id, kind));
     }
     bytes
 }
@@ -307,18 +347,24 @@ fn drawn(random: &mut Random, defined: usize) -> usize {
 
 /// The save of so many megabytes, from 1 to 16.
 pub fn save(megabytes: usize) -> Vec<u8> {
-    let kinds: Vec<Kind> = (0..prototypes(megabytes)).map(|n| kind(n, false)).collect();
-    of_kinds(&kinds, blocks(megabytes), megabytes * MEGABYTE)
+    of_shape(Shape::Usual, megabytes)
 }
 
 /// A save of a megabyte, as the others but for its enums.
 pub fn enum_lists() -> Vec<u8> {
-    let kinds: Vec<Kind> = (0..prototypes(1)).map(|n| kind(n, true)).collect();
-    of_kinds(&kinds, blocks(1), MEGABYTE)
+    of_shape(Shape::EnumLists, 1)
 }
 
-/// So many blocks, and some so many bytes.
-fn of_kinds(kinds: &[Kind], blocks: usize, size: usize) -> Vec<u8> {
+/// A save of a megabyte, of encoded words and named ids alone.
+pub fn words() -> Vec<u8> {
+    of_shape(Shape::Words, 1)
+}
+
+/// So many prototypes and blocks as a save of so many megabytes has, and some so many bytes.
+fn of_shape(shape: Shape, megabytes: usize) -> Vec<u8> {
+    let prototypes = 0..prototypes(megabytes);
+    let kinds: Vec<Kind> = prototypes.map(|number| kind(number, shape)).collect();
+    let (blocks, size) = (blocks(megabytes), megabytes * MEGABYTE);
     let mut random = Random::new(SEED, BLOCKS);
     // A prototype stands in front of its first block, and all do in the first quarter.
     let apart = blocks / 4 / kinds.len();
@@ -401,14 +447,17 @@ mod tests {
         assert_eq!((prototypes(1), prototypes(LARGEST)), (150, 300));
     }
 
+    /// The types of the fields of all prototypes.
+    fn types_of(shape: Shape) -> HashSet<u32> {
+        let kinds = (0..prototypes(1)).map(|number| kind(number, shape));
+        kinds.flat_map(|kind| kind.types).collect()
+    }
+
     #[test]
     fn every_type_that_the_rust_reads() {
-        let types: HashSet<u32> = (0..prototypes(1))
-            .flat_map(|n| kind(n, false).types)
-            .collect();
         let mut read = HashSet::from(generate::LISTED);
         read.retain(|type_id| !matches!(type_id, 0x0a | 0x17));
-        assert_eq!(types, read);
+        assert_eq!(types_of(Shape::Usual), read);
     }
 
     #[test]
@@ -432,6 +481,43 @@ mod tests {
             })
             .collect();
         assert_eq!(numbers, (0..PAIRS).collect());
+    }
+
+    /// The words of a named id.
+    fn words_of(id: &oracle::Id) -> &[String] {
+        match id {
+            oracle::Id::Named(words) => words,
+            nameless => panic!("{nameless:?}"),
+        }
+    }
+
+    #[test]
+    fn encoded_words_and_named_ids_alone() {
+        assert_eq!(types_of(Shape::Words), HashSet::from(OF_WORDS));
+        let bytes = words();
+        assert!(bytes.len().abs_diff(MEGABYTE) * 20 <= MEGABYTE);
+        let parsed = oracle::parse(&bytes).expect("the Rust reads it");
+        assert_eq!(parsed.prototypes.len(), prototypes(1));
+        assert_eq!(parsed.data_blocks.len(), blocks(1));
+        let mut counts = HashSet::new();
+        let mut lengths = HashSet::new();
+        for block in &parsed.data_blocks {
+            let mut ids = vec![&block.id];
+            for value in &block.data {
+                match value {
+                    oracle::DataValue::EncodedString(word) => _ = lengths.insert(word.len()),
+                    oracle::DataValue::EncodedStringArray(words) => {
+                        lengths.extend(words.iter().map(String::len))
+                    }
+                    oracle::DataValue::Id(id) => ids.push(id),
+                    oracle::DataValue::IdArray(more) => ids.extend(more),
+                    other => panic!("{other:?}"),
+                }
+            }
+            counts.extend(ids.into_iter().map(|id| words_of(id).len()));
+        }
+        assert_eq!(counts, HashSet::from([1, 2, 3, 4]));
+        assert_eq!(lengths, (0..=12).filter(|length| *length != 1).collect());
     }
 
     #[test]
