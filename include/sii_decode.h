@@ -17,8 +17,8 @@
  * call ends. The library allocates nothing, keeps nothing between calls and keeps no pointer, so calls with different tables, outputs and spaces may
  * run at the same time.
  *
- * What the library needs. x86-64 and the System V calling convention. Of libc memcpy and memset, and nothing else. 4096 bytes of stack for
- * each call: tests/c/stack.c runs each call on a stack filled with a pattern and measures at most 3448, those two functions included; a dynamic
+ * What the library needs. x86-64 and the System V calling convention. Of libc memcpy and memset, and nothing else. 8192 bytes of stack for
+ * each call: tests/c/stack.c runs each call on a stack filled with a pattern and measures at most 6824, those two functions included; a dynamic
  * linker that binds them at their first call (without -z now) takes some kilobytes more at that time. Its code is position independent.
  *
  * The file is read only. It may be any bytes, also none; with more than SII_LENGTH_LIMIT it is refused. Its version is the uint32_t at byte 4,
@@ -49,7 +49,7 @@ extern "C" {
  * layouts included, for calls are still to be added; a new patch version changes nothing of it. From 1.0 on that takes a new major version.
  */
 #define SII_VERSION_MAJOR 0
-#define SII_VERSION_MINOR 4
+#define SII_VERSION_MINOR 5
 #define SII_VERSION_PATCH 0
 
 /* The most bytes that a file may have, those behind its end record included. */

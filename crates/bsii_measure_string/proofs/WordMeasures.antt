@@ -1,18 +1,18 @@
 -- Words and ids, measured.
-use mathlib.Core.Path.{_≡_, refl, sym, ap, subst, _∙_}
+use mathlib.Core.Path.{_≡_, refl, sym, ap, _∙_}
 use Prim.Native.Nat.{ℕ, zero, suc, _+_, _-_, _^_, _≤_, _<_}
 use native.Mathlib.Omega.{arith}
-use mathlib.Core.Bool.{Bool, cond}
+use mathlib.Core.Bool.{Bool, true, cond}
 use mathlib.Core.Option.{Option, none, some, Option·getD}
 use mathlib.Core.List.{List, [], _∷_}
 use lib.ListN.{length, drop, length-append}
 use borrow.Author.Tests.{eq-eqb, ne-eqb}
 use Rattle.bsii_format.specs.Replies.{zeroDigit}
-use Rattle.bsii_format.specs.Reader.{ok, fault, Reader, _>>=_, success, _<$>_, repeat}
+use Rattle.bsii_format.specs.Reader.{ok, fault, Reader, _>>=_, success, _<$>_, verify, repeat}
 use Rattle.bsii_format.specs.Numbers.{number, leU64}
-use Rattle.bsii_format.specs.Strings.{base38, characters, low63, encodedStrParser, Id, nameless, named, idParser}
+use Rattle.bsii_format.specs.Strings.{base38, spelled, characters, low63, encodedStrParser, Id, nameless, named, idParser}
 use Rattle.bsii_format.specs.Text.{orEmpty, encodedStringText, dotted, idText}
-use Rattle.bsii_format.proofs.Readers.{after-ok, ok-val, repeat-exact}
+use Rattle.bsii_format.proofs.Readers.{after-ok, cond-ok, is-true, ok-val, repeat-exact}
 use Rattle.bsii_format.proofs.Parsers.{encodedStr-exact}
 use Rattle.bsii_format.proofs.Positions.{bind-ok, bind-fault}
 use Rattle.bsii_string.specs.Answers.{faultIs, numOf64, refusedAt}
@@ -24,7 +24,7 @@ use Rattle.bsii_word.specs.declared.words.Spelled.the-variants.{Length, ZeroDig
 use Rattle.bsii_word.proofs.Base38.{lengthOf, accepted, not-accepted}
 use Rattle.bsii_word.proofs.WordLaws.{word-short as short, word-whole as whole, word-not as not-spelled}
 use Rattle.bsii_text_length.proofs.WordLaws.{characters-spelling, at-most-thirteen}
-use Rattle.bsii_measure_string.specs.Measured.{measured, rowSize, AtMost, WordMeasured}
+use Rattle.bsii_measure_string.specs.Measured.{measured, rowSize}
 use Rattle.bsii_measure_string.specs.declared.answers.Measured.{Measured}
 use Rattle.bsii_measure_string.specs.declared.answers.Measured.the-variants.{Next, Fault}
 use Rattle.bsii_measure_string.proofs.Measures.{measured-ok, measured-fault, measured-map, refused-too, sum-next}
@@ -42,41 +42,39 @@ length-characters n = go (base38 n)
     go none e = let z : _≡_ {A = ℕ} 0 1 = cc in absurd (omega arith)
     go (some l) e = cc
 
+-- what an answer about the word at an offset says
+abbrev pub WordRead : List ℕ → ℕ → Measured → Type 0
+WordRead s at r = r ≡ measured wordSize (encodedStrParser at (drop at s))
+
 module _ (s : List ℕ) (at : ℕ) {x : Num64} (e : numOf64 s x ≡ number 8 at (drop at s)) where
-  pub word-short : {f : Refusal} → x ≡ Short64 f → WordMeasured s at (Fault f)
+  pub word-short : {f : Refusal} → x ≡ Short64 f → WordRead s at (Fault f)
   unfolding measured
-  word-short z = record { reads = sym (ap (measured wordSize) (short (drop at s) at (sym e ∙ ap (numOf64 s) z))); few = tt }
+  word-short z = sym (ap (measured wordSize) (short (drop at s) at (sym e ∙ ap (numOf64 s) z)))
 
   module _ {n next : ℕ} (z : x ≡ Got64 n next) where
     read : number 8 at (drop at s) ≡ ok n next (drop next s)
     read = sym e ∙ ap (numOf64 s) z
 
-    pub word-zero : lengthOf (low63 n) ≡ ZeroDigit → {f : Refusal} → f ≡ refusedAt zeroDigit at → WordMeasured s at (Fault f)
+    pub word-zero : lengthOf (low63 n) ≡ ZeroDigit → {f : Refusal} → f ≡ refusedAt zeroDigit at → WordRead s at (Fault f)
     unfolding measured low63
-    word-zero h k = record { reads = ap Fault k ∙ sym (ap (measured wordSize) (not-spelled (drop at s) at n next (drop next s) read (not-accepted (low63 n) h))); few = tt }
+    word-zero h k = ap Fault k ∙ sym (ap (measured wordSize) (not-spelled (drop at s) at n next (drop next s) read (not-accepted (low63 n) h)))
 
-    pub word-next : n < 2 ^ 64 → {k : ℕ} → lengthOf (low63 n) ≡ Length k → WordMeasured s at (Next next k)
+    pub word-next : {k : ℕ} → lengthOf (low63 n) ≡ Length k → WordRead s at (Next next k)
     unfolding measured low63
-    word-next l {k} h =
-        let a = accepted (low63 n) h in
-        let c = length-characters (low63 n) h in
-        record {
-          reads = ap (λ m. Next next m) c ∙ sym (ap (measured wordSize) (whole (drop at s) at n next (drop next s) read a));
-          few = omega (arith, c, ap length (characters-spelling (low63 n) a), at-most-thirteen (low63 n) (omega arith));
-        }
+    word-next h = ap (λ m. Next next m) (length-characters (low63 n) h) ∙ sym (ap (measured wordSize) (whole (drop at s) at n next (drop next s) read (accepted (low63 n) h)))
 
 -- as a value
-module _ (s : List ℕ) (at : ℕ) {r : Measured} (e : WordMeasured s at r) where
+module _ (s : List ℕ) (at : ℕ) {r : Measured} (e : WordRead s at r) where
   abbrev emptySize : ℕ → ℕ
   emptySize w = length (encodedStringText w)
 
   pub encoded-fault : {f : Refusal} → r ≡ Fault f → Fault f ≡ measured emptySize (encodedStrParser at (drop at s))
-  encoded-fault z = refused-too wordSize emptySize (encodedStrParser at (drop at s)) (encodedStrParser at (drop at s)) (λ f k. k) (sym z ∙ e .reads)
+  encoded-fault z = refused-too wordSize emptySize (encodedStrParser at (drop at s)) (encodedStrParser at (drop at s)) (λ f k. k) (sym z ∙ e)
 
   written : {n k m : ℕ} → r ≡ Next n k → ((l : List ℕ) → k ≡ length l → m ≡ length (orEmpty l)) → Next n m ≡ measured emptySize (encodedStrParser at (drop at s))
   unfolding measured encodedStringText
   written {n} z h =
-      let q = measured-ok encodedStr-exact wordSize s at (sym z ∙ e .reads) in
+      let q = measured-ok encodedStr-exact wordSize s at (sym z ∙ e) in
       ap (λ i. Next n i) (h (characters (q .value)) (q .long)) ∙ sym (ap (measured emptySize) (q .reads))
 
   pub encoded-none : {n k : ℕ} → r ≡ Next n k → k ≡ 0 → Next n 2 ≡ measured emptySize (encodedStrParser at (drop at s))
@@ -101,18 +99,32 @@ module _ (s : List ℕ) (at : ℕ) {r : Measured} (e : WordMeasured s at r) wher
 abbrev pub dottedSize : ℕ → ℕ → ℕ
 dottedSize i w = 1 + length (characters w)
 
-pub word-fault : (s : List ℕ) (at : ℕ) {r : Measured} → WordMeasured s at r → {f : Refusal} → r ≡ Fault f → encodedStrParser at (drop at s) ≡ fault (faultIs f)
-word-fault s at e z = measured-fault wordSize (encodedStrParser at (drop at s)) (sym z ∙ e .reads)
+pub word-fault : (s : List ℕ) (at : ℕ) {r : Measured} → WordRead s at r → {f : Refusal} → r ≡ Fault f → encodedStrParser at (drop at s) ≡ fault (faultIs f)
+word-fault s at e z = measured-fault wordSize (encodedStrParser at (drop at s)) (sym z ∙ e)
 
-pub word-few : {s : List ℕ} {at : ℕ} {r : Measured} → WordMeasured s at r → {n l : ℕ} → r ≡ Next n l → l ≤ 13
-word-few e z = subst (AtMost 13) z (e .few)
+-- an accepted word has no digit 0, and 63 bits
+word-accepted : (at : ℕ) (s : List ℕ) {w n : ℕ} {r : List ℕ} → encodedStrParser at s ≡ ok w n r → (spelled w ≡ true) × (w < 2 ^ 64)
+unfolding encodedStrParser verify _<$>_ _>>=_ success low63
+word-accepted at s {w} e =
+    let q = after-ok ((low63 <$> leU64) at s) _ e in
+    let k = cond-ok (spelled (q .0)) (ok (q .0) (q .1) (q .2)) _ (q .4) in
+    let p = after-ok (leU64 at s) _ (q .3) in
+    let v = ok-val (k .1) in
+    let l = ok-val (p .4) in
+    (ap spelled (sym v) ∙ is-true (spelled (q .0)) (k .0), omega (arith, v, l))
 
-module _ (s : List ℕ) (count left at long : ℕ) {r : Measured} (e : WordMeasured s at r) where
+pub word-few : (s : List ℕ) (at : ℕ) {r : Measured} → WordRead s at r → {n l : ℕ} → r ≡ Next n l → l ≤ 13
+word-few s at e z =
+    let q = measured-ok encodedStr-exact wordSize s at (sym z ∙ e) in
+    let a = word-accepted at (drop at s) (q .reads) in
+    omega (arith, q .long, ap length (characters-spelling (q .value) (a .0)), at-most-thirteen (q .value) (a .1))
+
+module _ (s : List ℕ) (count left at long : ℕ) {r : Measured} (e : WordRead s at r) where
   pub words-next : {n l : ℕ} → 0 < left → left ≤ count → r ≡ Next n l
       → measured (λ k. long + (1 + l) + rowSize dottedSize (count - (left - 1)) k) (repeat (left - 1) encodedStrParser n (drop n s))
       ≡ measured (λ k. long + rowSize dottedSize (count - left) k) (repeat left encodedStrParser at (drop at s))
   words-next {n} {l} h k z =
-      let q = measured-ok encodedStr-exact wordSize s at (sym z ∙ e .reads) in
+      let q = measured-ok encodedStr-exact wordSize s at (sym z ∙ e) in
       let i : count - (left - 1) ≡ count - left + 1 = omega arith in
       rw (i, q .long) (sum-next encodedStrParser dottedSize s left at (count - left) long h (q .reads))
 

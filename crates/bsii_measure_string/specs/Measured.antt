@@ -1,11 +1,9 @@
 -- A reader's result as its end and the length of a text of its value.
-use Prim.Native.Nat.{ℕ, suc, _+_, _≤_}
-use mathlib.Core.Path.{_≡_}
+use Prim.Native.Nat.{ℕ, suc, _+_}
 use mathlib.Core.Option.{Option·getD}
 use mathlib.Core.List.{List, [], _∷_}
-use lib.ListN.{length, drop}
+use lib.ListN.{length}
 use Rattle.bsii_format.specs.Reader.{Result, ok, fault, Consumed}
-use Rattle.bsii_format.specs.Strings.{characters, encodedStrParser}
 use Rattle.bsii_format.specs.Values.{Element, Value, single, array}
 use Rattle.bsii_format.specs.Digits.{decimal}
 use Rattle.bsii_format.specs.Text.{elementText}
@@ -17,15 +15,6 @@ use Rattle.bsii_measure_string.specs.declared.answers.Measured.the-varia
 unfoldable pub measured : {A : Type 0} → (A → ℕ) → Result A → Measured
 measured size (ok a at s) = Next at (size a)
 measured size (fault f) = Fault (refusalIs f)
-
-abbrev pub AtMost : ℕ → Measured → Type 0
-AtMost k (Next at long) = long ≤ k
-AtMost k (Fault f) = Unit {0}
-
--- a word by its characters, thirteen at most
-pub record WordMeasured (s : List ℕ) (at : ℕ) (r : Measured) : Type 0 where
-  pub reads : r ≡ measured (λ w. length (characters w)) (encodedStrParser at (drop at s))
-  pub few : AtMost 13 r
 
 -- An element that is no enum value; of one that is, 0: its text needs the list
 unfoldable pub elementSize : Element → ℕ

@@ -15,15 +15,15 @@ ghost use Prim.Native.Nat.{_<_};
 ghost use lib.ListN.{length, drop};
 ghost use Rattle.bsii_format.specs.Reader.{repeat};
 ghost use Rattle.bsii_format.specs.Numbers.{number};
-ghost use Rattle.bsii_format.specs.Strings.{encodedStrParser, nameless, named, idParser};
+ghost use Rattle.bsii_format.specs.Strings.{characters, encodedStrParser, nameless, named, idParser};
 ghost use Rattle.bsii_format.specs.Text.{encodedStringText, idText};
 ghost use Rattle.bsii_base38.specs.Pairs.{CharPairs};
-ghost use Rattle.bsii_measure_string.specs.Measured.{measured, WordMeasured};
+ghost use Rattle.bsii_measure_string.specs.Measured.{measured};
 
 // A word and its characters: one walk over its digits says whether it is accepted and how long it is.
 fn word_measured(chars: &CharPairs, s: &[u8], at: usize) -> Measured
     requires { ⌜ CharPairs (now chars) ⌝ }
-    ensures { λ r. ⌜ WordMeasured (now (s .entry)) at r ⌝ }
+    ensures { λ r. ⌜ r ≡ measured (λ w. length (characters w)) (encodedStrParser at (drop at (now (s .entry)))) ⌝ }
 {
     let word = le_u64(s, at);
     match word {

@@ -1,6 +1,6 @@
 -- shape_of is shapeOf, so each arm is the valueParser of its shape. In an array the value was accepted first, which is all that in_array asks;
 -- a value that is refused, or a type that is not listed, is refused by ofValue with the same fault.
-use mathlib.Core.Path.{_≡_, sym, ap, _∙_}
+use mathlib.Core.Path.{sym, ap, _∙_}
 use mathlib.Core.Option.{Option, some}
 use denote.Ref.{now}
 use Rattle.bsii_format.specs.Replies.{refuses}
@@ -8,7 +8,7 @@ use Rattle.bsii_format.specs.Reader.{fail}
 use Rattle.bsii_format.specs.Types.{Shape, many, shapeOf}
 use Rattle.bsii_format.specs.Values.{shapeParser, valueParser}
 use Rattle.bsii_format.specs.Calls.{ofValue, elementCall}
-use Rattle.bsii_string.specs.Answers.{faultIs, endOf}
+use Rattle.bsii_string.specs.Answers.{faultIs}
 use Rattle.bsii_string.specs.declared.answers.Refusal.{Refusal}
 use Rattle.bsii_value.specs.Kinds.{kindIs, shapeIs}
 use Rattle.bsii_element.proofs.Call.{value-fault}

@@ -20,19 +20,16 @@ enum-known-end : tie.Need-enum-known-end
 enum-known-end c = search needs
 
 add-t7 : tie.Need-add-t7
-unfolding elementParser
 add-t7 c =
     let a = c .before .before .before .before .before .args in
     omega (arith, string-next (now (a .s)) (a .at) (sym (c .before .end .given .1) ∙ c .before .before .before .str-end .ensures))
 
 sub-t8 : tie.Need-sub-t8
-unfolding elementParser
 sub-t8 c =
     let a = c .before .before .before .before .before .args in
     omega (arith, string-next (now (a .s)) (a .at) (sym (c .before .end .given .1) ∙ c .before .before .before .str-end .ensures))
 
 sub-t9 : tie.Need-sub-t9
-unfolding elementParser
 sub-t9 c =
     let a = c .before .before .before .before .before .args in
     omega (arith, string-next (now (a .s)) (a .at) (sym (c .before .end .given .1) ∙ c .before .before .before .str-end .ensures))
@@ -41,7 +38,6 @@ enum-known-end-2 : tie.Need-enum-known-end-2
 enum-known-end-2 c = search needs
 
 returns : tie.Need-returns
-unfolding elementParser
 returns c =
     let a = c .before .before .before .before .before .args in
     string-decoded (now (a .s)) (a .at) (sym (c .before .end .given .1) ∙ c .before .before .before .str-end .ensures)

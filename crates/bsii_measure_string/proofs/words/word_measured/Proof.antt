@@ -1,5 +1,4 @@
 use mathlib.Core.Path.{sym, _∙_}
-use native.Mathlib.Omega.{arith}
 use denote.Ref.{now}
 use Rattle.bsii_format.specs.Strings.{low63}
 use Rattle.bsii_measure_string.proofs.WordMeasures.{word-short, word-zero, word-next}
@@ -43,7 +42,7 @@ unfolding low63
 returns-3 c =
     let told = c .before .before .before .before .before in
     let a = told .before .before .before .before .args in
-    word-next (now (a .s)) (a .at) (told .before .before .le-u64 .ensures) (told .word2 .given .1) (omega arith) (sym (c .before .before .before .spelled-length .ensures) ∙ c .before .spelling .given .1)
+    word-next (now (a .s)) (a .at) (told .before .before .le-u64 .ensures) (told .word2 .given .1) (sym (c .before .before .before .spelled-length .ensures) ∙ c .before .spelling .given .1)
 
 pub word-measured-spec : {M : Type 1} → statement M
 word-measured-spec =

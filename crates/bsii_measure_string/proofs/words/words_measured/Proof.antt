@@ -44,10 +44,10 @@ enum-known-word-2 : tie.Need-enum-known-word-2 Inv-loop μ-loop
 enum-known-word-2 c = search needs
 
 add-long : tie.Need-add-long Inv-loop μ-loop
-add-long c = omega (arith, word-few (c .before .before .before .word-measured .ensures) (c .before .word2 .given .1))
+add-long c = let l = c .before .before .before .before .before in omega (arith, word-few (now (l .before .before .args .s)) (l .loop .at) (c .before .before .before .word-measured .ensures) (c .before .word2 .given .1))
 
 add-long-2 : tie.Need-add-long-2 Inv-loop μ-loop
-add-long-2 c = omega (arith, word-few (c .before .before .before .word-measured .ensures) (c .before .word2 .given .1))
+add-long-2 c = let l = c .before .before .before .before .before in omega (arith, word-few (now (l .before .before .args .s)) (l .loop .at) (c .before .before .before .word-measured .ensures) (c .before .word2 .given .1))
 
 sub-left : tie.Need-sub-left Inv-loop μ-loop
 sub-left c = omega arith
@@ -62,7 +62,7 @@ loop-again c =
     let w = c .before .before .before .word-measured .ensures in (
       omega arith,
       omega arith,
-      omega (arith, word-few w (c .before .word2 .given .1)),
+      omega (arith, word-few (now (a .s)) (l .loop .at) w (c .before .word2 .given .1)),
       words-next (now (a .s)) (a .count) (l .loop .left) (l .loop .at) (l .loop .long) w (omega arith) (omega arith) (c .before .word2 .given .1) ∙ l .loop .inv .3,
     )
 
