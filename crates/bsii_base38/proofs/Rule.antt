@@ -1,5 +1,5 @@
 -- The table's rule at each entry, and what the marks say, each by one test that is computed over all entries.
-use Prim.Native.Nat.{ℕ, _/_, _%_, _<_}
+use Prim.Native.Nat.{ℕ, _+_, _*_, _/_, _%_, _<_}
 use mathlib.Core.Path.{_≡_, refl, sym}
 use mathlib.Core.Bool.{Bool, true, false, not, cond}
 use mathlib.Core.List.{List}
@@ -40,6 +40,11 @@ module _ (r : ℕ) (l : r < 1444) where
   unfolding holds pairOf charOf charEncodings lowZero
   low-marked = agreed (marked 0x80 (pairOf r)) (lowZero r) (holds-at (λ n. agree (marked 0x80 (pairOf n)) (lowZero n)) 1444 refl r l)
 
+-- a digit's character is the mark where the digit is 0, and only there
+pub char-marked : (d : ℕ) → d < 38 → eqb (charOf d) 128 ≡ eqb d 0
+unfolding holds charOf charEncodings
+char-marked d l = agreed (eqb (charOf d) 128) (eqb d 0) (holds-at (λ n. agree (eqb (charOf n) 128) (eqb n 0)) 38 refl d l)
+
 -- a character is a byte
 pub char-byte : (d : ℕ) → d < 38 → charOf d < 256
 unfolding holds charOf charEncodings
@@ -54,3 +59,11 @@ module _ (r : ℕ) (l : r < 1444) where
   pub second-of : pairOf r / 256 ≡ charOf (r / 38)
   unfolding pairOf
   second-of = omega (arith, char-byte (r % 38) (omega arith))
+
+-- the two digits of a remainder are the number's lowest two
+module _ (r n : ℕ) (e : r ≡ n % 1444) where
+  pub lower-digit : r % 38 ≡ n % 38
+  lower-digit = omega arith
+
+  pub upper-digit : r / 38 ≡ n / 38 % 38
+  upper-digit = let z : n / 38 ≡ 38 * (n / 1444) + r / 38 = omega arith in omega arith

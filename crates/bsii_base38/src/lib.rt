@@ -8,7 +8,7 @@ ghost use Rattle.bsii_base38.specs.Pairs.{pairOf, CharPairs, hasZero, lo
 
 pub type CharPairs = [u16; 1444];
 
-// The table. A constant is built on the stack for each use, so a call takes it once and lends it down its walks.
+// The table. A constant is built on the stack for each use, so a walk over a file takes it once and lends it down.
 pub fn char_pairs() -> CharPairs
     ensures { λ r. ⌜ CharPairs r ⌝ }
 {

@@ -2,17 +2,20 @@
 use Prim.Native.Nat.{ℕ, zero, suc, _+_, _/_, _%_, _^_, _≤_, _<_}
 use mathlib.Core.Path.{_≡_, refl, sym, ap, _∙_}
 use mathlib.Core.Logic.{⊎-elim}
-use mathlib.Core.Bool.{true}
-use mathlib.Core.Option.{Option, none, some, Option·getD}
+use mathlib.Core.Bool.{Bool, true, false, cond, true≢false}
+use mathlib.Core.Option.{Option, none, some, Option·getD, Option·map}
 use mathlib.Core.List.{List, [], _∷_}
 use native.Mathlib.Nat.{pow-suc}
 use native.Mathlib.Omega.{arith}
+use lib.Dec.{eqb}
 use lib.ListN.{length, getD}
+use borrow.Author.Tests.{ne-eqb}
 use Rattle.bsii_format.specs.Strings.{charEncodings, digitThen, base38From, base38, isSome, spelled, characters}
 use Rattle.bsii_format.specs.Text.{orEmpty, encodedStringText}
 use Rattle.bsii_format.proofs.Lists.{lt-or-le}
 use Rattle.bsii_base38.specs.Pairs.{charOf}
-use Rattle.bsii_text_length.specs.Words.{spellingFrom, spelling, encodedText}
+use Rattle.bsii_base38.proofs.Rule.{char-marked}
+use Rattle.bsii_text_length.specs.Words.{spellingFrom, spelling, unmarked, encodedText}
 
 -- more fuel than the rest changes nothing
 fuel : (f g n : ℕ) → n ≤ f → n ≤ g → spellingFrom f n ≡ spellingFrom g n
@@ -73,23 +76,38 @@ at-most-thirteen n h = most 13 n (omega arith)
 
 -- ---- accepted words
 
--- a digit in front of characters that are there
-digit-then : (d : ℕ) (o : Option (List ℕ)) (l : List ℕ)
-    → isSome (digitThen d o) ≡ true → (isSome o ≡ true → Option·getD o [] ≡ l) → Option·getD (digitThen d o) [] ≡ charOf d ∷ l
-unfolding digitThen isSome charOf
-digit-then zero o l h k = absurd (let z : _≡_ {A = ℕ} 0 1 = cc in omega arith)
-digit-then (suc d) none l h k = absurd (let z : _≡_ {A = ℕ} 0 1 = cc in omega arith)
-digit-then (suc d) (some x) l h k = ap (λ (t : List ℕ). getD charEncodings d 0 ∷ t) (k refl)
+digit-marked : (d : ℕ) → d < 38 → {o : Option (List ℕ)} (l : List ℕ) → o ≡ unmarked l → digitThen d o ≡ unmarked (charOf d ∷ l)
+unfolding digitThen unmarked charOf
+digit-marked zero h l e = refl
+digit-marked (suc d) h l e = let m : eqb (getD charEncodings d 0) 128 ≡ false = char-marked (suc d) h ∙ ne-eqb (suc d) 0 (λ z. omega arith) in rw (m, e) refl
 
-from : (f n : ℕ) → isSome (base38From f n) ≡ true → Option·getD (base38From f n) [] ≡ spellingFrom f n
-unfolding base38From spellingFrom
-from zero n h = refl
-from (suc f) zero h = refl
-from (suc f) (suc n) h = digit-then (suc n % 38) (base38From f (suc n / 38)) (spellingFrom f (suc n / 38)) h (from f (suc n / 38))
+marked-from : (f n : ℕ) → base38From f n ≡ unmarked (spellingFrom f n)
+unfolding base38From spellingFrom unmarked
+marked-from zero n = refl
+marked-from (suc f) zero = refl
+marked-from (suc f) (suc n) = digit-marked (suc n % 38) (omega arith) (spellingFrom f (suc n / 38)) (marked-from f (suc n / 38))
+
+-- for every u64 what is stored says the definition's characters, or its fault
+pub base38-spelling : (n : ℕ) → base38 n ≡ unmarked (spelling n)
+unfolding base38 spelling
+base38-spelling n = marked-from n n
+
+-- bytes without a mark are as they were
+unmarked-same : (l : List ℕ) → isSome (unmarked l) ≡ true → Option·getD (unmarked l) [] ≡ l
+unfolding unmarked isSome
+unmarked-same [] h = refl
+unmarked-same (x ∷ l) h = go (eqb x 128) (unmarked l) h (unmarked-same l)
+  where
+    go : (b : Bool) (o : Option (List ℕ)) → isSome (cond b none (Option·map (λ (t : List ℕ). x ∷ t) o)) ≡ true → (isSome o ≡ true → Option·getD o [] ≡ l)
+        → Option·getD (cond b none (Option·map (λ (t : List ℕ). x ∷ t) o)) [] ≡ x ∷ l
+    go true o h k = absurd (true≢false (sym h))
+    go false none h k = absurd (true≢false (sym h))
+    go false (some t) h k = ap (λ (t : List ℕ). x ∷ t) (k refl)
 
 pub characters-spelling : (n : ℕ) → spelled n ≡ true → characters n ≡ spelling n
-unfolding spelled base38 characters spelling
-characters-spelling n h = from n n h
+unfolding spelled characters
+characters-spelling n h =
+    ap (λ (o : Option (List ℕ)). Option·getD o []) (base38-spelling n) ∙ unmarked-same (spelling n) (ap isSome (sym (base38-spelling n)) ∙ h)
 
 or-empty : (n : ℕ) → orEmpty (spelling n) ≡ encodedText n
 unfolding encodedText orEmpty spelling spellingFrom

@@ -1,10 +1,10 @@
 -- Digits to base 38: the definition's fuel never shows, so a loop by division answers it.
 use mathlib.Core.Path.{_≡_, refl, sym, ap, _∙_}
-use Prim.Native.Nat.{ℕ, zero, suc, _+_, _*_, _/_, _%_, _≤_, _<_}
+use Prim.Native.Nat.{ℕ, zero, suc, _+_, _/_, _%_, _≤_, _<_}
 use native.Mathlib.Nat.{zero-add, add-assoc}
 use native.Mathlib.Numerals.{one-add}
 use native.Mathlib.Omega.{arith}
-use mathlib.Core.Bool.{true, false}
+use mathlib.Core.Bool.{true, false, true≢false}
 use mathlib.Core.Logic.{⊎-elim}
 use lib.Dec.{eqb}
 use lib.ListN.{length}
@@ -14,6 +14,7 @@ use mathlib.Core.List.{List}
 use Rattle.bsii_format.specs.Strings.{digitThen, base38From, base38, isSome, spelled}
 use Rattle.bsii_format.proofs.Lists.{bool-cases}
 use Rattle.bsii_base38.specs.Pairs.{lowZero, hasZero}
+use Rattle.bsii_base38.proofs.Rule.{lower-digit, upper-digit}
 use Rattle.bsii_word.specs.Words.{spelledAs}
 use Rattle.bsii_word.specs.declared.words.Spelled.{Spelled}
 use Rattle.bsii_word.specs.declared.words.Spelled.the-variants.{Length, ZeroDigit}
@@ -72,9 +73,6 @@ length-not n h k = ap spelledAs (base38-more n h) ∙ ap (λ (d : ℕ). spelledA
 
 -- ---- by what the table says of a pair of digits
 
-false≢true : false ≡ true → ⊥
-false≢true e = let o : _≡_ {A = ℕ} 0 1 = cc in absurd (omega arith)
-
 -- the last digit, or the lower one of the last two
 module _ (n : ℕ) (h : 0 < n) where
   pub last-not : lowZero n ≡ true → lengthOf n ≡ ZeroDigit
@@ -93,30 +91,24 @@ module _ (n : ℕ) (h : 0 < n) where
 
 -- two digits with more above them
 module _ (n r : ℕ) (l : 1443 < n) (e : r ≡ n % 1444) where
-  lower : r % 38 ≡ n % 38
-  lower = omega arith
-
-  upper : r / 38 ≡ n / 38 % 38
-  upper = let z : n / 38 ≡ 38 * (n / 1444) + r / 38 = omega arith in omega arith
-
   pub two-not : hasZero r ≡ true → lengthOf n ≡ ZeroDigit
   unfolding hasZero lowZero
   two-not t =
       ⊎-elim
-      (λ d. length-not n (omega arith) (sym lower ∙ eqb-true (r % 38) 0 d))
+      (λ d. length-not n (omega arith) (sym (lower-digit r n e) ∙ eqb-true (r % 38) 0 d))
       (λ d. let u : eqb (r / 38) 0 ≡ true = rw d at t in
-      length-more n (omega arith) (λ z. eqb-false (r % 38) 0 d (lower ∙ z))
-      ∙ ap (behind 1) (length-not (n / 38) (omega arith) (sym upper ∙ eqb-true (r / 38) 0 u)))
+      length-more n (omega arith) (λ z. eqb-false (r % 38) 0 d (lower-digit r n e ∙ z))
+      ∙ ap (behind 1) (length-not (n / 38) (omega arith) (sym (upper-digit r n e) ∙ eqb-true (r / 38) 0 u)))
       (bool-cases (eqb (r % 38) 0))
 
   pub two-more : hasZero r ≡ false → lengthOf n ≡ behind 2 (lengthOf (n / 1444))
   unfolding hasZero lowZero
   two-more t =
       ⊎-elim
-      (λ d. absurd (false≢true (sym (rw d at t))))
+      (λ d. absurd (true≢false (rw d at t)))
       (λ d. let u : eqb (r / 38) 0 ≡ false = rw d at t in
-      length-more n (omega arith) (λ z. eqb-false (r % 38) 0 d (lower ∙ z))
-      ∙ ap (behind 1) (length-more (n / 38) (omega arith) (λ z. eqb-false (r / 38) 0 u (upper ∙ z)) ∙ ap (λ (m : ℕ). behind 1 (lengthOf m)) (omega arith))
+      length-more n (omega arith) (λ z. eqb-false (r % 38) 0 d (lower-digit r n e ∙ z))
+      ∙ ap (behind 1) (length-more (n / 38) (omega arith) (λ z. eqb-false (r / 38) 0 u (upper-digit r n e ∙ z)) ∙ ap (λ (m : ℕ). behind 1 (lengthOf m)) (omega arith))
       ∙ behind-two 1 1 (lengthOf (n / 1444)))
       (bool-cases (eqb (r % 38) 0))
 

@@ -1,5 +1,5 @@
 -- Stores that are put from an array, and characters that are stored one after the other.
-use Prim.Native.Nat.{ℕ, suc, _+_, _*_, _/_, _%_, _≤_, _<_}
+use Prim.Native.Nat.{ℕ, suc, _+_, _/_, _%_, _≤_, _<_}
 use mathlib.Core.Path.{_≡_, refl, sym, ap, _∙_}
 use mathlib.Core.List.{List, []}
 use native.Mathlib.Nat.{add-zero}
@@ -7,7 +7,7 @@ use native.Mathlib.Omega.{arith}
 use lib.ListN.{length, take, set}
 use lib.Seq.{sets}
 use Rattle.bsii_base38.specs.Pairs.{charOf, pairOf}
-use Rattle.bsii_base38.proofs.Rule.{first-of, second-of}
+use Rattle.bsii_base38.proofs.Rule.{first-of, second-of, lower-digit, upper-digit}
 use Rattle.bsii_text_length.specs.Words.{spelling}
 use Rattle.bsii_text_length.proofs.WordLaws.{spelling-one, spelling-two, count-two}
 use Rattle.bsii_window.specs.Stored.{Stored}
@@ -28,12 +28,10 @@ store-none {i = i} e = rw e (record { next = sym (add-zero i); output = refl })
 -- the table's pair of a word's lowest two digits
 module _ (out : List ℕ) (i n : ℕ) {m p : ℕ} (a : m ≡ n % 1444) (b : p ≡ pairOf m) where
   lowest : {c : ℕ} → c ≡ p % 256 → c ≡ charOf (n % 38)
-  lowest e = e ∙ ap (λ (q : ℕ). q % 256) b ∙ first-of m (omega arith) ∙ ap charOf (omega arith)
+  lowest e = e ∙ ap (λ (q : ℕ). q % 256) b ∙ first-of m (omega arith) ∙ ap charOf (lower-digit m n a)
 
   above : {d : ℕ} → d ≡ p / 256 → d ≡ charOf (n / 38 % 38)
-  above e =
-      let z : n / 38 ≡ 38 * (n / 1444) + m / 38 = omega arith in
-      e ∙ ap (λ (q : ℕ). q / 256) b ∙ second-of m (omega arith) ∙ ap charOf (omega arith)
+  above e = e ∙ ap (λ (q : ℕ). q / 256) b ∙ second-of m (omega arith) ∙ ap charOf (upper-digit m n a)
 
   pub store-one : {c : ℕ} → c ≡ p % 256 → 0 < n → n < 38 → Stored out i (spelling n) (i + 1) (set out i c)
   store-one e h l = rw (spelling-one n h l, lowest e) (record { next = refl; output = refl })

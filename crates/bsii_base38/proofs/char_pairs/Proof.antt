@@ -5,8 +5,6 @@ use Rattle.bsii_base38.specs.Pairs.{charOf, pairOf}
 use Rattle.bsii_base38.proofs.Rule.{rule}
 use Rattle.bsii_base38.proofs.char_pairs.Statement.{statement}
 use Rattle.bsii_base38.proofs.char_pairs.Tie as tie
-use Rattle.bsii_base38.proofs.char_pairs.Reads as reads
-use Rattle.bsii_base38.proofs.char_pairs.Lts as lts
 
 returns : tie.Need-returns
 unfolding holds pairOf charOf charEncodings

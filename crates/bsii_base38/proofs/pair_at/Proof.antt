@@ -1,8 +1,6 @@
 use borrow.Author.Needs.{needs}
 use Rattle.bsii_base38.proofs.pair_at.Statement.{statement}
 use Rattle.bsii_base38.proofs.pair_at.Tie as tie
-use Rattle.bsii_base38.proofs.pair_at.Reads as reads
-use Rattle.bsii_base38.proofs.pair_at.Lts as lts
 
 mul-result : tie.Need-mul-result
 mul-result c = search needs

@@ -9,10 +9,6 @@ use Rattle.bsii_word.proofs.Base38.{behind, behind-none, behind-two, le
 use Rattle.bsii_word.specs.declared.words.Spelled.the-variants.{Length}
 use Rattle.bsii_word.proofs.words.spelled_length.Statement.{statement}
 use Rattle.bsii_word.proofs.words.spelled_length.Tie as tie
-use Rattle.bsii_word.proofs.words.spelled_length.Reads as reads
-use Rattle.bsii_word.proofs.words.spelled_length.Lts as lts
-use Rattle.bsii_base38.proofs.low_zero.Reads as low-zero-reads
-use Rattle.bsii_base38.proofs.has_zero.Reads as has-zero-reads
 
 abbrev Inv-loop : tie.InvT-loop
 Inv-loop chars n rest₀ long₀ rest long = (behind long (lengthOf rest) ≡ lengthOf n) × (long + rest ≤ n)
