@@ -17,8 +17,8 @@
  * call ends. The library allocates nothing, keeps nothing between calls and keeps no pointer, so calls with different tables, outputs and spaces may
  * run at the same time.
  *
- * What the library needs. x86-64 and the System V calling convention. Of libc memcpy and memset, and nothing else. 8192 bytes of stack for
- * each call: tests/c/stack.c runs each call on a stack filled with a pattern and measures at most 6824, those two functions included; a dynamic
+ * What the library needs. x86-64 and the System V calling convention. Of libc memcpy and memset, and nothing else. 12288 bytes of stack for
+ * each call: tests/c/stack.c runs each call on a stack filled with a pattern and measures at most 10920, those two functions included; a dynamic
  * linker that binds them at their first call (without -z now) takes some kilobytes more at that time. Its code is position independent.
  *
  * The file is read only. It may be any bytes, also none; with more than SII_LENGTH_LIMIT it is refused. Its version is the uint32_t at byte 4,

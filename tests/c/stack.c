@@ -42,7 +42,14 @@ static void a_prototype(void) { expect(sii_get_prototype(FILE_AND_TABLE, 1).numb
 static void a_block(void) { expect_block(sii_block_at(FILE_AND_TABLE, 2).number); }
 static void a_named_block(void) { expect_block(sii_blocks_by_prototype_name(FILE_AND_TABLE, (const uint8_t *)"truck", 5, 1).number); }
 static void a_field(void) { expect_block(sii_field_of(FILE_AND_TABLE, 0, (const uint8_t *)"parent", 6).number); }
-static void a_text(void) { expect(sii_to_siin(FILE_AND_TABLE, output, sizeof output).number); }
+
+/* into exactly the text's length: what ends there is put from an array on the stack */
+static void a_text(void)
+{
+    SiiText length = sii_to_siin(FILE_AND_TABLE, NULL, 0);
+    expect(sii_to_siin(FILE_AND_TABLE, output, length.length).number);
+}
+
 
 static void a_written_index(void)
 {
