@@ -14,10 +14,10 @@ use Rattle.bsii_format.specs.Numbers.{leU32}
 use Rattle.bsii_format.specs.Prototypes.{Prototype}
 use Rattle.bsii_format.specs.Blocks.{DataBlock}
 use Rattle.bsii_format.specs.File.{BsiiFile, prototypesOf, lengthLimit, parse}
-use Rattle.bsii_format.specs.Calls.{ofFile, orAbsent, TextAnswer, textAnswer, FieldAnswer, fieldAnswer, fieldUnder}
+use Rattle.bsii_format.specs.Calls.{ofFile, orAbsent, writeAnswer, FieldAnswer, fieldAnswer, fieldUnder}
 use Rattle.bsii_format.specs.Refusals.{fileNumbers, valueNumbers, among, counted, Each, none as nothing, _also_, Within, GivesExactly}
 use Rattle.bsii_format.proofs.Readers.{is-false}
-use Rattle.bsii_format.proofs.ReplyLaws.{text-cases}
+use Rattle.bsii_format.proofs.ReplyLaws.{write-cases}
 use Rattle.bsii_format.proofs.Refusals.{Told, told-all, cond-told, Only, success-only, after-only, bind-only, map-only, verify-only, consumed-only, number-only, str-only, id-only, fields-only, values-only}
 use Rattle.bsii_format.proofs.CallRefusals.{or-within, call-within, given, handed, long}
 use Rattle.bsii_derived.specs.Index.{IndexRecord, indexOf, indexBytes, indexBytesOf, recordAt, agreeing}
@@ -32,15 +32,15 @@ write-within : (w words : ℕ) (s space : List ℕ) → Within writeNumbers (wri
 unfolding writeIndexCall
 write-within w words s space = go (ofFile (λ f at. gives (indexBytesOf w f)) (parse words s)) (call-within writeNumbers (λ f at. gives (indexBytesOf w f)) tt (λ f at. tt) words s)
   where
-    go : (q : Reply (List ℕ)) → Within writeNumbers q → Within writeNumbers (textAnswer space q .reply)
-    go (gives t) h = text-cases (λ a. Within writeNumbers (a .reply)) space t tt tt
-    go (refuses f) h = unfold textAnswer in h
+    go : (q : Reply (List ℕ)) → Within writeNumbers q → Within writeNumbers (writeAnswer length space q .reply)
+    go (gives t) h = write-cases length space t (λ a. Within writeNumbers (a .reply)) tt tt
+    go (refuses f) h = unfold writeAnswer in h
 
 pub write-refusals : GivesExactly {Q = ℕ × ℕ × List ℕ × List ℕ} writeNumbers (λ q. writeIndexCall (q .0) (q .1) (q .2) (q .3) .reply)
 unfolding computesIndex saveA
 write-refusals = record {
   only = λ q. write-within (q .0) (q .1) (q .2) (q .3);
-  each = handed (λ words s. (3, words, s, [])) (λ words s f e. ap (λ q. textAnswer [] (ofFile (λ f at. gives (indexBytesOf 3 f)) q) .reply) e)
+  each = handed (λ words s. (3, words, s, [])) (λ words s f e. ap (λ q. writeAnswer {A = ℕ} length [] (ofFile (λ f at. gives (indexBytesOf 3 f)) q) .reply) e)
       (given (3, 3, saveA, []) (refused outputShort 0) refl also nothing);
   nonzero = refl;
 }

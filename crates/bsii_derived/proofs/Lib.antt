@@ -10,3 +10,4 @@ pub mod Says
 pub mod Computes
 pub mod WorkedIndex
 pub mod IndexRefusals
+pub mod WorkedForecast

@@ -12,14 +12,14 @@ use Rattle.bsii_format.specs.Strings.{isSome, strParser, idParser}
 use Rattle.bsii_format.specs.Prototypes.{Prototype, Fields, fieldsParser}
 use Rattle.bsii_format.specs.Blocks.{DataBlock, getPrototype, dataValuesParser}
 use Rattle.bsii_format.specs.File.{BsiiFile, prototypesOf, lengthLimit, parse}
-use Rattle.bsii_format.specs.Calls.{ofFile, orAbsent, fieldUnder, FieldAnswer, fieldAnswer, TextAnswer, textAnswer}
+use Rattle.bsii_format.specs.Calls.{ofFile, orAbsent, fieldUnder, FieldAnswer, fieldAnswer, WriteAnswer, writeAnswer}
 use Rattle.bsii_derived.specs.Index.{IndexRecord, indexOf, indexBytes, indexBytesOf, recordAt, agreeing}
 
 -- ---- "One call writes it, with 11 if the lent space is short."
 
 -- the index's length in bytes, or a refusal; with 11 the needed length; the space after the call
-unfoldable pub writeIndexCall : ℕ → ℕ → List ℕ → List ℕ → TextAnswer
-writeIndexCall w words s space = textAnswer space (ofFile (λ f at. gives (indexBytesOf w f)) (parse words s))
+unfoldable pub writeIndexCall : ℕ → ℕ → List ℕ → List ℕ → WriteAnswer ℕ
+writeIndexCall w words s space = writeAnswer length space (ofFile (λ f at. gives (indexBytesOf w f)) (parse words s))
 
 -- ---- "One checks it against the file."
 

@@ -1,12 +1,12 @@
 -- What the index calls answer for small files: FORMAT.md, "The index". A case is a line, its answer read off document 02; proofs/WorkedIndex.antt computes them.
 use Prim.Native.Nat.{ℕ}
 use mathlib.Core.List.{List, [], _∷_, _++_}
-use lib.ListN.{take, drop, set, replicate}
+use lib.ListN.{length, take, drop, set, replicate}
 use Rattle.bsii_format.specs.Ascii.{ascii}
 use Rattle.bsii_format.specs.Replies.{Reply, gives, refusal, notUtf8, zeroDigit, undefinedPrototype, unlistedType, tableFull, outputShort, absent, misfit, badMark}
 use Rattle.bsii_format.specs.Worked.{le, u32, u64, workedFile, Fact, _says_}
-use Rattle.bsii_format.specs.WorkedCalls.{string, definition, prototypeRecord, fileOf, fileWith, redefinedFile, recountedFile, twinFile, sevenPart, sevenFile, twiceFile, lacks, carries, written, unwritten}
-use Rattle.bsii_format.specs.Calls.{FieldAnswer, partOf, TextAnswer}
+use Rattle.bsii_format.specs.WorkedCalls.{string, definition, prototypeRecord, fileOf, fileWith, redefinedFile, recountedFile, twinFile, sevenPart, sevenFile, twiceFile, lacks, carries, unwritten}
+use Rattle.bsii_format.specs.Calls.{FieldAnswer, partOf, WriteAnswer}
 use Rattle.bsii_derived.specs.Index.{indexWidth}
 use Rattle.bsii_derived.specs.IndexCalls.{writeIndexCall, checkIndexCall, indexFieldCall, definesOnceCall}
 
@@ -49,17 +49,20 @@ indexA = 0x23 ∷ 0 ∷ 0 ∷ 7 ∷ 0 ∷ 0 ∷ 8 ∷ 0 ∷ 0 ∷ 1 ∷ 0 ∷ 0 
 
 -- ---- write: the second argument of a call is the number of table words
 
-unfoldable pub writes : List (Fact TextAnswer)
+abbrev pub indexed : List ℕ → List ℕ → WriteAnswer ℕ
+indexed i rest = record { reply = gives (length i); needed = 0; output = i ++ rest }
+
+unfoldable pub writes : List (Fact (WriteAnswer ℕ))
 writes =
-    writeIndexCall indexWidth 3 saveA (replicate 25 1) says written indexA (1 ∷ []) ∷
-    writeIndexCall 3 3 saveA (replicate 24 1) says written indexA [] ∷
+    writeIndexCall indexWidth 3 saveA (replicate 25 1) says indexed indexA (1 ∷ []) ∷
+    writeIndexCall 3 3 saveA (replicate 24 1) says indexed indexA [] ∷
     writeIndexCall 3 3 saveA (replicate 23 1) says unwritten outputShort 0 24 (replicate 23 1) ∷
-    writeIndexCall 4 3 saveA (replicate 32 1) says written (le 4 35 ++ le 4 7 ++ le 4 8 ++ le 4 1 ++ le 4 42 ++ le 4 15 ++ le 4 8 ++ le 4 1) [] ∷
-    writeIndexCall 3 6 twoIds (replicate 12 1) says written (entry 53 7 8 1) [] ∷
-    writeIndexCall 3 3 redefinedFile (replicate 12 1) says written (entry 35 9 8 1) [] ∷
-    writeIndexCall 3 3 recountedFile (replicate 12 1) says written (entry 44 10 8 2) [] ∷
-    writeIndexCall 3 3 (twiceFile [] []) (replicate 24 1) says written (entry 35 9 8 1 ++ entry 71 9 44 1) [] ∷
-    writeIndexCall 3 0 (fileWith []) [] says written [] [] ∷
+    writeIndexCall 4 3 saveA (replicate 32 1) says indexed (le 4 35 ++ le 4 7 ++ le 4 8 ++ le 4 1 ++ le 4 42 ++ le 4 15 ++ le 4 8 ++ le 4 1) [] ∷
+    writeIndexCall 3 6 twoIds (replicate 12 1) says indexed (entry 53 7 8 1) [] ∷
+    writeIndexCall 3 3 redefinedFile (replicate 12 1) says indexed (entry 35 9 8 1) [] ∷
+    writeIndexCall 3 3 recountedFile (replicate 12 1) says indexed (entry 44 10 8 2) [] ∷
+    writeIndexCall 3 3 (twiceFile [] []) (replicate 24 1) says indexed (entry 35 9 8 1 ++ entry 71 9 44 1) [] ∷
+    writeIndexCall 3 0 (fileWith []) [] says indexed [] [] ∷
     writeIndexCall 3 2 saveA [] says unwritten tableFull 8 0 [] ∷
     writeIndexCall 3 3 (take 61 saveA) (1 ∷ []) says record { reply = lacks 61 1; needed = 0; output = 1 ∷ [] } ∷ []
 

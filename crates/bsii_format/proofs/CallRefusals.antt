@@ -16,11 +16,12 @@ use Rattle.bsii_format.specs.Blocks.{DataValue, DataBlock, getPrototype}
 use Rattle.bsii_format.specs.File.{Record, prototype, block, recordBytes, prototypesOf, BsiiFile, lengthLimit, parse}
 use Rattle.bsii_format.specs.Text.{valueText}
 use Rattle.bsii_format.specs.BlockText.{joined, orRefuse, valuesOffset, fieldsText, blockText, everyBlock, recordsText, fileText}
-use Rattle.bsii_format.specs.Calls.{ofFile, orAbsent, blocksOf, readingOf, readingCall, prototypeOf, prototypeCall, blockAnswer, blockCall, blocksByPrototypeName, namedBlockCall, fieldOf, fieldCall, datum, elementsOf, ofValue, elementCall, textOf, TextAnswer, textAnswer, textCall}
+use Rattle.bsii_format.specs.Calls.{ofFile, orAbsent, blocksOf, readingOf, readingCall, prototypeOf, prototypeCall, blockAnswer, blockCall, blocksByPrototypeName, namedBlockCall, fieldOf, fieldCall, datum, elementsOf, ofValue, elementCall, stepsIn, writeAnswer, textOf, converted, textAnswer, textCall}
 use Rattle.bsii_format.specs.Refusals.{fileNumbers, readingNumbers, lookupNumbers, elementNumbers, valueNumbers, textNumbers, among, counted, Each, none as nothing, _also_, Within, Gives, GivesExactly}
 use Rattle.bsii_format.specs.Worked.{le, u32, u64, workedFile}
 use Rattle.bsii_format.specs.WorkedCalls.{workedWith, shortenedFile, unlistedEnumFile}
 use Rattle.bsii_format.proofs.Readers.{is-false}
+use Rattle.bsii_format.proofs.ReplyLaws.{write-cases}
 use Rattle.bsii_format.proofs.Worked.{computes}
 use Rattle.bsii_format.proofs.Refusals.{allAmong, told-all, Told, value-only, parse-told}
 
@@ -94,9 +95,9 @@ text-within : (words : ℕ) (s out : List ℕ) → Within textNumbers (textCall 
 unfolding textCall textOf
 text-within words s out = go (ofFile (λ f at. fileText valueText everyBlock f) (parse words s)) (call-within textNumbers (λ f at. fileText valueText everyBlock f) tt (λ f at. file-within valueText everyBlock f) words s)
   where
-    go : (q : Reply (List ℕ)) → Within textNumbers q → Within textNumbers (textAnswer out q .reply)
-    go (gives t) h = unfold textAnswer in cond-within (λ (a : TextAnswer). a .reply) (leb (length t) (length out)) _ _ tt tt
-    go (refuses f) h = unfold textAnswer in h
+    go : (q : Reply (List ℕ)) → Within textNumbers q → Within textNumbers (textAnswer (stepsIn (parse words s)) out q .reply)
+    go (gives t) h = write-cases (converted (stepsIn (parse words s))) out t (λ a. Within textNumbers (a .reply)) tt tt
+    go (refuses f) h = unfold writeAnswer in h
 
 -- ---- each of them
 
@@ -207,7 +208,7 @@ unfolding computes shortenedFile unlistedEnumFile
 text-refusals = record {
   only = λ q. text-within (q .0) (q .1) (q .2);
   each =
-      handed (λ words s. (words, s, [])) (λ words s f e. ap (λ q. textAnswer [] (ofFile (λ f at. fileText valueText everyBlock f) q) .reply) e)
+      handed (λ words s. (words, s, [])) (λ words s f e. ap (λ q. textAnswer (stepsIn q) [] (ofFile (λ f at. fileText valueText everyBlock f) q) .reply) e)
       (
       given (3, shortenedFile, []) (refused fieldCount 48) refl
       also given (3, unlistedEnumFile, []) (refused enumValue 65) refl

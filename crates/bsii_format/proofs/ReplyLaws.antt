@@ -1,18 +1,18 @@
 -- Laws of replies, by cases: what is joined or looked up answers exactly where its parts do, and a call over a file is what it makes of what was read.
 use mathlib.Core.Path.{_≡_, refl, ap}
-use Prim.Native.Nat.{ℕ, _≤_}
+use Prim.Native.Nat.{ℕ, _≤_, _<_}
 use native.Mathlib.Omega.{arith}
 use mathlib.Core.Bool.{Bool, true, false, cond}
 use mathlib.Core.Option.{Option, none, some}
 use mathlib.Core.List.{List, _++_}
 use lib.ListN.{length, drop}
-use lib.Dec.{T, leb, le→leb}
+use lib.Dec.{T, leb, le→leb, leb→le}
 use Rattle.bsii_format.specs.Replies.{Fault, Reply, gives, refuses, refusal, outputShort}
 use Rattle.bsii_format.specs.Reader.{Result, ok, fault, faultAt}
 use Rattle.bsii_format.specs.File.{BsiiFile}
 use Rattle.bsii_format.specs.BlockText.{joined, orRefuse}
-use Rattle.bsii_format.specs.Calls.{ofFile, TextAnswer, textAnswer}
-use Rattle.bsii_format.proofs.Readers.{is-true}
+use Rattle.bsii_format.specs.Calls.{ofFile, WriteAnswer, writeAnswer}
+use Rattle.bsii_format.proofs.Readers.{is-true, is-false}
 
 pub refuses≢gives : {A P : Type 0} {f : Fault} {a : A} → _≡_ {A = Reply A} (refuses f) (gives a) → P
 refuses≢gives {A} {P} e = let z : _≡_ {A = ℕ} 0 1 = cc in let f : ⊥ = omega arith in absurd f
@@ -54,18 +54,23 @@ pub of-fault : {A : Type 0} (answer : BsiiFile → ℕ → Reply A) (q : Result 
 unfolding ofFile
 of-fault answer q e = rw e
 
--- ---- the text call's answer, for a text that was given
+-- ---- what a call that writes answers, for bytes that were given
 
--- what holds of the answer with room and of the one without holds of it
-pub text-cases : (P : TextAnswer → Type 0) (out t : List ℕ) → P (record { reply = gives (length t); needed = 0; output = t ++ drop (length t) out })
-    → P (record { reply = refusal outputShort 0; needed = length t; output = out }) → P (textAnswer out (gives t))
-unfolding textAnswer
-text-cases P out t x y = go (leb (length t) (length out))
-  where
-    go : (b : Bool) → P (cond b (record { reply = gives (length t); needed = 0; output = t ++ drop (length t) out }) (record { reply = refusal outputShort 0; needed = length t; output = out }))
-    go true = x
-    go false = y
+module _ {A : Type 0} (answer : List ℕ → A) (out t : List ℕ) where
+  -- what holds of the answer with room and of the one without holds of it
+  pub write-cases : (P : WriteAnswer A → Type 0) → P (record { reply = gives (answer t); needed = 0; output = t ++ drop (length t) out })
+      → P (record { reply = refusal outputShort 0; needed = length t; output = out }) → P (writeAnswer answer out (gives t))
+  unfolding writeAnswer
+  write-cases P x y = go (leb (length t) (length out))
+    where
+      go : (b : Bool) → P (cond b (record { reply = gives (answer t); needed = 0; output = t ++ drop (length t) out }) (record { reply = refusal outputShort 0; needed = length t; output = out }))
+      go true = x
+      go false = y
 
-pub text-fits : (out t : List ℕ) → length t ≤ length out → textAnswer out (gives t) ≡ record { reply = gives (length t); needed = 0; output = t ++ drop (length t) out }
-unfolding textAnswer
-text-fits out t h = rw (is-true (leb (length t) (length out)) (le→leb (length t) (length out) h))
+  pub write-fits : length t ≤ length out → writeAnswer answer out (gives t) ≡ record { reply = gives (answer t); needed = 0; output = t ++ drop (length t) out }
+  unfolding writeAnswer
+  write-fits h = rw (is-true (leb (length t) (length out)) (le→leb (length t) (length out) h))
+
+  pub write-short : length out < length t → writeAnswer answer out (gives t) ≡ record { reply = refusal outputShort 0; needed = length t; output = out }
+  unfolding writeAnswer
+  write-short h = rw (is-false (leb (length t) (length out)) (λ z. omega (arith, leb→le (length t) (length out) z)))

@@ -264,24 +264,60 @@ elementCall version t s i = ofValue i (valueParser version t 0 s)
 unfoldable pub textOf : ℕ → List ℕ → Reply (List ℕ)
 textOf words s = ofFile (λ f at. fileText valueText everyBlock f) (parse words s)
 
--- the text's length or a refusal; with 11 the needed length, else 0; the output after the call
-pub record TextAnswer : Type 0 where
-  pub reply : Reply ℕ
+-- ---- "the walk's steps": document 02, E6, "one for each record, the end record included, and one for each value of a block, an array being one"
+
+unfoldable pub recordSteps : Record → ℕ
+recordSteps (prototype p) = 1
+recordSteps (block b) = 1 + length (b .values)
+
+-- of the records in front of the end record
+unfoldable pub recordsSteps : List Record → ℕ
+recordsSteps [] = 0
+recordsSteps (r ∷ l) = recordSteps r + recordsSteps l
+
+unfoldable pub stepsOf : BsiiFile → ℕ
+stepsOf f = recordsSteps (f .records) + 1
+
+-- of what was read: a refusal reports none
+unfoldable pub stepsIn : Result BsiiFile → ℕ
+stepsIn (ok f at r) = stepsOf f
+stepsIn (fault x) = 0
+
+-- ---- calls that write
+
+-- what a call answers of the bytes that it has written, or a refusal; with 11 the needed length, else 0; the output after the call
+pub record WriteAnswer (A : Type 0) : Type 0 where
+  pub reply : Reply A
   pub needed : ℕ
   pub output : List ℕ
 
 -- 11: "text longer than the output; needed length also given", at 0; "output bytes beyond it keep their values"; "A refusal changes no
--- output byte."
-unfoldable pub textAnswer : List ℕ → Reply (List ℕ) → TextAnswer
-textAnswer out (gives t) =
+-- output byte." `answer` is what is said of bytes that were written
+unfoldable pub writeAnswer : {A : Type 0} → (List ℕ → A) → List ℕ → Reply (List ℕ) → WriteAnswer A
+writeAnswer answer out (gives t) =
     cond (leb (length t) (length out))
-    (record { reply = gives (length t); needed = 0; output = t ++ drop (length t) out })
+    (record { reply = gives (answer t); needed = 0; output = t ++ drop (length t) out })
     (record { reply = refusal outputShort 0; needed = length t; output = out })
-textAnswer out (refuses f) = record { reply = refuses f; needed = 0; output = out }
+writeAnswer answer out (refuses f) = record { reply = refuses f; needed = 0; output = out }
 
--- "The text call takes file, table and output, and answers the text's length"
+-- "answers the text's length"; E6: "The conversion reports the steps that it made in its result."
+pub record Converted : Type 0 where
+  pub size : ℕ
+  pub steps : ℕ
+
+abbrev pub converted : ℕ → List ℕ → Converted
+converted steps t = record { size = length t; steps = steps }
+
+abbrev pub TextAnswer : Type 0
+TextAnswer = WriteAnswer Converted
+
+-- the text of a file that is read in so many steps
+abbrev pub textAnswer : ℕ → List ℕ → Reply (List ℕ) → TextAnswer
+textAnswer steps out q = writeAnswer (converted steps) out q
+
+-- "The text call takes file, table and output"
 unfoldable pub textCall : ℕ → List ℕ → List ℕ → TextAnswer
-textCall words s out = textAnswer out (textOf words s)
+textCall words s out = textAnswer (stepsIn (parse words s)) out (textOf words s)
 
 -- ---- the program: "reads standard input (at most 65,536 bytes, else 12), has 768 table words and 65,536 output bytes"
 

@@ -12,7 +12,7 @@ use Rattle.bsii_format.specs.Blocks.{DataBlock}
 use Rattle.bsii_format.specs.File.{Record, parse}
 use Rattle.bsii_format.specs.Text.{valueText}
 use Rattle.bsii_format.specs.BlockText.{fileText}
-use Rattle.bsii_format.specs.Calls.{ofFile, Place, Reading, readingCall, PrototypeAnswer, prototypeCall, BlockAnswer, blockCall, namedBlockCall, FieldAnswer, fieldCall, partOf, Datum, dString, dEncodedString, dFloat, dFloatVec2, dFloatVec3, dFloatVec4, dFloatVec7, dFloatVec8, dInt32, dInt32Vec3, dUInt32, dUInt16, dInt64, dUInt64, dBool, dEnum, dId, elementCall, TextAnswer, textCall}
+use Rattle.bsii_format.specs.Calls.{ofFile, Place, Reading, readingCall, PrototypeAnswer, prototypeCall, BlockAnswer, blockCall, namedBlockCall, FieldAnswer, fieldCall, partOf, Datum, dString, dEncodedString, dFloat, dFloatVec2, dFloatVec3, dFloatVec4, dFloatVec7, dFloatVec8, dInt32, dInt32Vec3, dUInt32, dUInt16, dInt64, dUInt64, dBool, dEnum, dId, elementCall, WriteAnswer, TextAnswer, textCall}
 use Rattle.bsii_format.specs.Worked.{le, u32, u64, workedFile, workedText, Fact, _says_}
 
 -- ---- files
@@ -354,29 +354,30 @@ cutElements =
 
 -- ---- texts: in an output of ones, which shows what is written
 
-abbrev pub written : List ℕ → List ℕ → TextAnswer
-written t rest = record { reply = gives (length t); needed = 0; output = t ++ rest }
+-- in so many steps
+abbrev pub written : ℕ → List ℕ → List ℕ → TextAnswer
+written steps t rest = record { reply = gives (record { size = length t; steps = steps }); needed = 0; output = t ++ rest }
 
-abbrev pub unwritten : ℕ → ℕ → ℕ → List ℕ → TextAnswer
+abbrev pub unwritten : {A : Type 0} → ℕ → ℕ → ℕ → List ℕ → WriteAnswer A
 unwritten n at needed out = record { reply = refusal n at; needed = needed; output = out }
 
 unfoldable pub texts : List (Fact TextAnswer)
 texts =
-    textCall 3 workedFile (replicate 75 1) says written workedText (1 ∷ 1 ∷ []) ∷
+    textCall 3 workedFile (replicate 75 1) says written 5 workedText (1 ∷ 1 ∷ []) ∷
     textCall 3 workedFile (replicate 72 1) says unwritten outputShort 0 73 (replicate 72 1) ∷
     textCall 3 (take 70 workedFile) (replicate 75 1) says record { reply = lacks 69 3; needed = 0; output = replicate 75 1 } ∷
-    textCall 0 (fileWith []) (replicate 13 1) says written (ascii "SiiNunit\n{\n}\n") [] ∷
-    textCall 3 redefinedFile (replicate 33 1) says written (ascii "SiiNunit\n{\nq : null {\n  g: 9\n}\n}\n") [] ∷
-    textCall 3 enumFile (replicate 36 1) says written (ascii "SiiNunit\n{\np : null {\n  e: high\n}\n}\n") [] ∷
-    textCall 3 vectorsFile (replicate 80 1) says written vectorsText (1 ∷ []) ∷
-    textCall 3 (sevenFile 1) (replicate 74 1) says written sevenText (1 ∷ []) ∷
-    textCall 3 sevensFile (replicate 151 1) says written sevensText (1 ∷ []) ∷
+    textCall 0 (fileWith []) (replicate 13 1) says written 1 (ascii "SiiNunit\n{\n}\n") [] ∷
+    textCall 3 redefinedFile (replicate 33 1) says written 5 (ascii "SiiNunit\n{\nq : null {\n  g: 9\n}\n}\n") [] ∷
+    textCall 3 enumFile (replicate 36 1) says written 4 (ascii "SiiNunit\n{\np : null {\n  e: high\n}\n}\n") [] ∷
+    textCall 3 vectorsFile (replicate 80 1) says written 5 vectorsText (1 ∷ []) ∷
+    textCall 3 (sevenFile 1) (replicate 74 1) says written 4 sevenText (1 ∷ []) ∷
+    textCall 3 sevensFile (replicate 151 1) says written 5 sevensText (1 ∷ []) ∷
     textCall 3 recountedFile [] says unwritten fieldCount 44 0 [] ∷
     textCall 3 unlistedEnumFile [] says unwritten enumValue 65 0 [] ∷
     textCall 3 (againFile fiveField (definition 0x37 (ascii "e") ++ u32 0 ++ plainField)) [] says unwritten fieldCount 51 0 [] ∷
     textCall 3 (againFile fiveField plainField) [] says unwritten enumValue 56 0 [] ∷
-    textCall 3 (againFile plainField fiveField) (replicate 33 1) says written (ascii "SiiNunit\n{\np : null {\n  e: 5\n}\n}\n") [] ∷
-    textCall 3 (twiceFile [] []) (replicate 53 1) says written (ascii "SiiNunit\n{\np : null {\n  b: 1\n}\np : null {\n  b: 2\n}\n}\n") [] ∷ []
+    textCall 3 (againFile plainField fiveField) (replicate 33 1) says written 5 (ascii "SiiNunit\n{\np : null {\n  e: 5\n}\n}\n") [] ∷
+    textCall 3 (twiceFile [] []) (replicate 53 1) says written 7 (ascii "SiiNunit\n{\np : null {\n  b: 1\n}\np : null {\n  b: 2\n}\n}\n") [] ∷ []
 
 -- ---- texts of some of a file's blocks: one that is not printed gives neither 8 nor 9
 
