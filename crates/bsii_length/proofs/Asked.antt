@@ -1,17 +1,16 @@
 -- Every text has the 13 bytes of the file's own lines, so the text call with an output of length 0 tells how long a text is.
-use mathlib.Core.Path.{_≡_, ap}
+use mathlib.Core.Path.{_≡_, ap, _∙_}
 use Prim.Native.Nat.{ℕ, _+_, _≤_}
 use native.Mathlib.Omega.{arith}
 use mathlib.Core.List.{List, []}
 use lib.ListN.{length, length-append}
-use lib.Dec.{leb, leb→le}
 use Rattle.bsii_format.specs.Replies.{Reply, gives, refuses, refusal, outputShort}
 use Rattle.bsii_format.specs.Reader.{Result, ok, fault}
 use Rattle.bsii_format.specs.File.{BsiiFile, parse}
 use Rattle.bsii_format.specs.Text.{valueText}
 use Rattle.bsii_format.specs.BlockText.{joined, closing, fileOpening, everyBlock, fileText}
-use Rattle.bsii_format.specs.Calls.{ofFile, textOf, textAnswer, textCall}
-use Rattle.bsii_format.proofs.Readers.{is-false}
+use Rattle.bsii_format.specs.Calls.{ofFile, stepsIn, textOf, converted, textAnswer, textCall}
+use Rattle.bsii_format.proofs.ReplyLaws.{write-short}
 use Rattle.bsii_length.proofs.Lines.{answered}
 
 framed-long : (a c : List ℕ) (q : Reply (List ℕ)) {t : List ℕ} → joined (joined (gives a) q) (gives c) ≡ gives t → length a + length c ≤ length t
@@ -28,5 +27,6 @@ text-long words s {t} e = go (parse words s) e
     go (fault x) e = unfold ofFile in let z : _≡_ {A = ℕ} 0 1 = cc in absurd (omega arith)
 
 pub length-asked : (words : ℕ) (s : List ℕ) {t : List ℕ} → textOf words s ≡ gives t → textCall words s [] ≡ record { reply = refusal outputShort 0; needed = length t; output = [] }
-unfolding textCall textAnswer
-length-asked words s {t} e = rw (e, is-false (leb (length t) 0) (λ h. omega (arith, leb→le (length t) 0 h, text-long words s e)))
+unfolding textCall
+length-asked words s {t} e =
+    ap (textAnswer (stepsIn (parse words s)) []) e ∙ write-short (converted (stepsIn (parse words s))) [] t (omega (arith, text-long words s e))

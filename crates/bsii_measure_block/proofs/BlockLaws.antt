@@ -9,7 +9,7 @@ use lib.ListN.{length, drop, getD, length-append, length-drop}
 use lib.Seq.{getD-drop}
 use lib.Dec.{T, eqb, eqb-refl}
 use Rattle.bsii_format.specs.Replies.{Reply, gives, refuses, refusal, fieldCount}
-use Rattle.bsii_format.specs.Reader.{fault}
+use Rattle.bsii_format.specs.Reader.{ok}
 use Rattle.bsii_format.specs.Strings.{Id, idParser}
 use Rattle.bsii_format.specs.Values.{Value}
 use Rattle.bsii_format.specs.Prototypes.{ValuePrototype, Prototype, fieldsParser}
@@ -24,6 +24,7 @@ use Rattle.bsii_format.proofs.Positions.{moved}
 use Rattle.bsii_length.proofs.Taken.{Input}
 use Rattle.bsii_length.proofs.Elements.{id-takes}
 use Rattle.bsii_string.specs.Answers.{endOf}
+use Rattle.bsii_block.specs.Blocks.{DefinedAt}
 use Rattle.bsii_string.specs.declared.answers.Refusal.{Refusal}
 use Rattle.bsii_string.specs.declared.answers.Parsed.{Parsed}
 use Rattle.bsii_string.specs.declared.answers.Parsed.the-variants.{Next as ParsedTo, Fault as Unparsed}
@@ -34,12 +35,12 @@ use Rattle.bsii_walk.proofs.Naming.{head-ends, name-inside, standing}
 use Rattle.bsii_walk.proofs.Parts.{BlockParts}
 use Rattle.bsii_measure_string.specs.Measured.{measured}
 use Rattle.bsii_measure_string.specs.declared.answers.Measured.the-variants.{Next as MeasuredTo, Fault as Unmeasured}
-use Rattle.bsii_measure_block.specs.Sums.{measureOf, plus, sumIs, sums, SumFits, Room}
+use Rattle.bsii_measure_block.specs.Sums.{measureOf, plus, sumIs, sums, BlockFits, Room}
 use Rattle.bsii_measure_block.specs.Fields.{valuesSum, ValuesSummed}
 use Rattle.bsii_measure_block.specs.Blocks.{framedBy, Framed, blockSum, BlockSummed}
 use Rattle.bsii_measure_block.specs.declared.sums.Sum.{Sum}
-use Rattle.bsii_measure_block.specs.declared.sums.Summed.{Summed}
-use Rattle.bsii_measure_block.specs.declared.sums.Summed.the-variants.{Next, Fault}
+use Rattle.bsii_measure_block.specs.declared.sums.SummedBlock.{SummedBlock}
+use Rattle.bsii_measure_block.specs.declared.sums.SummedBlock.the-variants.{Next as NextBlock, Fault as BlockFault}
 use Rattle.bsii_measure_block.proofs.SumLaws.{measure-joined, sum-more}
 use Rattle.bsii_measure_string.proofs.Measures.{measured-ok, measured-fault}
 
@@ -105,16 +106,25 @@ begins {s} o at r b e z {start} {long} d =
       room = record { short = r .short; inside = m .inside (r .inside); fits = omega (arith, r .fits, r .short, n .1) };
     }
 
-module _ {version : ℕ} {s : List ℕ} {o at : ℕ} {sum : Sum} {h : Parsed} (e : h ≡ endOf (uncheckedHead o (drop o s))) where
-  pub block-absent : {f : Refusal} → h ≡ Unparsed f → (x : Refusal) → BlockSummed version s o at sum (Fault x)
-  block-absent z x = record { is = λ p d. next≢fault (sym (standing s o e p d) ∙ z); fine = tt }
+-- the definitions behind the head of the prototype that stands there
+listed : (s : List ℕ) (o : ℕ) {h : Parsed} → h ≡ endOf (uncheckedHead o (drop o s)) → {first : ℕ} → h ≡ ParsedTo first → (p : Prototype) (x : DefinedAt s o p)
+    → fieldsParser first (drop first s) ≡ ok (record { fields = p .fields; terminator = p .terminator }) (x .next) (drop (x .next) s)
+listed s o e z p x = ap (λ (k : ℕ). fieldsParser k (drop k s)) (sym (next-same (sym (standing s o e p x) ∙ z))) ∙ x .list
 
-  pub block-id-fault : {f : Refusal} → Unmeasured f ≡ measured idSize (idParser at (drop at s)) → BlockSummed version s o at sum (Fault f)
+module _ {version : ℕ} {s : List ℕ} {o at : ℕ} {sum : Sum} {h : Parsed} (e : h ≡ endOf (uncheckedHead o (drop o s))) where
+  pub block-absent : {f : Refusal} → h ≡ Unparsed f → (x : Refusal) → BlockSummed version s o at sum (BlockFault x)
+  block-absent z x = record { is = λ p d. next≢fault (sym (standing s o e p d) ∙ z); counts = λ p d. tt; fine = tt }
+
+  pub block-id-fault : {f : Refusal} → Unmeasured f ≡ measured idSize (idParser at (drop at s)) → BlockSummed version s o at sum (BlockFault f)
   unfolding blockSum
-  block-id-fault d = record { is = λ p x. sym (ap (blockSum valueText version (sumIs (sum .to) (sum .missing)) p) (measured-fault idSize (idParser at (drop at s)) d)); fine = tt }
+  block-id-fault d = record {
+    is = λ p x. sym (ap (blockSum valueText version (sumIs (sum .to) (sum .missing)) p) (measured-fault idSize (idParser at (drop at s)) d));
+    counts = λ p d. tt;
+    fine = tt;
+  }
 
   module _ {first : ℕ} (z : h ≡ ParsedTo first) {start long : ℕ} (d : MeasuredTo start long ≡ measured idSize (idParser at (drop at s))) where
-    pub block-values : {r : Summed} → at ≤ start → ValuesSummed version s first start (framedBy sum o first long) r → BlockSummed version s o at sum r
+    pub block-values : {r : SummedBlock} → at ≤ start → ValuesSummed version s first start (framedBy sum o first long) r → BlockSummed version s o at sum r
     unfolding blockSum closing
     block-values {r} late v = record {
       is = λ p x.
@@ -123,13 +133,14 @@ module _ {version : ℕ} {s : List ℕ} {o at : ℕ} {sum : Sum} {h : Parsed} (e
           let name = head-ends s o (head-past o (drop o s) (x .head)) in
           let opening = length (blockOpening (p .name) (q .value)) in
           let all : framedBy sum o first long .to ≡ sum .to + (opening + 2) = omega (arith, name .end, there, q .long, opening-size (p .name) (q .value)) in
-          v .is (record { fields = p .fields; terminator = p .terminator }) (x .next) (drop (x .next) s) (ap (λ (k : ℕ). fieldsParser k (drop k s)) (sym there) ∙ x .list)
+          v .is (record { fields = p .fields; terminator = p .terminator }) (x .next) (drop (x .next) s) (listed s o e z p x)
           ∙ ap (λ y. valuesSum valueText y start (p .fields) (dataValuesParser version (p .fields) start (drop start s)))
           (ap (λ m. sumIs m (sum .missing)) all ∙ sym (sum-more (sum .to) (sum .missing) (opening + 2)))
           ∙ sym (ap (blockSum valueText version (sumIs (sum .to) (sum .missing)) p) (q .reads));
+      counts = λ p x. v .counts (record { fields = p .fields; terminator = p .terminator }) (x .next) (drop (x .next) s) (listed s o e z p x);
       fine = widen r (v .fine);
     }
       where
-        widen : (r : Summed) → SumFits s start r → SumFits s at r
-        widen (Next n more) h = (omega (arith, h .0, late), h .1, h .2)
-        widen (Fault f) h = tt
+        widen : (r : SummedBlock) → BlockFits s start r → BlockFits s at r
+        widen (NextBlock n more values) h = (omega (arith, h .0, late), h .1, h .2)
+        widen (BlockFault f) h = tt

@@ -88,7 +88,7 @@ module _ {version : ℕ} {s : List ℕ} {at : ℕ} (d : Definition) {sum : Sum} 
           let q = measured-ok (value-exact version (d .«type_id»)) (valueSize (d .«name_end» - d .name)) s at (sym z ∙ w .is) in
           let t = value-text version (d .«type_id») other f at (drop at s) (q .reads) in
           texted version s at d sum f (q .reads) (t .is) (q .long ∙ ap (λ m. valueSize m (q .value)) (sym (named s d f i h)) ∙ sym (t .size));
-      fine = let f : ValueFine s at (MeasuredTo n long) = subst (ValueFine s at) z (w .fine) in (omega (arith, f .0), field-fits .0, field-fits .1);
+      fine = let f : ValueFine s at (MeasuredTo n long) = subst (ValueFine s at) z (w .fine) in (f .0, field-fits .0, field-fits .1);
     }
 
 -- ---- an enum value

@@ -28,6 +28,7 @@ use Rattle.bsii_measure_block.specs.Fields.{fieldSum, valuesSum, FieldSu
 use Rattle.bsii_measure_block.specs.declared.sums.Sum.{Sum}
 use Rattle.bsii_measure_block.specs.declared.sums.Summed.{Summed}
 use Rattle.bsii_measure_block.specs.declared.sums.Summed.the-variants.{Next, Fault}
+use Rattle.bsii_measure_block.specs.declared.sums.SummedBlock.the-variants.{Next as NextBlock, Fault as BlockFault}
 use Rattle.bsii_measure_block.proofs.SumLaws.{measure-joined, plus-assoc, plus-none}
 
 pub sums≢stops : {P : Type 0} {n : ℕ} {a : Reply ℕ} {f : replies.Fault} → _≡_ {A = Outcome} (sums n a) (stops f) → P
@@ -92,29 +93,31 @@ values-none text version before at s = ap (sums at) (sym (plus-none before))
 
 -- ---- the loop: the sum so far, and the values from `at` on under the definitions from `field` on, are the whole
 
-pub record Adding (version : ℕ) (s : List ℕ) (fields start : ℕ) (before : Sum) (field at : ℕ) (sum : Sum) : Type 0 where
+pub record Adding (version : ℕ) (s : List ℕ) (fields start : ℕ) (before : Sum) (field at : ℕ) (sum : Sum) (count : ℕ) : Type 0 where
   pub rest : (l : Fields) (n : ℕ) (t : List ℕ) → fieldsParser fields (drop fields s) ≡ ok l n t
       → (k : Fields) × (fieldsParser field (drop field s) ≡ ok k n t)
       × (valuesSum valueText (sumIs (sum .to) (sum .missing)) at (k .fields) (dataValuesParser version (k .fields) at (drop at s))
       ≡ valuesSum valueText (sumIs (before .to) (before .missing)) start (l .fields) (dataValuesParser version (l .fields) start (drop start s)))
-  pub later : start ≤ at
+      × (count + length (k .fields) ≡ length (l .fields))
+  pub later : start + count ≤ at
   pub room : Room s at sum
 
-pub adding-start : {version : ℕ} {s : List ℕ} {fields start : ℕ} {before : Sum} → Room s start before → Adding version s fields start before fields start before
-adding-start h = record { rest = λ l n t e. (l, e, refl); later = omega arith; room = h }
+pub adding-start : {version : ℕ} {s : List ℕ} {fields start : ℕ} {before : Sum} → Room s start before → Adding version s fields start before fields start before 0
+adding-start h = record { rest = λ l n t e. (l, e, refl, omega arith); later = omega arith; room = h }
 
-module _ {version : ℕ} {s : List ℕ} {fields start : ℕ} {before : Sum} {field at : ℕ} {sum : Sum} (i : Adding version s fields start before field at sum) where
+module _ {version : ℕ} {s : List ℕ} {fields start : ℕ} {before : Sum} {field at : ℕ} {sum : Sum} {count : ℕ} (i : Adding version s fields start before field at sum count) where
   -- the sum of the values from here on
   from-here : List (Consumed ValuePrototype) → Outcome
   from-here fs = valuesSum valueText (sumIs (sum .to) (sum .missing)) at fs (dataValuesParser version fs at (drop at s))
 
   pub adding-last : ((type a b next : ℕ) → Field type a b next ≡ entryOf (field + 8) (entryWith uncheckedStr field (drop field s)) → ⊥)
-      → ValuesSummed version s fields start before (Next at sum)
+      → ValuesSummed version s fields start before (NextBlock at sum count)
   unfolding from-here
   adding-last e = record {
     is = λ l n t h.
         let k = i .rest l n t h in
         values-none valueText version (sumIs (sum .to) (sum .missing)) at (drop at s) ∙ ap from-here (sym (turn-none s field (k .1) e)) ∙ k .2;
+    counts = λ l n t h. let k = i .rest l n t h in omega (arith, k .3, ap length (turn-none s field (k .1) e));
     fine = (i .later, i .room .inside, i .room .fits);
   }
 
@@ -127,7 +130,7 @@ module _ {version : ℕ} {s : List ℕ} {fields start : ℕ} {before : Sum} {fie
         w .is (y .field) (record { typed = y .typed; name = y .name; end = next; enums = y .enums })
         ∙ ap (λ k. fieldSum valueText (sumIs (sum .to) (sum .missing)) (y .field) at (valueParser version k at (drop at s))) (y .typed)
 
-    pub adding-fault : {f : Refusal} → r ≡ Fault f → ValuesSummed version s fields start before (Fault f)
+    pub adding-fault : {f : Refusal} → r ≡ Fault f → ValuesSummed version s fields start before (BlockFault f)
     unfolding from-here
     adding-fault z = record {
       is = λ l n t h.
@@ -136,10 +139,11 @@ module _ {version : ℕ} {s : List ℕ} {fields start : ℕ} {before : Sum} {fie
           value-stop valueText version (sumIs (sum .to) (sum .missing)) s at (with (y .field) (take (next - field) (drop field s))) (y .rest .fields)
           (sym (ap summedIs z) ∙ field-is y)
           ∙ ap from-here (sym (y .fields)) ∙ x .2;
+      counts = λ l n t h. tt;
       fine = tt;
     }
 
-    pub adding-next : {end : ℕ} {more : Sum} → r ≡ Next end more → Adding version s fields start before next end more
+    pub adding-next : {end : ℕ} {more : Sum} → r ≡ Next end more → Adding version s fields start before next end more (count + 1)
     unfolding from-here
     adding-next {end} {more} z =
         let f : SumFits s at (Next end more) = subst (SumFits s at) z (w .fine) in
@@ -152,6 +156,7 @@ module _ {version : ℕ} {s : List ℕ} {fields start : ℕ} {before : Sum} {fie
                 sym (value-sum valueText version (sumIs (sum .to) (sum .missing)) s at (with (y .field) (take (next - field) (drop field s))) (y .rest .fields)
                     (sym (ap summedIs z) ∙ field-is y))
                     ∙ ap from-here (sym (y .fields)) ∙ x .2,
+                omega (arith, x .3, ap length (y .fields)),
               );
           later = omega (arith, i .later, f .0);
           room = record { short = i .room .short; inside = f .1; fits = f .2 };

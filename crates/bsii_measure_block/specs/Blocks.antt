@@ -15,10 +15,10 @@ use Rattle.bsii_format.specs.Text.{valueText}
 use Rattle.bsii_format.specs.BlockText.{blockOpening, closing}
 use Rattle.bsii_length.specs.Bounds.{lineBound}
 use Rattle.bsii_block.specs.Blocks.{DefinedAt}
-use Rattle.bsii_measure_block.specs.Sums.{plus, sumIs, Outcome, stops, summedIs, SumFits}
+use Rattle.bsii_measure_block.specs.Sums.{plus, sumIs, Outcome, stops, blockIs, Counts, BlockFits}
 use Rattle.bsii_measure_block.specs.Fields.{valuesSum}
 use Rattle.bsii_measure_block.specs.declared.sums.Sum.{Sum}
-use Rattle.bsii_measure_block.specs.declared.sums.Summed.{Summed}
+use Rattle.bsii_measure_block.specs.declared.sums.SummedBlock.{SummedBlock}
 
 -- a name from o + 13 to `first`, an id's text of this length, and the 8 bytes around them
 abbrev pub framedBy : Sum → ℕ → ℕ → ℕ → Sum
@@ -37,6 +37,7 @@ blockSum text version before p (ok i at r) =
     valuesSum text (plus before (gives (length (blockOpening (p .name) i) + length closing))) at (p .fields) (dataValuesParser version (p .fields) at r)
 blockSum text version before p (fault x) = stops x
 
-pub record BlockSummed (version : ℕ) (s : List ℕ) (o at : ℕ) (sum : Sum) (r : Summed) : Type 0 where
-  pub is : (p : Prototype) → DefinedAt s o p → summedIs r ≡ blockSum valueText version (sumIs (sum .to) (sum .missing)) p (idParser at (drop at s))
-  pub fine : SumFits s at r
+pub record BlockSummed (version : ℕ) (s : List ℕ) (o at : ℕ) (sum : Sum) (r : SummedBlock) : Type 0 where
+  pub is : (p : Prototype) → DefinedAt s o p → blockIs r ≡ blockSum valueText version (sumIs (sum .to) (sum .missing)) p (idParser at (drop at s))
+  pub counts : (p : Prototype) → DefinedAt s o p → Counts (length (p .fields)) r
+  pub fine : BlockFits s at r

@@ -1,5 +1,6 @@
 -- A text that is only measured, and the two numbers that a walk keeps of it.
-use Prim.Native.Nat.{ℕ, zero, suc, _+_, _*_, _≤_}
+use mathlib.Core.Path.{_≡_}
+use Prim.Native.Nat.{ℕ, zero, suc, _+_, _*_, _≤_, _<_}
 use mathlib.Core.List.{List}
 use lib.ListN.{length}
 use Rattle.bsii_format.specs.Replies as replies
@@ -10,6 +11,8 @@ use Rattle.bsii_string.specs.Answers.{faultIs}
 use Rattle.bsii_measure_block.specs.declared.sums.Sum.{Sum}
 use Rattle.bsii_measure_block.specs.declared.sums.Summed.{Summed}
 use Rattle.bsii_measure_block.specs.declared.sums.Summed.the-variants.{Next, Fault}
+use Rattle.bsii_measure_block.specs.declared.sums.SummedBlock.{SummedBlock}
+use Rattle.bsii_measure_block.specs.declared.sums.SummedBlock.the-variants.{Next as NextBlock, Fault as BlockFault}
 
 -- its length, or its refusal
 unfoldable pub measureOf : Reply (List ℕ) → Reply ℕ
@@ -43,13 +46,26 @@ abbrev pub summedIs : Summed → Outcome
 summedIs (Next at sum) = sums at (sumIs (sum .to) (sum .missing))
 summedIs (Fault f) = stops (faultIs f)
 
+abbrev pub blockIs : SummedBlock → Outcome
+blockIs (NextBlock at sum values) = sums at (sumIs (sum .to) (sum .missing))
+blockIs (BlockFault f) = stops (faultIs f)
+
+-- a block that is read has k values
+abbrev pub Counts : ℕ → SummedBlock → Type 0
+Counts k (NextBlock at sum values) = values ≡ k
+Counts k (BlockFault f) = Unit {0}
+
 -- a position in a file within the length limit, and the sum of the text in front of it, which is so short that no sum wraps
 pub record Room (s : List ℕ) (at : ℕ) (sum : Sum) : Type 0 where
   pub short : length s ≤ lengthLimit
   pub inside : at ≤ length s
   pub fits : sum .to ≤ lineBound * at
 
--- for every input
+-- for every input: a value has a byte
 abbrev pub SumFits : List ℕ → ℕ → Summed → Type 0
-SumFits s at (Next n sum) = (at ≤ n) × (n ≤ length s) × (sum .to ≤ lineBound * n)
+SumFits s at (Next n sum) = (at < n) × (n ≤ length s) × (sum .to ≤ lineBound * n)
 SumFits s at (Fault f) = Unit {0}
+
+abbrev pub BlockFits : List ℕ → ℕ → SummedBlock → Type 0
+BlockFits s at (NextBlock n sum values) = (at + values ≤ n) × (n ≤ length s) × (sum .to ≤ lineBound * n)
+BlockFits s at (BlockFault f) = Unit {0}

@@ -1,7 +1,7 @@
 // Data blocks.
 use crate::fields::values_summed;
 use crate::sums::Sum;
-use crate::sums::Summed;
+use crate::sums::SummedBlock;
 use bsii_base38::CharPairs;
 use bsii_measure_string::answers::Measured;
 use bsii_measure_string::words::id_measured;
@@ -34,18 +34,18 @@ pub fn block_summed(
     prototype: usize,
     at: usize,
     sum: Sum,
-) -> Summed
+) -> SummedBlock
     requires { ⌜ Room (now s) at sum ⌝ }
     requires { ⌜ CharPairs (now chars) ⌝ }
     ensures { λ r. ⌜ BlockSummed version (now (s .entry)) prototype at sum r ⌝ }
 {
     let fields = fields_at(s, prototype);
     match fields {
-        Parsed::Fault(f) => return Summed::Fault(f),
+        Parsed::Fault(f) => return SummedBlock::Fault(f),
         Parsed::Next(first) => {
             let id = id_measured(chars, s, at);
             match id {
-                Measured::Fault(f) => return Summed::Fault(f),
+                Measured::Fault(f) => return SummedBlock::Fault(f),
                 Measured::Next { at: start, long } => {
                     let frame = framed(sum, prototype, first, long);
                     return values_summed(chars, s, version, first, start, frame);

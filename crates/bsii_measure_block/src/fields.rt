@@ -1,6 +1,7 @@
 // The values of a block under its definitions.
 use crate::sums::Sum;
 use crate::sums::Summed;
+use crate::sums::SummedBlock;
 use crate::sums::with_missing;
 use bsii_base38::CharPairs;
 use bsii_definition::enums::EnumString;
@@ -83,7 +84,7 @@ pub fn values_summed(
     fields: usize,
     start: usize,
     before: Sum,
-) -> Summed
+) -> SummedBlock
     requires { ⌜ Room (now s) start before × (0 < start) ⌝ }
     requires { ⌜ CharPairs (now chars) ⌝ }
     ensures { λ r. ⌜ ValuesSummed version (now (s .entry)) fields start before r ⌝ }
@@ -91,10 +92,11 @@ pub fn values_summed(
     let mut field = fields;
     let mut at = start;
     let mut sum = before;
+    let mut values: usize = 0;
     loop {
         let found = accepted_at(s, field);
         if found.type_id == 0 {
-            return Summed::Next { at, sum };
+            return SummedBlock::Next { at, sum, values };
         }
         let d = Definition {
             type_id: found.type_id,
@@ -103,11 +105,12 @@ pub fn values_summed(
         };
         let value = field_summed(chars, s, version, at, d, sum);
         match value {
-            Summed::Fault(f) => return Summed::Fault(f),
+            Summed::Fault(f) => return SummedBlock::Fault(f),
             Summed::Next { at: end, sum: more } => {
                 at = end;
                 sum = more;
                 field = found.next;
+                values += 1;
             }
         }
     }

@@ -9,9 +9,15 @@ pub struct Sum {
     pub missing: usize,
 }
 
-// The position behind what was read, and the sum with its text; or why it is refused.
+// The position behind a value that was read, and the sum with its text; or why it is refused.
 pub enum Summed {
     Next { at: usize, sum: Sum },
+    Fault(Refusal),
+}
+
+// The same of a block's values, and how many there are.
+pub enum SummedBlock {
+    Next { at: usize, sum: Sum, values: usize },
     Fault(Refusal),
 }
 

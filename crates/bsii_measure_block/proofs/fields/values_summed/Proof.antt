@@ -11,10 +11,10 @@ use Rattle.bsii_measure_block.proofs.fields.values_summed.Statement.{st
 use Rattle.bsii_measure_block.proofs.fields.values_summed.Tie as tie
 
 abbrev Inv-loop : tie.InvT-loop
-Inv-loop chars s version fields start field₀ at₀ sum₀ field at sum = Adding version s fields start sum₀ field at sum
+Inv-loop chars s version fields start field₀ at₀ sum₀ values₀ field at sum values = Adding version s fields start sum₀ field at sum values
 
 abbrev μ-loop : tie.MeasureT-loop
-μ-loop chars s version fields start field₀ at₀ sum₀ field at sum = length s - field
+μ-loop chars s version fields start field₀ at₀ sum₀ values₀ field at sum values = length s - field
 
 loop-holds : tie.Need-loop-holds Inv-loop μ-loop
 loop-holds c = adding-start (c .before .pre .0 .0)
@@ -25,8 +25,8 @@ accepted-at-requires c κs = search needs
 returns : tie.Need-returns Inv-loop μ-loop
 returns c = adding-last (c .before .before .before .loop .inv) (c .before .before .accepted-at .ensures .none (c .if1 .taken))
 
-add-t17 : tie.Need-add-t17 Inv-loop μ-loop
-add-t17 c = omega (arith, field-inside (now (c .before .before .before .before .before .args .s)) (c .before .before .before .loop .field) (c .before .before .accepted-at .ensures .field (c .if1 .left)))
+add-t18 : tie.Need-add-t18 Inv-loop μ-loop
+add-t18 c = omega (arith, field-inside (now (c .before .before .before .before .before .args .s)) (c .before .before .before .loop .field) (c .before .before .accepted-at .ensures .field (c .if1 .left)))
 
 field-summed-requires : tie.Need-field-summed-requires Inv-loop μ-loop
 field-summed-requires c κs =
@@ -43,6 +43,9 @@ returns-2 c = let d = c .before .before .before .before in adding-fault (d .befo
 enum-known-value-2 : tie.Need-enum-known-value-2 Inv-loop μ-loop
 enum-known-value-2 c = search needs
 
+add-values : tie.Need-add-values Inv-loop μ-loop
+add-values c = let i = c .before .before .before .before .before .before .before .loop .inv in omega (arith, i .later, i .room .inside, i .room .short)
+
 loop-less : tie.Need-loop-less Inv-loop μ-loop
 loop-less c = let d = c .before .before .before .before in omega (arith, field-inside (now (d .before .before .before .before .before .args .s)) (d .before .before .before .loop .field) (d .before .before .accepted-at .ensures .field (d .if1 .left)))
 
@@ -58,10 +61,11 @@ values-summed-spec =
     loop-holds
     accepted-at-requires
     returns
-    add-t17
+    add-t18
     field-summed-requires
     enum-known-value
     returns-2
     enum-known-value-2
+    add-values
     loop-less
     loop-again)
