@@ -8,7 +8,7 @@ use lib.Seq.{length-take-le}
 use Rattle.bsii_format.specs.Replies.{Reply, gives, inputLong}
 use Rattle.bsii_format.specs.Reader.{ok, fault}
 use Rattle.bsii_format.specs.File.{recordBytes, headerParser, BsiiFile, bsiiFile, lengthLimit, parse, prototypesOf, distinctIds}
-use Rattle.bsii_format.specs.Calls.{placed, placedRecords, prototypesIn}
+use Rattle.bsii_format.specs.Calls.{placed, placedRecords, prototypesIn, stepsOf}
 use Rattle.bsii_format.specs.Text.{valueText}
 use Rattle.bsii_format.specs.BlockText.{joined, closing, fileOpening}
 use Rattle.bsii_format.proofs.Readers.{ok-val}
@@ -28,11 +28,11 @@ use Rattle.bsii_parse.proofs.Records.{defined-length}
 use Rattle.bsii_parse.proofs.Tables.{bare-all}
 use Rattle.bsii_parse.proofs.Whole.{long-refused, header-refused, header, header-long, records-refused, records-read, file-parts, done≢stopped, tree-linked, tree-ordered, tree-stopped}
 use Rattle.bsii_measure_block.specs.Sums.{measureOf, plus, sumIs}
-use Rattle.bsii_measure_block.specs.declared.sums.Sum.{Sum}
 use Rattle.bsii_measure_block.proofs.SumLaws.{measure-joined}
 use Rattle.bsii_measure.specs.InForce.{inForceText}
-use Rattle.bsii_measure.specs.Walks.{SumWalks, walked, stopped}
+use Rattle.bsii_measure.specs.Walks.{TallyOf, SumWalks, walked, stopped}
 use Rattle.bsii_measure.specs.Files.{readingOf, BlocksSum, MeasuresTree, MeasuresFile}
+use Rattle.bsii_measure.specs.declared.walk.Tally.{Tally}
 use Rattle.bsii_measure.specs.declared.walk.Measuring.{Measuring}
 use Rattle.bsii_measure.specs.declared.walk.Measuring.the-variants.{Done, Fault}
 use Rattle.bsii_measure.proofs.InForceLaws.{framed-last}
@@ -48,17 +48,14 @@ module _ (s t : List ℕ) (short : length s ≤ lengthLimit) where
 
   pub measured-walk : {v : ℕ} → headerParser 0 s ≡ ok v 8 (drop 8 s) → {r : Measuring} {t′ : List ℕ} → SumWalks v s 8 t r t′ → MeasuresTree s t r t′
   unfolding bsiiFile header placedRecords
-  measured-walk h {t′ = t′} (walked q {rows = rows} {m = m} e k l sum fits) =
+  measured-walk h {t′ = t′} (walked q {rows = rows} {m = m} e k l tally fits) =
       let start : 8 ≡ length (take 8 s) = sym (length-take-le 8 s (header-long s t short h)) in
       let file = records-read s t short h q e in
       record {
         reads = read (bsiiFile (header s t short h) q) file (subst (λ n. Growing s t′ rows (prototypesIn (placed (λ r. length (recordBytes r)) n (q .records)) [])) start k) l;
         sums = λ f n g.
-            let same : bsiiFile (header s t short h) q ≡ f = ok-val (sym file ∙ g) in (
-              sum ∙ ap (λ n. measureOf (inForceText valueText [] n (q .records))) start
-                  ∙ ap (λ (f : BsiiFile). measureOf (inForceText valueText [] (length (f .header .raw)) (f .records))) same,
-              omega (arith, fits, short),
-            );
+            let same : bsiiFile (header s t short h) q ≡ f = ok-val (sym file ∙ g) in
+            (subst (λ (f : BsiiFile). TallyOf (length (f .header .raw)) (f .records) m) same (subst (λ n. TallyOf n (q .records) m) start tally), omega (arith, fits, short));
       }
   measured-walk h (stopped e l) = record { reads = unread (records-refused s t short h e) l; sums = λ f n g. tt }
 
@@ -99,29 +96,39 @@ framed-sum to missing x h =
     go to zero = unfold sumIs plus in let z : to + 13 ≡ 11 + to + 2 = omega arith in ap gives z
     go to (suc o) = unfold sumIs plus in refl
 
+abbrev pub withFrame : Tally → Tally
+withFrame m = record { text = record { to = m .text .to + 13; missing = m .text .missing }; steps = m .steps; largest = m .largest }
+
 module _ {s t : List ℕ} {r : Measuring} {t′ : List ℕ} (w : MeasuresTree s t r t′) where
   pub measured-fault : {f : Refusal} → r ≡ Fault f → MeasuresFile s t (Fault f) t′
   measured-fault z = record { reads = tree-stopped (ap readingOf z) (w .reads); sums = λ f n e. tt }
 
-  module _ {a : Totals} {m : Sum} (z : r ≡ Done a m) where
+  module _ {a : Totals} {m : Tally} (z : r ≡ Done a m) where
     pub measured-linked : Linked s t′ (a .rows)
     measured-linked = tree-linked (ap readingOf z) (w .reads)
 
     blocks : (f : BsiiFile) (n : ℕ) → parse (length t) s ≡ ok f n (drop n s) → BlocksSum f (Done a m)
     blocks f n e = subst (BlocksSum f) z (w .sums f n e)
 
-    pub measured-fits : m .to ≤ lineBound * lengthLimit
+    pub measured-fits : m .text .to ≤ lineBound * lengthLimit
     measured-fits = let c = counted (w .reads) (ap readingOf z) in blocks (c .file) (c .next) (c .reads) .1
 
-    pub measured-file : {t″ : List ℕ} → Ordered s t′ (a .rows) t″ → MeasuresFile s t (Done a (record { to = m .to + 13; missing = m .missing })) t″
+    pub measured-file : {t″ : List ℕ} → Ordered s t′ (a .rows) t″ → MeasuresFile s t (Done a (withFrame m)) t″
+    unfolding stepsOf
     measured-file o = record {
       reads = tree-ordered (ap readingOf z) (w .reads) o;
-      sums = λ f n e rows.
-          let c = counted (w .reads) (ap readingOf z) in
-          let same : c .file ≡ f = ok-val (sym (c .reads) ∙ e) in
-          let each = counts-once (prototypesOf (c .file .records)) (sym (c .rows) ∙ rows ∙ c .prototypes) in
-          let p = file-parts (length t) s e in
-          let g = records-good (f .header .value) (length t / 3) (length (drop 8 s)) [] 8 (drop 8 s) (record { records = f .records; end = f .end }) n (drop n s) (p .reads) in
-          framed-sum (m .to) (m .missing) (inForceText valueText [] (length (f .header .raw)) (f .records)) (blocks f n e .0)
-          ∙ ap measureOf (framed-last valueText f (g .good) (ap (λ (x : BsiiFile). once (prototypesOf (x .records))) (sym same) ∙ each));
+      sums = λ f n e.
+          let tally = blocks f n e .0 in
+          record {
+            text = λ rows.
+                let c = counted (w .reads) (ap readingOf z) in
+                let same : c .file ≡ f = ok-val (sym (c .reads) ∙ e) in
+                let each = counts-once (prototypesOf (c .file .records)) (sym (c .rows) ∙ rows ∙ c .prototypes) in
+                let p = file-parts (length t) s e in
+                let g = records-good (f .header .value) (length t / 3) (length (drop 8 s)) [] 8 (drop 8 s) (record { records = f .records; end = f .end }) n (drop n s) (p .reads) in
+                framed-sum (m .text .to) (m .text .missing) (inForceText valueText [] (length (f .header .raw)) (f .records)) (tally .text)
+                ∙ ap measureOf (framed-last valueText f (g .good) (ap (λ (x : BsiiFile). once (prototypesOf (x .records))) (sym same) ∙ each));
+            steps = tally .steps;
+            largest = tally .largest;
+          };
     }

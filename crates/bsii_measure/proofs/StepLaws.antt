@@ -1,7 +1,7 @@
 -- A step of the walk: the reading step that it stands for, and what the record adds to the sum.
 use mathlib.Core.Path.{_≡_, refl, sym, ap, _∙_, subst}
-use Prim.Native.Nat.{ℕ, _+_, _*_, _/_, _≤_}
-use native.Mathlib.Nat.{add-zero}
+use Prim.Native.Nat.{ℕ, _+_, _-_, _/_, _≤_, _<_, max}
+use native.Mathlib.Nat.{add-zero, max-zero}
 use native.Mathlib.Omega.{arith}
 use mathlib.Core.Bool.{false}
 use mathlib.Core.Option.{Option, some}
@@ -13,14 +13,15 @@ use Rattle.bsii_format.specs.Reader.{Result, ok, fault, after, _>>=_}
 use Rattle.bsii_format.specs.Strings.{Id, idParser}
 use Rattle.bsii_format.specs.Prototypes.{Prototype}
 use Rattle.bsii_format.specs.Blocks.{DataValue, DataBlock, getPrototype, dataValuesParser}
-use Rattle.bsii_format.specs.File.{prototype, block, carrying, headParser, hasRoom}
-use Rattle.bsii_format.specs.Calls.{Placed, consPrototype}
+use Rattle.bsii_format.specs.File.{prototype, block, carrying, headParser, more, recordParser, hasRoom, recordBytes}
+use Rattle.bsii_format.specs.Calls.{Placed, consPrototype, recordSteps}
 use Rattle.bsii_format.specs.Text.{valueText}
 use Rattle.bsii_format.specs.BlockText.{blockOpening, closing, blockText}
 use Rattle.bsii_format.proofs.Readers.{ok-at}
 use Rattle.bsii_format.proofs.Parsers.{id-exact, head-exact}
 use Rattle.bsii_format.proofs.Positions.{moved, ended}
-use Rattle.bsii_length.specs.Bounds.{lineBound}
+use Rattle.bsii_format.proofs.Records.{record-good, head-takes, values-length}
+use Rattle.bsii_derived.specs.Forecast.{largestIn}
 use Rattle.bsii_string.specs.declared.answers.Refusal.{Refusal}
 use Rattle.bsii_prototype.specs.Answers.{headIs}
 use Rattle.bsii_prototype.specs.declared.answers.Head.{Head as HeadAnswer}
@@ -39,17 +40,18 @@ use Rattle.bsii_parse.proofs.Records.{records-fault}
 use Rattle.bsii_parse.proofs.RecordSteps.{record-block-fault, record-block}
 use Rattle.bsii_parse.proofs.Passing.{values-exact, past-record}
 use Rattle.bsii_walk.proofs.Parts.{BlockParts, block-parts}
-use Rattle.bsii_measure_block.specs.Sums.{measureOf, plus, sumIs, sums, stops, SumFits}
+use Rattle.bsii_measure_block.specs.Sums.{measureOf, plus, sums, stops, BlockFits}
 use Rattle.bsii_measure_block.specs.Fields.{valuesSum}
 use Rattle.bsii_measure_block.specs.Blocks.{blockSum, BlockSummed}
 use Rattle.bsii_measure_block.specs.declared.sums.Sum.{Sum}
-use Rattle.bsii_measure_block.specs.declared.sums.Summed.{Summed}
-use Rattle.bsii_measure_block.specs.declared.sums.Summed.the-variants.{Next, Fault}
+use Rattle.bsii_measure_block.specs.declared.sums.SummedBlock.{SummedBlock}
+use Rattle.bsii_measure_block.specs.declared.sums.SummedBlock.the-variants.{Next, Fault}
 use Rattle.bsii_measure_block.proofs.SumLaws.{joined-none, plus-none}
 use Rattle.bsii_measure_block.proofs.ValueLaws.{sums≢stops}
 use Rattle.bsii_measure_block.proofs.BlockLaws.{block-text}
 use Rattle.bsii_measure.specs.InForce.{inForceText}
-use Rattle.bsii_measure.specs.Walks.{SumMeets, passed, ended as endedSum, refused, SumStepped, SumDefining, SumCarrying}
+use Rattle.bsii_measure.specs.Walks.{Standing, textSum, SumMeets, passed, ended as endedSum, refused, SumStepped, SumDefining, SumCarrying}
+use Rattle.bsii_measure.specs.declared.walk.Tally.{Tally}
 use Rattle.bsii_measure.specs.declared.walk.SumStep.{SumStep}
 use Rattle.bsii_measure.specs.declared.walk.SumStep.the-variants.{Go, End, Refused}
 
@@ -58,6 +60,9 @@ use Rattle.bsii_measure.specs.declared.walk.SumStep.the-variants.{Go, En
 prototype-adds : (a : Reply ℕ) (env : List Prototype) (at : ℕ) (p : Prototype) → a ≡ plus a (measureOf (inForceText valueText env at (prototype p ∷ [])))
 unfolding inForceText measureOf
 prototype-adds a env at p = sym (plus-none a)
+
+some-is : {A : Type 0} {a b : A} → _≡_ {A = Option A} (some a) (some b) → a ≡ b
+some-is e = cc
 
 block-adds : (version : ℕ) (before : Reply ℕ) (env : List Prototype) (s : List ℕ) (at n : ℕ) (b : DataBlock) (w : BlockParts version env s at n b)
     → {d : Prototype} → getPrototype (b .prototypeId) env ≡ some d → {o : ℕ} → headParser at (drop at s) ≡ ok (carrying (b .prototypeId)) o (drop o s)
@@ -74,20 +79,29 @@ block-adds version before env s at n b w found {o} head e =
     outcome-sum : {n m : ℕ} {a b : Reply ℕ} → sums n a ≡ sums m b → a ≡ b
     outcome-sum e = cc
 
-    some-is : {A : Type 0} {a b : A} → _≡_ {A = Option A} (some a) (some b) → a ≡ b
-    some-is e = cc
-
 -- ---- from the reading step
 
-module _ {version : ℕ} {s : List ℕ} {p : Progress} (m : Sum) {t : List ℕ} {env : List (Placed Prototype)} where
-  over-prototype : {r : ReadStep} {t′ : List ℕ} → StepMeets version s p t env r t′ → {q : Progress} → r ≡ WentPrototype q → m .to ≤ lineBound * p .at → SumMeets version s p m t env (Go q m) t′
-  over-prototype {t′ = t′} (overRecord (prototype x) {n = n} {rows = rows} w behind-prototype) {q} z fits =
+-- a prototype is a step
+abbrev pub withPrototype : Tally → Tally
+withPrototype m = record { text = m .text; steps = m .steps + 1; largest = m .largest }
+
+module _ {version : ℕ} {s : List ℕ} {p : Progress} (m : Tally) {t : List ℕ} {env : List (Placed Prototype)} where
+  over-prototype : {r : ReadStep} {t′ : List ℕ} → StepMeets version s p t env r t′ → {q : Progress} → r ≡ WentPrototype q → Standing s p m t
+      → SumMeets version s p m t env (Go q (withPrototype m)) t′
+  unfolding recordSteps largestIn
+  over-prototype {t′ = t′} (overRecord (prototype x) {n = n} {rows = rows} w behind-prototype) {q} z h =
       let here : past p (prototype x) n rows ≡ q = cc in
-      subst (λ q. SumMeets version s p m t env (Go q m) t′) here
-      (passed (prototype x) w (prototype-adds (sumIs (m .to) (m .missing)) (bare env) (p .at) x) (omega (arith, fits, w .on)))
-  over-prototype (overRecord (block b) w (behind-block y f)) z fits = let x : _≡_ {A = ℕ} 0 1 = cc in absurd (omega arith)
-  over-prototype (atEnd e) z fits = let x : _≡_ {A = ℕ} 0 1 = cc in absurd (omega arith)
-  over-prototype (unread e l) z fits = let x : _≡_ {A = ℕ} 0 1 = cc in absurd (omega arith)
+      subst (λ q. SumMeets version s p m t env (Go q (withPrototype m)) t′) here
+      (passed (prototype x) w (record {
+        text = prototype-adds (textSum m) (bare env) (p .at) x;
+        fits = omega (arith, h .fits, w .on);
+        steps = refl;
+        few = omega (arith, h .few, w .on);
+        largest = sym (max-zero (m .largest));
+      }))
+  over-prototype (overRecord (block b) w (behind-block y f)) z h = let x : _≡_ {A = ℕ} 0 1 = cc in absurd (omega arith)
+  over-prototype (atEnd e) z h = let x : _≡_ {A = ℕ} 0 1 = cc in absurd (omega arith)
+  over-prototype (unread e l) z h = let x : _≡_ {A = ℕ} 0 1 = cc in absurd (omega arith)
 
   at-end : {r : ReadStep} {t′ : List ℕ} → StepMeets version s p t env r t′ → {n : ℕ} → r ≡ AtEnd n → SumMeets version s p m t env (End n) t′
   at-end {t′ = t′} w z = endedSum (subst (λ r. StepMeets version s p t env r t′) z w)
@@ -95,18 +109,18 @@ module _ {version : ℕ} {s : List ℕ} {p : Progress} (m : Sum) {t : List ℕ} 
   at-fault : {r : ReadStep} {t′ : List ℕ} → StepMeets version s p t env r t′ → {f : Refusal} → r ≡ Unread f → SumMeets version s p m t env (Refused f) t′
   at-fault {t′ = t′} w z = refused (subst (λ r. StepMeets version s p t env r t′) z w)
 
-module _ {s : List ℕ} {p : Progress} (m : Sum) {t : List ℕ} {id fields : ℕ} {r : ReadStep} {t′ : List ℕ} (d : Defining s p t false id fields r t′) where
-  pub sum-defined : {q : Progress} → r ≡ WentPrototype q → m .to ≤ lineBound * p .at → SumDefining s p m t id fields (Go q m) t′
-  sum-defined z fits = record { steps = λ version env k name h. over-prototype m (d .steps version env k tt name h) z fits }
+module _ {s : List ℕ} {p : Progress} (m : Tally) {t : List ℕ} {id fields : ℕ} {r : ReadStep} {t′ : List ℕ} (d : Defining s p t false id fields r t′) where
+  pub sum-defined : {q : Progress} → r ≡ WentPrototype q → Standing s p m t → SumDefining s p m t id fields (Go q (withPrototype m)) t′
+  sum-defined z stands = record { steps = λ version env k name h. over-prototype m (d .steps version env k tt name h) z stands }
 
   pub sum-undefined : {f : Refusal} → r ≡ Unread f → SumDefining s p m t id fields (Refused f) t′
   sum-undefined z = record { steps = λ version env k name h. at-fault m (d .steps version env k tt name h) z }
 
-pub sum-unread : {version : ℕ} {s : List ℕ} {p : Progress} (m : Sum) {t : List ℕ} {id at : ℕ} {f : Refusal} → Carrying version s p t false id at (Unread f)
+pub sum-unread : {version : ℕ} {s : List ℕ} {p : Progress} (m : Tally) {t : List ℕ} {id at : ℕ} {f : Refusal} → Carrying version s p t false id at (Unread f)
     → SumCarrying version s p m t id at (Refused f)
 sum-unread m d = record { steps = λ env k h. at-fault m (d .steps env k tt h) refl }
 
-module _ {version : ℕ} {s : List ℕ} {p : Progress} (m : Sum) {t : List ℕ} where
+module _ {version : ℕ} {s : List ℕ} {p : Progress} (m : Tally) {t : List ℕ} where
   pub sum-ended : {n : ℕ} → Stepped version s p t false (AtEnd n) t → SumStepped version s p m t (End n) t
   sum-ended d = record { steps = λ env k. at-end m (d .steps env k tt) refl }
 
@@ -154,11 +168,31 @@ module _ (version : ℕ) (before : Reply ℕ) (p : Prototype) (s : List ℕ) (at
 
 -- ---- a block
 
-at-offset : {version : ℕ} {s : List ℕ} {at : ℕ} {m : Sum} {z a : ℕ} → z ≡ a → {q x : Summed} → q ≡ x → BlockSummed version s z at m q → BlockSummed version s a at m x
+at-offset : {version : ℕ} {s : List ℕ} {at : ℕ} {m : Sum} {z a : ℕ} → z ≡ a → {q x : SummedBlock} → q ≡ x → BlockSummed version s z at m q → BlockSummed version s a at m x
 at-offset {version} {s} {at} {m} {a = a} i {q} y w = subst (BlockSummed version s a at m) y (subst (λ o. BlockSummed version s o at m q) i w)
 
-module _ {version : ℕ} {s : List ℕ} {p : Progress} {m : Sum} {t : List ℕ} {id at : ℕ} {r : FoundRow} (f : foundRow r ≡ lookupTree s t (p .rows) id)
-    {a b : ℕ} (e : r ≡ At a b) {z : ℕ} (i : z ≡ a) {q : Summed} (w : BlockSummed version s z at m q) where
+-- its steps do not wrap, and it does not end before it starts
+pub block-fits : {version : ℕ} {s : List ℕ} {o at : ℕ} {m : Sum} {q : SummedBlock} → BlockSummed version s o at m q → {n : ℕ} {sum : Sum} {values : ℕ} → q ≡ Next n sum values
+    → BlockFits s at (Next n sum values)
+block-fits {s = s} {at = at} w z = subst (BlockFits s at) z (w .fine)
+
+-- a block is a step, and so is each of its values
+abbrev pub withBlock : Tally → Sum → ℕ → ℕ → Tally
+withBlock m sum values largest = record { text = sum; steps = m .steps + 1 + values; largest = largest }
+
+-- where a block's own id starts and how many values it has, by the definition in force
+block-counts : (version : ℕ) (env : List Prototype) (s : List ℕ) (at n : ℕ) (b : DataBlock) → recordParser version env at (drop at s) ≡ ok (more (block b)) n (drop n s)
+    → {d : Prototype} → getPrototype (b .prototypeId) env ≡ some d → {o : ℕ} → headParser at (drop at s) ≡ ok (carrying (b .prototypeId)) o (drop o s)
+    → (at < o) × (length (d .fields) ≡ length (b .values))
+block-counts version env s at n b e found head =
+    let g = record-good env at (drop at s) (more (block b)) n (drop n s) e in
+    let w = block-parts version env s at n b e in
+    let long = head-takes (g .good .head) in
+    let place = ok-at (sym head ∙ w .head) in
+    (omega (arith, long, place), ap (λ (p : Prototype). length (p .fields)) (some-is (sym found ∙ g .good .found)) ∙ values-length (g .good .values))
+
+module _ {version : ℕ} {s : List ℕ} {p : Progress} {m : Tally} {t : List ℕ} {id at : ℕ} {r : FoundRow} (f : foundRow r ≡ lookupTree s t (p .rows) id)
+    {a b : ℕ} (e : r ≡ At a b) {z : ℕ} (i : z ≡ a) {q : SummedBlock} (w : BlockSummed version s z at (m .text) q) where
   pub block-refused : {x : Refusal} → q ≡ Fault x → SumCarrying version s p m t id at (Refused x)
   block-refused {x} y = record {
     steps = λ env k h.
@@ -166,24 +200,34 @@ module _ {version : ℕ} {s : List ℕ} {p : Progress} {m : Sum} {t : List ℕ} 
         let v = at-offset i y w in
         refused (unread
         (records-fault version (length t / 3) (bare env) (p .at) s
-        (record-block-fault version (bare env) (p .at) (drop (p .at) s) h (d .1) (sum-stops version (sumIs (m .to) (m .missing)) (d .0) s at (v .is (d .0) (d .2)))))
+        (record-block-fault version (bare env) (p .at) (drop (p .at) s) h (d .1) (sum-stops version (textSum m) (d .0) s at (v .is (d .0) (d .2)))))
         refl);
   }
 
-  pub block-passed : {n : ℕ} {m′ : Sum} → q ≡ Next n m′
-      → SumCarrying version s p m t id at (Go (record { at = n; rows = p .rows; blocks = p .blocks + 1; prototypes = p .prototypes }) m′)
-  unfolding blockCount prototypeCount consPrototype hasRoom
-  block-passed {n} {m′} y = record {
+  pub block-passed : {n : ℕ} {sum : Sum} {values : ℕ} → q ≡ Next n sum values → Standing s p m t → {largest : ℕ} → largest ≡ max (m .largest) (n - p .at)
+      → SumCarrying version s p m t id at (Go (record { at = n; rows = p .rows; blocks = p .blocks + 1; prototypes = p .prototypes }) (withBlock m sum values largest))
+  unfolding blockCount prototypeCount consPrototype hasRoom recordSteps largestIn
+  block-passed {n} {sum} {values} y stands {largest} l = record {
     steps = λ env k h.
-        let before = sumIs (m .to) (m .missing) in
+        let before = textSum m in
         let d = found-at (DefinedAt s) (k .holds) id e f in
         let v = at-offset i y w in
-        let fine : SumFits s at (Next n m′) = v .fine in
+        let fine : BlockFits s at (Next n sum values) = v .fine in
         let u = record-block version (bare env) (p .at) (drop (p .at) s) h (d .1) (sum-ends version before (d .0) s at (v .is (d .0) (d .2))) in
-        subst (λ x. SumMeets version s p m t env (Go (record { at = n; rows = p .rows; blocks = p .blocks + 1; prototypes = x }) m′) t) (add-zero (p .prototypes))
-        (passed (block (u .0)) (past-record (block (u .0)) (u .1) refl k refl)
-        (block-adds version before (bare env) s (p .at) n (u .0) (block-parts version (bare env) s (p .at) n (u .0) (u .1))
-        (ap (λ j. getPrototype j (bare env)) (u .2) ∙ d .1) (h ∙ ap (λ j. ok (carrying j) at (drop at s)) (sym (u .2))) (v .is (d .0) (d .2))) (fine .2));
+        let head = h ∙ ap (λ j. ok (carrying j) at (drop at s)) (sym (u .2)) in
+        let found = ap (λ j. getPrototype j (bare env)) (u .2) ∙ d .1 in
+        let x = past-record (block (u .0)) (u .1) refl k refl in
+        let c = block-counts version (bare env) s (p .at) n (u .0) (u .1) found head in
+        let count : values ≡ length (d .0 .fields) = v .counts (d .0) (d .2) in
+        let long : n - p .at ≡ length (recordBytes (block (u .0))) = omega (arith, x .long) in
+        subst (λ x. SumMeets version s p m t env (Go (record { at = n; rows = p .rows; blocks = p .blocks + 1; prototypes = x }) (withBlock m sum values largest)) t) (add-zero (p .prototypes))
+        (passed (block (u .0)) x (record {
+          text = block-adds version before (bare env) s (p .at) n (u .0) (block-parts version (bare env) s (p .at) n (u .0) (u .1)) found head (v .is (d .0) (d .2));
+          fits = fine .2;
+          steps = omega (arith, count, c .1);
+          few = omega (arith, stands .few, c .0, fine .0);
+          largest = l ∙ ap (max (m .largest)) (long ∙ sym (max-zero (length (recordBytes (block (u .0))))));
+        }));
   }
 
 -- ---- a record by its head
@@ -191,7 +235,7 @@ module _ {version : ℕ} {s : List ℕ} {p : Progress} {m : Sum} {t : List ℕ} 
 pub head-moves : (s : List ℕ) (at : ℕ) {h : HeadAnswer} → headIs s h ≡ headParser at (drop at s) → {id next : ℕ} → h ≡ HeadBlock id next → at ≤ length s → (at ≤ next) × (next ≤ length s)
 head-moves s at e z i = let v = moved head-exact s at (sym e ∙ ap (headIs s) z) in (v .later, v .inside i)
 
-module _ {version : ℕ} {s : List ℕ} {p : Progress} {m : Sum} {t : List ℕ} {h : HeadAnswer} (e : headIs s h ≡ headParser (p .at) (drop (p .at) s)) where
+module _ {version : ℕ} {s : List ℕ} {p : Progress} {m : Tally} {t : List ℕ} {h : HeadAnswer} (e : headIs s h ≡ headParser (p .at) (drop (p .at) s)) where
   pub sum-defining : {id name next : ℕ} {r : SumStep} {t′ : List ℕ} → h ≡ HeadPrototype id name next → SumDefining s p m t id next r t′ → SumStepped version s p m t r t′
   sum-defining z d = record { steps = λ env k. d .steps version env k _ (sym e ∙ ap (headIs s) z) }
 

@@ -1,5 +1,6 @@
 // The whole file.
 use crate::walk::Measuring;
+use crate::walk::Tally;
 use crate::walk::walk;
 use bsii_base38::char_pairs;
 use bsii_measure_block::sums::Sum;
@@ -31,7 +32,7 @@ fn measure_tree(file: &[u8], table: &mut [u32]) -> Measuring
     }
 }
 
-// The file and its text, with the last definition of each id left in the table for a look-up: the caller clears it. The sum is
+// The file and its text, with the last definition of each id left in the table for a look-up: the caller clears it. The text's sum is
 // under the definitions in force, so it is the text's only with as many rows as prototypes.
 pub fn measure(file: &[u8], table: &mut [u32]) -> Measuring
     ensures { λ r. ⌜ MeasuresFile (now (file .entry)) (now (table .entry)) r (now (table .exit)) ⌝ }
@@ -39,11 +40,16 @@ pub fn measure(file: &[u8], table: &mut [u32]) -> Measuring
     let measured = measure_tree(file, table);
     match measured {
         Measuring::Fault(f) => return Measuring::Fault(f),
-        Measuring::Done(totals, sum) => {
+        Measuring::Done(totals, tally) => {
             order(file, table, totals.rows);
-            let framed = Sum {
-                to: sum.to + FRAME,
-                missing: sum.missing,
+            let sum = tally.text;
+            let framed = Tally {
+                text: Sum {
+                    to: sum.to + FRAME,
+                    missing: sum.missing,
+                },
+                steps: tally.steps,
+                largest: tally.largest,
             };
             return Measuring::Done(totals, framed);
         }

@@ -2,7 +2,7 @@
 use bsii_base38::CharPairs;
 use bsii_measure_block::blocks::block_summed;
 use bsii_measure_block::sums::Sum;
-use bsii_measure_block::sums::Summed;
+use bsii_measure_block::sums::SummedBlock;
 use bsii_parse::walk::Progress;
 use bsii_parse::walk::Totals;
 use bsii_prototype::answers::Counted;
@@ -19,37 +19,55 @@ use bsii_table::word;
 use bsii_tree::Defined;
 use bsii_tree::define;
 use bsii_tree::find;
-ghost use Prim.Native.Nat.{_≤_};
+ghost use mathlib.Core.Path.{_≡_};
+ghost use Prim.Native.Nat.{_≤_, max};
 ghost use lib.ListN.{length};
 ghost use Rattle.bsii_format.specs.File.{lengthLimit};
 ghost use Rattle.bsii_base38.specs.Pairs.{CharPairs};
 ghost use Rattle.bsii_tree.specs.Table.{Named};
 ghost use Rattle.bsii_measure.specs.Walks.{Standing, SumDefining, SumCarrying, SumStepped, SumWalks};
 
+// What the walk has added up: the text, the steps, one for each record and one for each value, and the bytes of the largest block.
+pub struct Tally {
+    pub text: Sum,
+    pub steps: usize,
+    pub largest: usize,
+}
+
 pub enum SumStep {
-    Go(Progress, Sum),
+    Go(Progress, Tally),
     End(usize),
     Refused(Refusal),
 }
 
-// What the whole walk has found, and the sum of the text.
+// What the whole walk has found and added up.
 pub enum Measuring {
-    Done(Totals, Sum),
+    Done(Totals, Tally),
     Fault(Refusal),
+}
+
+fn larger(a: usize, b: usize) -> usize
+    ensures { λ r. ⌜ r ≡ max a b ⌝ }
+{
+    if a < b {
+        return b;
+    }
+    a
 }
 
 // A prototype of this id, whose definitions start at `fields`. It has no text.
 fn prototype_step(
     s: &[u8],
     p: Progress,
-    sum: Sum,
+    tally: Tally,
     table: &mut [u32],
     id: u32,
     fields: usize,
 ) -> SumStep
-    requires { ⌜ Standing (now s) p sum (now table) × Named (now s) (p .rows) id (p .at) ⌝ }
-    ensures { λ r. ⌜ SumDefining (now (s .entry)) p sum (now (table .entry)) id fields r (now (table .exit)) ⌝ }
+    requires { ⌜ Standing (now s) p tally (now table) × Named (now s) (p .rows) id (p .at) ⌝ }
+    ensures { λ r. ⌜ SumDefining (now (s .entry)) p tally (now (table .entry)) id fields r (now (table .exit)) ⌝ }
 {
+    let text = tally.text;
     let list = fields_parser(s, fields);
     match list {
         Counted::Fault(f) => return SumStep::Refused(f),
@@ -64,7 +82,11 @@ fn prototype_step(
                         blocks: p.blocks,
                         prototypes: p.prototypes + 1,
                     },
-                    sum,
+                    Tally {
+                        text,
+                        steps: tally.steps + 1,
+                        largest: tally.largest,
+                    },
                 ),
             }
         }
@@ -77,30 +99,35 @@ fn block_step(
     s: &[u8],
     version: u32,
     p: Progress,
-    sum: Sum,
+    tally: Tally,
     table: &[u32],
     id: u32,
     id_at: usize,
 ) -> SumStep
-    requires { ⌜ Standing (now s) p sum (now table) × (p .at ≤ «id_at») × («id_at» ≤ length (now s)) ⌝ }
+    requires { ⌜ Standing (now s) p tally (now table) × (p .at ≤ «id_at») × («id_at» ≤ length (now s)) ⌝ }
     requires { ⌜ CharPairs (now chars) ⌝ }
-    ensures { λ r. ⌜ SumCarrying version (now (s .entry)) p sum (now (table .entry)) id «id_at» r ⌝ }
+    ensures { λ r. ⌜ SumCarrying version (now (s .entry)) p tally (now (table .entry)) id «id_at» r ⌝ }
 {
+    let text = tally.text;
     let found = find(s, table, p.rows, id);
     match found {
         FoundRow::Nothing => return SumStep::Refused(refused(UNDEFINED_PROTOTYPE, p.at)),
         FoundRow::At { in_force, last: _ } => {
-            let block = block_summed(chars, s, version, size(in_force), id_at, sum);
+            let block = block_summed(chars, s, version, size(in_force), id_at, text);
             match block {
-                Summed::Fault(f) => return SumStep::Refused(f),
-                Summed::Next { at, sum: more } => return SumStep::Go(
+                SummedBlock::Fault(f) => return SumStep::Refused(f),
+                SummedBlock::Next { at, sum, values } => return SumStep::Go(
                     Progress {
                         at,
                         rows: p.rows,
                         blocks: p.blocks + 1,
                         prototypes: p.prototypes,
                     },
-                    more,
+                    Tally {
+                        text: sum,
+                        steps: tally.steps + 1 + values,
+                        largest: larger(tally.largest, at - p.at),
+                    },
                 ),
             }
         }
@@ -113,19 +140,26 @@ fn record_step(
     s: &[u8],
     version: u32,
     p: Progress,
-    sum: Sum,
+    tally: Tally,
     table: &mut [u32],
 ) -> SumStep
-    requires { ⌜ Standing (now s) p sum (now table) ⌝ }
+    requires { ⌜ Standing (now s) p tally (now table) ⌝ }
     requires { ⌜ CharPairs (now chars) ⌝ }
-    ensures { λ r. ⌜ SumStepped version (now (s .entry)) p sum (now (table .entry)) r (now (table .exit)) ⌝ }
+    ensures { λ r. ⌜ SumStepped version (now (s .entry)) p tally (now (table .entry)) r (now (table .exit)) ⌝ }
 {
     let head = head_parser(s, p.at);
     match head {
         Head::End(next) => return SumStep::End(next),
         Head::BadHead(f) => return SumStep::Refused(f),
-        Head::Prototype { id, name: _, next } => return prototype_step(s, p, sum, table, id, next),
-        Head::Block { id, next } => return block_step(chars, s, version, p, sum, table, id, next),
+        Head::Prototype { id, name: _, next } => return prototype_step(
+            s,
+            p,
+            tally,
+            table,
+            id,
+            next,
+        ),
+        Head::Block { id, next } => return block_step(chars, s, version, p, tally, table, id, next),
     }
 }
 
@@ -141,24 +175,35 @@ pub fn walk(chars: &CharPairs, s: &[u8], version: u32, start: usize, table: &mut
         blocks: 0,
         prototypes: 0,
     };
-    let mut sum = Sum { to: 0, missing: 0 };
+    let mut tally = Tally {
+        text: Sum { to: 0, missing: 0 },
+        steps: 0,
+        largest: 0,
+    };
     loop {
-        let step = record_step(chars, s, version, p, sum, table);
+        let step = record_step(chars, s, version, p, tally, table);
         match step {
-            SumStep::End(next) => return Measuring::Done(
-                Totals {
-                    version,
-                    rows: p.rows,
-                    blocks: p.blocks,
-                    prototypes: p.prototypes,
-                    next,
-                },
-                sum,
-            ),
+            SumStep::End(next) => {
+                let text = tally.text;
+                return Measuring::Done(
+                    Totals {
+                        version,
+                        rows: p.rows,
+                        blocks: p.blocks,
+                        prototypes: p.prototypes,
+                        next,
+                    },
+                    Tally {
+                        text,
+                        steps: tally.steps + 1,
+                        largest: tally.largest,
+                    },
+                );
+            }
             SumStep::Refused(f) => return Measuring::Fault(f),
             SumStep::Go(further, more) => {
                 p = further;
-                sum = more;
+                tally = more;
             }
         }
     }

@@ -25,16 +25,16 @@ order-requires : tie.Need-order-requires
 order-requires c κs =
     measured-linked (c .before .before .before .before .before .before .measure-tree .ensures) (c .before .before .measured2 .given .1)
 
-add-t13 : tie.Need-add-t13
-add-t13 c =
-    omega (arith, measured-fits (c .before .before .before .before .before .before .before .before .before .before .measure-tree .ensures) (c .before .before .before .before .before .before .measured2 .given .1))
+add-t14 : tie.Need-add-t14
+add-t14 c =
+    omega (arith, measured-fits (c .before .before .before .before .before .before .before .before .before .before .before .measure-tree .ensures) (c .before .before .before .before .before .before .before .measured2 .given .1))
 
 same-length-2 : tie.Need-same-length-2
 same-length-2 c = search needs
 
 returns-2 : tie.Need-returns-2
 returns-2 c =
-    measured-file (c .before .before .before .before .before .before .before .before .before .before .measure-tree .ensures) (c .before .before .before .before .before .before .measured2 .given .1) (c .before .before .before .order .ensures)
+    measured-file (c .before .before .before .before .before .before .before .before .before .before .before .measure-tree .ensures) (c .before .before .before .before .before .before .before .measured2 .given .1) (c .before .before .before .before .order .ensures)
 
 pub measure-spec : {M : Type 1} → statement M
 measure-spec =
@@ -46,6 +46,6 @@ measure-spec =
     returns
     enum-known-measured-2
     order-requires
-    add-t13
+    add-t14
     same-length-2
     returns-2)

@@ -1,7 +1,8 @@
 -- As the reading walk's step: no row means that the id is undefined; under the definition in force block_summed reads the block, or has its fault, and adds
 -- its text.
 use Rattle.bsii_parse.proofs.Passing.{carrying-undefined}
-use Rattle.bsii_measure.proofs.StepLaws.{sum-unread, block-refused, block-passed}
+use Rattle.bsii_measure.proofs.StepLaws.{sum-unread, block-refused, block-fits, block-passed}
+use native.Mathlib.Omega.{arith}
 use borrow.Author.Needs.{needs}
 use Rattle.bsii_measure.proofs.walk.block_step.Statement.{statement}
 use Rattle.bsii_measure.proofs.walk.block_step.Tie as tie
@@ -17,7 +18,7 @@ refused-requires c κs = search needs
 
 returns : tie.Need-returns
 returns c =
-    rw (c .refused .ensures) (sum-unread (c .before .before .before .before .before .before .args .sum) (carrying-undefined (c .before .before .before .find .ensures) (c .before .enum-told .given .1)))
+    rw (c .refused .ensures) (sum-unread (c .before .before .before .before .before .before .before .args .tally) (carrying-undefined (c .before .before .before .find .ensures) (c .before .enum-told .given .1)))
 
 enum-known-found : tie.Need-enum-known-found
 enum-known-found c = search needs
@@ -38,12 +39,24 @@ returns-2 c =
 enum-known-block-2 : tie.Need-enum-known-block-2
 enum-known-block-2 c = search needs
 
-add-t17 : tie.Need-add-t17
-add-t17 c = search needs
+add-t19 : tie.Need-add-t19
+add-t19 c = search needs
+
+add-t21 : tie.Need-add-t21
+add-t21 c = search needs
+
+add-t22 : tie.Need-add-t22
+add-t22 c = let f = block-fits (c .before .before .before .before .before .block-summed .ensures) (c .before .before .before .block2 .given .1) in omega (arith, f .0, f .1)
+
+sub-larger : tie.Need-sub-larger
+sub-larger c = let f = block-fits (c .before .before .before .before .before .before .block-summed .ensures) (c .before .before .before .before .block2 .given .1) in omega (arith, f .0, c .before .before .before .before .before .before .before .before .before .before .before .before .before .before .before .pre .0 .1)
+
+larger-requires : tie.Need-larger-requires
+larger-requires c κs = search needs
 
 returns-3 : tie.Need-returns-3
 returns-3 c =
-    block-passed (c .before .before .before .before .before .before .before .before .before .find .ensures) (c .before .before .before .before .before .before .before .found .given .1) (c .before .before .before .before .before .size .ensures) (c .before .before .before .before .block-summed .ensures) (c .before .before .block2 .given .1)
+    block-passed (c .before .before .before .before .before .before .before .before .before .before .before .before .find .ensures) (c .before .before .before .before .before .before .before .before .before .before .found .given .1) (c .before .before .before .before .before .before .before .before .size .ensures) (c .before .before .before .before .before .before .before .block-summed .ensures) (c .before .before .before .before .before .block2 .given .1) (c .before .before .before .before .before .before .before .before .before .before .before .before .before .before .before .before .pre .0 .0) (c .larger .ensures)
 
 pub block-step-spec : {M : Type 1} → statement M
 block-step-spec =
@@ -59,5 +72,9 @@ block-step-spec =
     enum-known-block
     returns-2
     enum-known-block-2
-    add-t17
+    add-t19
+    add-t21
+    add-t22
+    sub-larger
+    larger-requires
     returns-3)

@@ -17,14 +17,14 @@ enum-known-head c = search needs
 
 returns : tie.Need-returns
 returns c =
-    sum-ended (c .before .before .before .before .before .before .args .sum) (stepped-end (c .before .before .before .head-parser .ensures) (c .before .head .given .1))
+    sum-ended (c .before .before .before .before .before .before .args .tally) (stepped-end (c .before .before .before .head-parser .ensures) (c .before .head .given .1))
 
 enum-known-head-2 : tie.Need-enum-known-head-2
 enum-known-head-2 c = search needs
 
 returns-2 : tie.Need-returns-2
 returns-2 c =
-    sum-refused (c .before .before .before .before .before .before .args .sum) (stepped-bad (c .before .before .before .head-parser .ensures) (c .before .head2 .given .1))
+    sum-refused (c .before .before .before .before .before .before .args .tally) (stepped-bad (c .before .before .before .head-parser .ensures) (c .before .head2 .given .1))
 
 enum-known-head-3 : tie.Need-enum-known-head-3
 enum-known-head-3 c = search needs

@@ -1,5 +1,6 @@
--- Invariant: the records from `start` on are those passed so far and those from here on, the table keeps their definitions, and the sum is that of the text
--- of those passed. Measure: what is left of the file, since a record has a byte at least.
+-- Invariant: the records from `start` on are those passed so far and those from here on, the table keeps their definitions, and the tally is of those passed:
+-- their text, their steps, the largest of their blocks. Measure: what is left of the file, since a record has a byte at least.
+use native.Mathlib.Omega.{arith}
 use denote.Ref.{now}
 use borrow.Author.Needs.{needs}
 use Prim.Native.Nat.{_-_}
@@ -9,10 +10,10 @@ use Rattle.bsii_measure.proofs.walk.walk.Statement.{statement}
 use Rattle.bsii_measure.proofs.walk.walk.Tie as tie
 
 abbrev Inv-loop : tie.InvT-loop
-Inv-loop chars s version start table₀ p₀ sum₀ table p sum = Walking version s start table₀ p sum table
+Inv-loop chars s version start table₀ p₀ tally₀ table p tally = Walking version s start table₀ p tally table
 
 abbrev μ-loop : tie.MeasureT-loop
-μ-loop chars s version start table₀ p₀ sum₀ table p sum = length s - p .at
+μ-loop chars s version start table₀ p₀ tally₀ table p tally = length s - p .at
 
 loop-holds : tie.Need-loop-holds Inv-loop μ-loop
 loop-holds c =
@@ -25,12 +26,15 @@ record-step-requires c κs =
 enum-known-step : tie.Need-enum-known-step Inv-loop μ-loop
 enum-known-step c = search needs
 
+add-t18 : tie.Need-add-t18 Inv-loop μ-loop
+add-t18 c = let i = c .before .before .before .before .before .before .before .before .before .loop .inv in omega (arith, i .few, i .along .inside, c .before .before .before .before .before .before .before .before .before .before .before .before .pre .0 .0)
+
 same-length : tie.Need-same-length Inv-loop μ-loop
 same-length c = search needs
 
 returns : tie.Need-returns Inv-loop μ-loop
 returns c =
-    walking-end (c .before .before .before .before .before .before .before .loop .inv) (c .before .before .before .before .before .record-step .ensures) (c .before .step .given .1)
+    walking-end (c .before .before .before .before .before .before .before .before .before .loop .inv) (c .before .before .before .before .before .before .before .record-step .ensures) (c .before .before .before .step .given .1)
 
 enum-known-step-2 : tie.Need-enum-known-step-2 Inv-loop μ-loop
 enum-known-step-2 c = search needs
@@ -62,6 +66,7 @@ walk-spec =
     loop-holds
     record-step-requires
     enum-known-step
+    add-t18
     same-length
     returns
     enum-known-step-2
