@@ -38,7 +38,7 @@ use Rattle.bsii_forecast.specs.declared.answers.Foreseen.{Foreseen}
 use Rattle.bsii_forecast.specs.declared.answers.Foreseen.the-variants.{Figures as Told, Refused}
 
 -- the file's text, from its records
-file-framed : (f : BsiiFile) → length (f .header .raw) ≡ 8 → fileText valueText everyBlock f ≡ framedText valueText everyBlock (prototypesOf (f .records)) (f .records)
+pub file-framed : (f : BsiiFile) → length (f .header .raw) ≡ 8 → fileText valueText everyBlock f ≡ framedText valueText everyBlock (prototypesOf (f .records)) (f .records)
 unfolding fileText
 file-framed f e = ap (λ (k : ℕ). joined (joined (gives fileOpening) (recordsText valueText everyBlock (prototypesOf (f .records)) k (f .records))) (gives closing)) e
 

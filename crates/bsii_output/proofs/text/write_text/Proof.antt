@@ -1,30 +1,27 @@
--- The file that was read is what the writing walk starts from. With as many rows as prototypes the sum is that of its text; else bytes below 256 and a
--- file within the limit bound the text's length. A file that is refused has no text, and its own fault.
-use native.Mathlib.Omega.{arith}
+-- What was foreseen is the file's text, or its refusal; the table that is left serves the walk that writes.
 use denote.Ref.{now}
-use Rattle.bsii_file.proofs.Rereading.{readable}
-use Rattle.bsii_output.proofs.TextLaws.{call-refused, walk-read, call-summed, call-again}
+use Rattle.bsii_output.proofs.TextLaws.{call-refused, foreseen-readable, call-written}
 use borrow.Author.Needs.{needs}
 use Rattle.bsii_output.proofs.text.write_text.Statement.{statement}
 use Rattle.bsii_output.proofs.text.write_text.Tie as tie
 
-measure-requires : tie.Need-measure-requires
-measure-requires c κs = search needs
+foresee-requires : tie.Need-foresee-requires
+foresee-requires c κs = search needs
 
-enum-known-measuring : tie.Need-enum-known-measuring
-enum-known-measuring c = search needs
+enum-known-foreseen : tie.Need-enum-known-foreseen
+enum-known-foreseen c = search needs
 
 same-length : tie.Need-same-length
 same-length c = search needs
 
 returns : tie.Need-returns
-returns c = let a = c .before .before .before .before .before .before .before .before .before .before .args in call-refused (now (a .file)) (now (a .table)) (now (a .output)) (c .before .before .before .before .before .measure .ensures) (c .before .measuring .given .1)
+returns c = call-refused (c .before .before .before .before .before .foresee .ensures) (now (c .before .before .before .before .before .before .before .before .before .before .args .output)) (c .before .foreseen .given .1)
 
-enum-known-measuring-2 : tie.Need-enum-known-measuring-2
-enum-known-measuring-2 c = search needs
+enum-known-foreseen-2 : tie.Need-enum-known-foreseen-2
+enum-known-foreseen-2 c = search needs
 
-write-summed-requires : tie.Need-write-summed-requires
-write-summed-requires c κs = let a = c .before .before .before .before .before .before .before .before .before .before .before .before .before .before .args in readable (walk-read (now (a .file)) (now (a .table)) (now (a .output)) (c .before .before .before .before .before .before .before .before .before .measure .ensures) (c .before .before .before .before .before .measuring2 .given .1))
+write-foreseen-requires : tie.Need-write-foreseen-requires
+write-foreseen-requires c κs = foreseen-readable (c .before .before .before .before .before .before .before .foresee .ensures) (c .before .before .before .foreseen2 .given .1)
 
 same-length-2 : tie.Need-same-length-2
 same-length-2 c = search needs
@@ -33,36 +30,18 @@ same-length-3 : tie.Need-same-length-3
 same-length-3 c = search needs
 
 returns-2 : tie.Need-returns-2
-returns-2 c = let a = c .before .before .before .before .before .before .before .before .before .before .before .before .before .before .before .before .before .before .before .args in call-summed (now (a .file)) (now (a .table)) (now (a .output)) (c .before .before .before .before .before .before .before .before .before .before .before .before .before .before .measure .ensures) (c .before .before .before .before .before .before .before .before .before .before .measuring2 .given .1) (omega arith) (c .before .before .before .before .write-summed .ensures)
-
-write-again-requires : tie.Need-write-again-requires
-write-again-requires c κs = let a = c .before .before .before .before .before .before .before .before .before .before .before .before .before .before .args in readable (walk-read (now (a .file)) (now (a .table)) (now (a .output)) (c .before .before .before .before .before .before .before .before .before .measure .ensures) (c .before .before .before .before .before .measuring2 .given .1))
-
-same-length-4 : tie.Need-same-length-4
-same-length-4 c = search needs
-
-same-length-5 : tie.Need-same-length-5
-same-length-5 c = search needs
-
-returns-3 : tie.Need-returns-3
-returns-3 c =
-    let a = c .before .before .before .before .before .before .before .before .before .before .before .before .before .before .before .before .before .before .before .args in
-    call-again (now (a .file)) (now (a .table)) (now (a .output)) (c .before .before .before .before .before .before .before .before .before .before .before .before .before .before .measure .ensures) (c .before .before .before .before .before .before .before .before .before .before .measuring2 .given .1) (λ i. omega (arith, c .before .before .before .before .before .before .before .before .before .before .before .before .before .before .before .before .before .before .shared-slice-known .given i)) (c .before .before .before .before .write-again .ensures)
+returns-2 c = call-written (c .before .before .before .before .before .before .before .before .before .before .before .before .foresee .ensures) (c .before .before .before .before .before .before .before .before .foreseen2 .given .1) (c .before .before .before .before .write-foreseen .ensures)
 
 pub write-text-spec : {M : Type 1} → statement M
 write-text-spec =
     tie.close
     (tie.spec
-    measure-requires
-    enum-known-measuring
+    foresee-requires
+    enum-known-foreseen
     same-length
     returns
-    enum-known-measuring-2
-    write-summed-requires
+    enum-known-foreseen-2
+    write-foreseen-requires
     same-length-2
     same-length-3
-    returns-2
-    write-again-requires
-    same-length-4
-    same-length-5
-    returns-3)
+    returns-2)
