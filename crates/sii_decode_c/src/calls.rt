@@ -70,6 +70,7 @@ pub struct SiiText {
     pub offset: u64,
     pub lacking: u64,
     pub length: u64,
+    pub steps: u64,
 }
 
 #[no_mangle]
@@ -227,17 +228,19 @@ pub extern "C" fn sii_to_siin(file: &[u8], table: &mut [u32], output: &mut [u8])
 {
     let reply = to_siin(file, table, output);
     match reply {
-        TextReply::Text(n) => SiiText {
+        TextReply::Text(a) => SiiText {
             number: 0,
             offset: 0,
             lacking: 0,
-            length: n as u64,
+            length: a.length as u64,
+            steps: a.steps as u64,
         },
         TextReply::Refused { refusal, needed } => SiiText {
             number: refusal.number,
             offset: refusal.offset as u64,
             lacking: refusal.lacking as u64,
             length: needed as u64,
+            steps: 0,
         },
     }
 }

@@ -2,4 +2,5 @@
 // into a struct of C's layout.
 pub mod calls;
 pub mod elements;
+pub mod forecast;
 pub mod index;

@@ -16,8 +16,8 @@ enum-known-reply c = search needs
 enum-known-reply-2 : tie.Need-enum-known-reply-2
 enum-known-reply-2 c = search needs
 
-cast-t15 : tie.Need-cast-t15
-cast-t15 c = search needs
+cast-t16 : tie.Need-cast-t16
+cast-t16 c = search needs
 
 same-length : tie.Need-same-length
 same-length c = search needs
@@ -50,7 +50,7 @@ sii-to-siin-spec =
     to-siin-requires
     enum-known-reply
     enum-known-reply-2
-    cast-t15
+    cast-t16
     same-length
     same-length-2
     returns

@@ -1,6 +1,7 @@
 -- One equation carries all: the arm's reply with the space that `write_index` left is `writeIndexCall`'s answer. `lengthOut` of it is the struct.
+use Prim.Native.Nat.{ℕ}
 use mathlib.Core.Path.{sym, ap, _∙_}
-use Rattle.bsii_format.specs.Calls.{TextAnswer}
+use Rattle.bsii_format.specs.Calls.{WriteAnswer}
 use Rattle.bsii_index.specs.Answers.{lengthIs}
 use Rattle.sii_decode_c.specs.Exports.{lengthOut}
 use borrow.Author.Needs.{needs}
@@ -29,7 +30,7 @@ returns : tie.Need-returns
 returns c =
     let k = c .before .before .before .before .before .before .before .write-index in
     let e = ap (λ z. lengthIs z (k .last .1 .1 .0)) (sym (c .before .reply .given .1)) ∙ k .ensures .0 in
-    (ap lengthOut e, (ap (λ (a : TextAnswer). a .output) e, k .ensures .1))
+    (ap lengthOut e, (ap (λ (a : WriteAnswer ℕ). a .output) e, k .ensures .1))
 
 same-length-3 : tie.Need-same-length-3
 same-length-3 c = search needs
@@ -41,7 +42,7 @@ returns-2 : tie.Need-returns-2
 returns-2 c =
     let k = c .before .before .before .before .before .before .before .before .write-index in
     let e = ap (λ z. lengthIs z (k .last .1 .1 .0)) (sym (c .before .before .reply2 .given .1)) ∙ k .ensures .0 in
-    (ap lengthOut e, (ap (λ (a : TextAnswer). a .output) e, k .ensures .1))
+    (ap lengthOut e, (ap (λ (a : WriteAnswer ℕ). a .output) e, k .ensures .1))
 
 pub sii-write-index-spec : {M : Type 1} → statement M
 sii-write-index-spec =
