@@ -9,6 +9,7 @@ use lib.ListN.{length}
 use lib.Dec.{T}
 use Rattle.bsii_format.specs.Replies.{gives}
 use Rattle.bsii_format.specs.Reader.{same}
+use Rattle.bsii_format.specs.Calls.{Converted}
 use Rattle.bsii_format.proofs.Readers.{is-true, is-false, same→eq, same-refl}
 use Rattle.replay.specs.Agree.{sameBytes, sameReply}
 
@@ -19,9 +20,9 @@ told false s t h = sym (is-false (same s t) (λ x. true≢false (sym (h .1 (same
 pub shorter : (s t : List ℕ) → length s < length t → same s t ≡ false
 shorter s t h = is-false (same s t) (λ x. let e = ap length (same→eq s t x) in omega arith)
 
-module _ (reply : ℕ) (text : List ℕ) (n : ℕ) (output : List ℕ) where
-  pub unlike : (reply ≡ 0 → ⊥) → false ≡ sameReply reply text (gives n) output
+module _ (reply : ℕ) (text : List ℕ) (a : Converted) (output : List ℕ) where
+  pub unlike : (reply ≡ 0 → ⊥) → false ≡ sameReply reply text (gives a) output
   unlike h = rw (ne-eqb reply 0 h)
 
-  pub alike : reply ≡ 0 → sameBytes text n output ≡ sameReply reply text (gives n) output
+  pub alike : reply ≡ 0 → sameBytes text (a .size) output ≡ sameReply reply text (gives a) output
   alike h = rw (eq-eqb reply 0 h)

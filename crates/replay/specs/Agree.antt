@@ -6,7 +6,7 @@ use lib.ListN.{length, take}
 use lib.Dec.{eqb}
 use Rattle.bsii_format.specs.Replies.{malformed, absent, badMark, Reply, gives, refuses}
 use Rattle.bsii_format.specs.Reader.{same}
-use Rattle.bsii_format.specs.Calls.{Reading, TextAnswer}
+use Rattle.bsii_format.specs.Calls.{Reading, Converted, TextAnswer}
 
 -- 02, E2: "Against the Rust both numbers count as InvalidInput", which the list has as 3.
 abbrev pub rustNumber : ℕ → ℕ
@@ -32,8 +32,8 @@ isAbsent (refuses f) = eqb (f .number) absent
 abbrev pub sameBytes : List ℕ → ℕ → List ℕ → Bool
 sameBytes text n output = cond (eqb n (length text)) (same (take n output) text) false
 
-abbrev pub sameReply : ℕ → List ℕ → Reply ℕ → List ℕ → Bool
-sameReply reply text (gives n) output = cond (eqb reply 0) (sameBytes text n output) false
+abbrev pub sameReply : ℕ → List ℕ → Reply Converted → List ℕ → Bool
+sameReply reply text (gives a) output = cond (eqb reply 0) (sameBytes text (a .size) output) false
 sameReply reply text (refuses f) output = eqb (rustNumber (f .number)) reply
 
 abbrev pub sameText : ℕ → List ℕ → TextAnswer → Bool

@@ -163,11 +163,11 @@ fn same_text(file: &[u8], table: &mut [u32], output: &mut [u8], reply: u32, text
     let answer = to_siin(file, table, output);
     match answer {
         TextReply::Refused { refusal, needed: _ } => return rust_number(refusal.number) == reply,
-        TextReply::Text(n) => {
+        TextReply::Text(converted) => {
             if reply != 0 {
                 return false;
             }
-            return same_bytes(output, n, text);
+            return same_bytes(output, converted.length, text);
         }
     }
 }

@@ -10,7 +10,7 @@ use lib.ListN.{length, take, drop, length-append, length-take}
 use lib.Seq.{sets-eq, take-all, take-append-seam}
 use lib.Dec.{leb}
 use Rattle.bsii_format.specs.Replies.{Fault, Reply, gives, refuses, refusal, inputLong, outputShort}
-use Rattle.bsii_format.specs.Calls.{TextAnswer, textOf, textAnswer, textCall, printed, ofSize, program}
+use Rattle.bsii_format.specs.Calls.{stepsIn, writeAnswer, Converted, converted, TextAnswer, textOf, textAnswer, textCall, printed, ofSize, program}
 use Rattle.bsii_length.proofs.Digits.{digits-length}
 use Rattle.bsii_window.specs.Window.{Wrote}
 use Rattle.bsii_window.proofs.Laws.{lt-or-le, capped-less, same, written-in}
@@ -57,25 +57,26 @@ unread s =
 -- ---- the text call
 
 -- a text that is printed stands at the output's start already, and a refusal is yet to be written
-abbrev Shows : List ℕ → Reply ℕ → List ℕ → Type 0
-Shows p (gives n) output = Starts output n p
+abbrev Shows : List ℕ → Reply Converted → List ℕ → Type 0
+Shows p (gives a) output = Starts output (a .size) p
 Shows p (refuses f) output = p ≡ printed (refuses f)
 
 abbrev Answers : List ℕ → TextAnswer → Type 0
 Answers p a = Shows p (a .reply) (a .output)
 
-text-answers : (output t : List ℕ) (b : Bool) → Answers (printed (cond b (gives t) (refusal outputShort 0)))
-    (cond b (record { reply = gives (length t); needed = 0; output = t ++ drop (length t) output }) (record { reply = refusal outputShort 0; needed = length t; output = output }))
+text-answers : (steps : ℕ) (output t : List ℕ) (b : Bool) → Answers (printed (cond b (gives t) (refusal outputShort 0)))
+    (cond b (record { reply = gives (converted steps t); needed = 0; output = t ++ drop (length t) output }) (record { reply = refusal outputShort 0; needed = length t; output = output }))
 unfolding printed
-text-answers output t true = record { inside = omega (arith, length-append t (drop (length t) output)); bytes = take-append-seam t (drop (length t) output) }
-text-answers output t false = refl
+text-answers steps output t true = record { inside = omega (arith, length-append t (drop (length t) output)); bytes = take-append-seam t (drop (length t) output) }
+text-answers steps output t false = refl
 
-answers : (output : List ℕ) (r : Reply (List ℕ)) → Answers (printed (ofSize (length output) r)) (textAnswer output r)
-unfolding ofSize textAnswer
-answers output (gives t) = text-answers output t (leb (length t) (length output))
-answers output (refuses f) = refl
+answers : (steps : ℕ) (output : List ℕ) (r : Reply (List ℕ)) → Answers (printed (ofSize (length output) r)) (textAnswer steps output r)
+unfolding ofSize writeAnswer
+answers steps output (gives t) = text-answers steps output t (leb (length t) (length output))
+answers steps output (refuses f) = refl
 
 pub call-answers : (s output : List ℕ) {words : ℕ} {a : TextAnswer} → length s ≤ 65_536 → words ≡ 768 → length output ≡ 65_536 → a ≡ textCall words s output → Answers (program s) a
 unfolding textCall
 call-answers s output {words} {a} h w k e =
-    rw (fits s h, e, w) (subst (λ n. Answers (printed (ofSize n (textOf 768 s))) (textAnswer output (textOf 768 s))) k (answers output (textOf 768 s)))
+    let steps = stepsIn (parse 768 s) in
+    rw (fits s h, e, w) (subst (λ n. Answers (printed (ofSize n (textOf 768 s))) (textAnswer steps output (textOf 768 s))) k (answers steps output (textOf 768 s)))

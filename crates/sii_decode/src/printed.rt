@@ -43,7 +43,7 @@ pub fn print_into(input: &[u8], table: &mut [u32], output: &mut [u8]) -> usize
     }
     let reply = to_siin(input, table, output);
     match reply {
-        TextReply::Text(size) => size,
+        TextReply::Text(converted) => converted.length,
         TextReply::Refused { refusal, needed: _ } => print_refusal(output, refusal),
     }
 }

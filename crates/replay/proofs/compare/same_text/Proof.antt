@@ -47,7 +47,7 @@ returns-2 c =
     let k = c .before .before .before .before .before .before .before .before in
     let a = k .before .before .before .before .before .before .before .args in
     let e = ap (sameText (a .reply) (now (a .text))) (ap (λ z. textIs z (k .to-siin .last .1 .1 .0)) (sym (c .before .before .answer2 .given .1)) ∙ k .to-siin .ensures .0) in
-    unlike (a .reply) (now (a .text)) (c .before .before .answer2 .given .0 .0) (k .to-siin .last .1 .1 .0) (c .if1 .taken) ∙ e
+    unlike (a .reply) (now (a .text)) (record { size = c .before .before .answer2 .given .0 .0 .length; steps = c .before .before .answer2 .given .0 .0 .steps }) (k .to-siin .last .1 .1 .0) (c .if1 .taken) ∙ e
 
 same-bytes-requires : tie.Need-same-bytes-requires
 same-bytes-requires c κs = search needs
@@ -63,7 +63,7 @@ returns-3 c =
     let k = c .before .before .before .before .before .before .before .before .before .before in
     let a = k .before .before .before .before .before .before .before .args in
     let e = ap (sameText (a .reply) (now (a .text))) (ap (λ z. textIs z (k .to-siin .last .1 .1 .0)) (sym (c .before .before .before .before .answer2 .given .1)) ∙ k .to-siin .ensures .0) in
-    c .same-bytes .ensures ∙ alike (a .reply) (now (a .text)) (c .before .before .before .before .answer2 .given .0 .0) (k .to-siin .last .1 .1 .0) (c .before .before .if1 .left) ∙ e
+    c .same-bytes .ensures ∙ alike (a .reply) (now (a .text)) (record { size = c .before .before .before .before .answer2 .given .0 .0 .length; steps = c .before .before .before .before .answer2 .given .0 .0 .steps }) (k .to-siin .last .1 .1 .0) (c .before .before .if1 .left) ∙ e
 
 pub same-text-spec : {M : Type 1} → statement M
 same-text-spec =
