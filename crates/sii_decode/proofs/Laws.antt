@@ -10,6 +10,7 @@ use lib.ListN.{length, take, drop, length-append, length-take}
 use lib.Seq.{sets-eq, take-all, take-append-seam}
 use lib.Dec.{leb}
 use Rattle.bsii_format.specs.Replies.{Fault, Reply, gives, refuses, refusal, inputLong, outputShort}
+use Rattle.bsii_format.specs.File.{parse}
 use Rattle.bsii_format.specs.Calls.{stepsIn, writeAnswer, Converted, converted, TextAnswer, textOf, textAnswer, textCall, printed, ofSize, program}
 use Rattle.bsii_length.proofs.Digits.{digits-length}
 use Rattle.bsii_window.specs.Window.{Wrote}
