@@ -110,9 +110,10 @@ pub figures-fit : {s t : List ℕ} {r : Foreseen} {t′ : List ℕ} → Foresees
 unfolding prototypesOf blocksOf placedRecords
 figures-fit {s} {t} (foreseen f x e h w l) {a} z =
     let same : figuresOf f x ≡ a = cc in
-    subst (λ (a : Figures). (3 * a .rows ≤ length t) × (a .blocks ≤ lengthLimit)) same
-    (omega (arith, file-good (length t / 3) s f _ _ (parse-ok (length t) s e .1) .good .roomed),
-    omega (arith, blocks-limited (length t) s e, blocks-counted (λ r. length (recordBytes r)) (length (f .header .raw)) (f .records)))
+    subst (λ (a : Figures). (3 * a .rows ≤ length t) × (a .blocks ≤ lengthLimit)) same (
+      omega (arith, file-good (length t / 3) s f _ _ (parse-ok (length t) s e .1) .good .roomed),
+      omega (arith, blocks-limited (length t) s e, blocks-counted (λ r. length (recordBytes r)) (length (f .header .raw)) (f .records)),
+    )
 figures-fit (unforeseen e l) z = let x : _≡_ {A = ℕ} 0 1 = cc in absurd (omega arith)
 
 pub table-size : {s t : List ℕ} {r : Foreseen} {t′ : List ℕ} → Foresees s t r t′ → length t′ ≡ length t

@@ -185,6 +185,7 @@ pub fn walk(chars: &CharPairs, s: &[u8], version: u32, start: usize, table: &mut
         match step {
             SumStep::End(next) => {
                 let text = tally.text;
+                let steps = tally.steps + 1;
                 return Measuring::Done(
                     Totals {
                         version,
@@ -195,7 +196,7 @@ pub fn walk(chars: &CharPairs, s: &[u8], version: u32, start: usize, table: &mut
                     },
                     Tally {
                         text,
-                        steps: tally.steps + 1,
+                        steps,
                         largest: tally.largest,
                     },
                 );

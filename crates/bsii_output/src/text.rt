@@ -28,12 +28,7 @@ pub enum TextReply {
 }
 
 // The text of a file with these figures.
-fn write_foreseen(
-    file: &[u8],
-    table: &mut [u32],
-    output: &mut [u8],
-    figures: Figures,
-) -> TextReply
+fn write_foreseen(file: &[u8], table: &mut [u32], output: &mut [u8], figures: Figures) -> TextReply
     requires { ⌜ Readable (figures .version) (now file) 8 (now table) (figures .rows) ⌝ }
     ensures { λ r. ⌜ TextWritten valueText everyBlock figures (now (file .entry)) (now (table .entry)) (now (output .entry)) r (now (output .exit)) ⌝ }
 {
@@ -44,10 +39,11 @@ fn write_foreseen(
         };
     }
     write_bsii(output, file, figures.version, 8, table, figures.rows);
-    TextReply::Text(Converted {
+    let converted = Converted {
         length: figures.text,
         steps: figures.steps,
-    })
+    };
+    TextReply::Text(converted)
 }
 
 // The answer, with the table as it was left by the walks.

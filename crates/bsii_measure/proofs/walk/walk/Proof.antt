@@ -26,8 +26,8 @@ record-step-requires c κs =
 enum-known-step : tie.Need-enum-known-step Inv-loop μ-loop
 enum-known-step c = search needs
 
-add-t18 : tie.Need-add-t18 Inv-loop μ-loop
-add-t18 c = let i = c .before .before .before .before .before .before .before .before .before .loop .inv in omega (arith, i .few, i .along .inside, c .before .before .before .before .before .before .before .before .before .before .before .before .pre .0 .0)
+add-steps : tie.Need-add-steps Inv-loop μ-loop
+add-steps c = let i = c .before .before .before .before .before .before .before .before .before .loop .inv in omega (arith, i .few, i .along .inside, c .before .before .before .before .before .before .before .before .before .before .before .before .pre .0 .0)
 
 same-length : tie.Need-same-length Inv-loop μ-loop
 same-length c = search needs
@@ -66,7 +66,7 @@ walk-spec =
     loop-holds
     record-step-requires
     enum-known-step
-    add-t18
+    add-steps
     same-length
     returns
     enum-known-step-2

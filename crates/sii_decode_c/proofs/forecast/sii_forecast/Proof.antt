@@ -22,14 +22,14 @@ same-length : tie.Need-same-length
 same-length c = search needs
 
 returns : tie.Need-returns
-returns c = 
+returns c =
     (ap (λ z. forecastOut (forecastIs z)) (sym (c .before .reply .given .1)) ∙ ap forecastOut (c .before .before .before .before .before .forecast .ensures .0), c .before .before .before .before .before .forecast .ensures .1)
 
 same-length-2 : tie.Need-same-length-2
 same-length-2 c = search needs
 
 returns-2 : tie.Need-returns-2
-returns-2 c = 
+returns-2 c =
     (ap (λ z. forecastOut (forecastIs z)) (sym (c .before .before .reply2 .given .1)) ∙ ap forecastOut (c .before .before .before .before .before .before .forecast .ensures .0), c .before .before .before .before .before .before .forecast .ensures .1)
 
 pub sii-forecast-spec : {M : Type 1} → statement M
