@@ -17,9 +17,8 @@ use Rattle.bsii_format.specs.File.{BsiiFile, prototypesOf, lengthLimit, parse}
 use Rattle.bsii_format.specs.Calls.{ofFile, orAbsent, writeAnswer, FieldAnswer, fieldAnswer, fieldUnder}
 use Rattle.bsii_format.specs.Refusals.{fileNumbers, valueNumbers, among, counted, Each, none as nothing, _also_, Within, GivesExactly}
 use Rattle.bsii_format.proofs.Readers.{is-false}
-use Rattle.bsii_format.proofs.ReplyLaws.{write-cases}
-use Rattle.bsii_format.proofs.Refusals.{Told, told-all, cond-told, Only, success-only, after-only, bind-only, map-only, verify-only, consumed-only, number-only, str-only, id-only, fields-only, values-only}
-use Rattle.bsii_format.proofs.CallRefusals.{or-within, call-within, given, handed, long}
+use Rattle.bsii_format.proofs.Refusals.{Told, cond-told, Only, more-only, success-only, after-only, bind-only, map-only, verify-only, consumed-only, number-only, str-only, id-only, fields-only, values-only}
+use Rattle.bsii_format.proofs.CallRefusals.{more-within, or-within, call-within, written-within, given, handed, long}
 use Rattle.bsii_derived.specs.Index.{IndexRecord, indexOf, indexBytes, indexBytesOf, recordAt, agreeing}
 use Rattle.bsii_derived.specs.IndexCalls.{writeIndexCall, checked, checkIndexCall, demand, PrototypeHead, prototypeHead, prototypeWith, prototypeAt, isOf, blockAt, answering, fieldBy, indexFieldCall, once, definesOnceCall}
 use Rattle.bsii_derived.specs.IndexRefusals.{writeNumbers, checkNumbers, indexFieldNumbers, onceNumbers}
@@ -30,11 +29,9 @@ use Rattle.bsii_derived.proofs.Computes.{computesIndex}
 
 write-within : (w words : ℕ) (s space : List ℕ) → Within writeNumbers (writeIndexCall w words s space .reply)
 unfolding writeIndexCall
-write-within w words s space = go (ofFile (λ f at. gives (indexBytesOf w f)) (parse words s)) (call-within writeNumbers (λ f at. gives (indexBytesOf w f)) tt (λ f at. tt) words s)
-  where
-    go : (q : Reply (List ℕ)) → Within writeNumbers q → Within writeNumbers (writeAnswer length space q .reply)
-    go (gives t) h = write-cases length space t (λ a. Within writeNumbers (a .reply)) tt tt
-    go (refuses f) h = unfold writeAnswer in h
+write-within w words s space =
+    written-within writeNumbers tt length space (ofFile (λ f at. gives (indexBytesOf w f)) (parse words s))
+    (call-within writeNumbers (λ f at. gives (indexBytesOf w f)) tt (λ f at. tt) words s)
 
 pub write-refusals : GivesExactly {Q = ℕ × ℕ × List ℕ × List ℕ} writeNumbers (λ q. writeIndexCall (q .0) (q .1) (q .2) (q .3) .reply)
 unfolding computesIndex saveA
@@ -45,18 +42,20 @@ write-refusals = record {
   nonzero = refl;
 }
 
-checked-within : (w : ℕ) (l : List IndexRecord) (i : List ℕ) → Within checkNumbers (checked w l i)
+pub checked-within : (w : ℕ) (l : List IndexRecord) (i : List ℕ) → Within (misfit ∷ []) (checked w l i)
 unfolding checked
 checked-within w l i = go (same (indexBytes w l) i)
   where
-    go : (b : Bool) → Within checkNumbers (cond b (gives tt) (refusal {A = Unit {0}} misfit (agreeing w l i * (4 * w))))
+    go : (b : Bool) → Within (misfit ∷ []) (cond b (gives tt) (refusal {A = Unit {0}} misfit (agreeing w l i * (4 * w))))
     go true = tt
     go false = tt
 
 pub check-refusals : GivesExactly {Q = ℕ × ℕ × List ℕ × List ℕ} checkNumbers (λ q. checkIndexCall (q .0) (q .1) (q .2) (q .3))
 unfolding computesIndex saveA
 check-refusals = record {
-  only = λ q. call-within checkNumbers (λ f at. checked (q .0) (indexOf f) (q .3)) tt (λ f at. checked-within (q .0) (indexOf f) (q .3)) (q .1) (q .2);
+  only = λ q.
+      call-within checkNumbers (λ f at. checked (q .0) (indexOf f) (q .3)) tt
+      (λ f at. more-within checkNumbers (misfit ∷ []) tt (checked (q .0) (indexOf f) (q .3)) (checked-within (q .0) (indexOf f) (q .3))) (q .1) (q .2);
   each = handed (λ words s. (3, words, s, [])) (λ words s f e. ap (ofFile (λ f at. checked 3 (indexOf f) [])) e)
       (given (3, 3, saveA, []) (refused misfit 0) refl also nothing);
   nonzero = refl;
@@ -74,11 +73,7 @@ once-refusals = record {
 
 -- what a value is refused with, the look-up is
 in-look : {A : Type 0} {R : Reader A} → Only valueNumbers A R → Only indexFieldNumbers A R
-in-look {A} {R} h = record { only = λ at s. go (R at s) (h .only at s) }
-  where
-    go : (q : Result A) → Told valueNumbers q → Told indexFieldNumbers q
-    go (ok a at s) k = tt
-    go (fault f) k = told-all indexFieldNumbers valueNumbers tt f k
+in-look h = more-only indexFieldNumbers valueNumbers tt h
 
 demand-only : (n b : ℕ) {R : Reader ℕ} → Only indexFieldNumbers ℕ R → Only indexFieldNumbers ℕ (demand n b R)
 unfolding demand

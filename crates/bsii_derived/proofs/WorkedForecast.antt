@@ -3,10 +3,9 @@ use mathlib.Core.Path.{refl}
 use Rattle.bsii_format.specs.Worked.{Hold}
 use Rattle.bsii_format.specs.WorkedCalls.{redefinedFile, recountedFile, twinFile, unlistedEnumFile, sevenPart, sevenFile}
 use Rattle.bsii_derived.specs.WorkedIndex.{saveA}
-use Rattle.bsii_derived.specs.Forecast.{largestIn, forecastOf, foretold, forecastCall}
-use Rattle.bsii_derived.specs.WorkedForecast.{haulSave, forecasts, conversions}
-use Rattle.bsii_derived.proofs.Computes.{computesIndex}
+use Rattle.bsii_derived.specs.WorkedForecast.{haulSave, turnedA, smallSave, forecasts, conversions}
+use Rattle.bsii_derived.proofs.Computes.{computesForecast}
 
 pub forecasts-hold : Hold forecasts × Hold conversions
-unfolding computesIndex redefinedFile recountedFile twinFile unlistedEnumFile sevenPart sevenFile saveA haulSave largestIn forecastOf foretold forecastCall forecasts conversions
+unfolding computesForecast redefinedFile recountedFile twinFile unlistedEnumFile sevenPart sevenFile saveA haulSave turnedA smallSave forecasts conversions
 forecasts-hold = (refl, refl)

@@ -9,7 +9,7 @@ use Rattle.bsii_format.specs.Worked.{le, u32, u64, Fact, _says_}
 use Rattle.bsii_format.specs.WorkedCalls.{string, definition, prototypeRecord, fileWith, redefinedFile, recountedFile, twinFile, unlistedEnumFile, sevenFile, twiceFile, lacks, written, unwritten}
 use Rattle.bsii_format.specs.Calls.{TextAnswer, textCall}
 use Rattle.bsii_derived.specs.Forecast.{Forecast, forecastCall}
-use Rattle.bsii_derived.specs.WorkedIndex.{saveA}
+use Rattle.bsii_derived.specs.WorkedIndex.{nField, saveA}
 
 -- 103 bytes: prototype 3, `t` with a u16 `n`, a bool array `f` and a string `s`; its blocks `null` at 53, of 21 bytes, and `x` at 74, of 25
 unfoldable pub haulSave : List ℕ
@@ -19,6 +19,14 @@ haulSave =
     ++ u32 3 ++ le 1 0 ++ le 2 5 ++ u32 2 ++ le 2 1 ++ string (le 1 0x61 ++ le 1 9 ++ le 1 0x62)
     ++ u32 3 ++ le 1 1 ++ u64 0x22 ++ le 2 0xffff ++ u32 0 ++ string (ascii "ok")
     )
+
+-- save A with its blocks the other way round, the larger one in front
+unfoldable pub turnedA : List ℕ
+turnedA = fileWith (prototypeRecord 3 (ascii "t") nField ++ u32 3 ++ le 1 1 ++ u64 0x22 ++ le 2 7 ++ u32 3 ++ le 1 0 ++ le 2 5)
+
+-- two prototypes of 17 bytes, without a name and without fields, at 8 and at 25: 47 bytes in all
+unfoldable pub smallSave : List ℕ
+smallSave = fileWith (prototypeRecord 1 [] [] ++ prototypeRecord 2 [] [])
 
 abbrev pub needs : ℕ → ℕ → ℕ → ℕ → ℕ → Reply Forecast
 needs table text index largest steps = gives (record { tableWords = table; textLength = text; indexLength = index; largestBlock = largest; steps = steps })
@@ -30,11 +38,14 @@ forecasts =
     forecastCall 3 saveA says needs 3 50 24 15 6 ∷
     forecastCall 2 saveA says refusal tableFull 8 ∷
     forecastCall 9 saveA says needs 3 50 24 15 6 ∷
+    forecastCall 3 turnedA says needs 3 50 24 15 6 ∷
     forecastCall 3 haulSave says needs 3 115 24 25 10 ∷
     forecastCall 0 (fileWith []) says needs 0 13 0 0 1 ∷
     forecastCall 3 redefinedFile says needs 3 33 12 9 5 ∷
     forecastCall 3 (twiceFile [] []) says needs 3 53 24 9 7 ∷
     forecastCall 3 (sevenFile 1) says needs 3 73 12 33 4 ∷
+    forecastCall 6 smallSave says needs 6 13 0 0 3 ∷
+    forecastCall 5 smallSave says refusal tableFull 25 ∷
     forecastCall 8 twinFile says refusal tableFull 83 ∷
     forecastCall 3 recountedFile says refusal fieldCount 44 ∷
     forecastCall 3 unlistedEnumFile says refusal enumValue 65 ∷

@@ -20,12 +20,16 @@ use Rattle.bsii_format.specs.Calls.{ofFile, orAbsent, blocksOf, readingO
 use Rattle.bsii_format.specs.Refusals.{fileNumbers, readingNumbers, lookupNumbers, elementNumbers, valueNumbers, textNumbers, among, counted, Each, none as nothing, _also_, Within, Gives, GivesExactly}
 use Rattle.bsii_format.specs.Worked.{le, u32, u64, workedFile}
 use Rattle.bsii_format.specs.WorkedCalls.{workedWith, shortenedFile, unlistedEnumFile}
-use Rattle.bsii_format.proofs.Readers.{is-false}
+use Rattle.bsii_format.proofs.Readers.{and-both, is-false}
 use Rattle.bsii_format.proofs.ReplyLaws.{write-cases}
 use Rattle.bsii_format.proofs.Worked.{computes}
 use Rattle.bsii_format.proofs.Refusals.{allAmong, told-all, Told, value-only, parse-told}
 
 -- ---- no others
+
+pub more-within : (l k : List ℕ) → T (allAmong l k) → {A : Type 0} (q : Reply A) → Within k q → Within l q
+more-within l k h (gives a) t = tt
+more-within l k h (refuses f) t = told-all l k h f t
 
 module _ (l : List ℕ) where
   pub or-within : {A : Type 0} (n at : ℕ) → T (among l n && counted (refused n 0)) → (o : Option A) → Within l (orRefuse n at o)
@@ -42,6 +46,11 @@ module _ (l : List ℕ) where
       go (ok f at r) t = unfold ofFile in k f at
       go (fault x) t = unfold ofFile in told-all l fileNumbers h x t
 
+  -- a call that writes: 11 too
+  pub written-within : T (among l outputShort) → {A : Type 0} (answer : List ℕ → A) (out : List ℕ) (q : Reply (List ℕ)) → Within l q → Within l (writeAnswer answer out q .reply)
+  written-within h answer out (gives t) k = write-cases answer out t (λ a. Within l (a .reply)) tt (and-both (among l outputShort) true h tt)
+  written-within h answer out (refuses f) k = unfold writeAnswer in k
+
 element-within : (version t : ℕ) (s : List ℕ) (i : ℕ) → Within elementNumbers (elementCall version t s i)
 unfolding elementCall
 element-within version t s i = go (valueParser version t 0 s) (value-only version t .only 0 s)
@@ -50,28 +59,32 @@ element-within version t s i = go (valueParser version t 0 s) (value-only versio
     go (ok v at r) h = unfold ofValue in or-within elementNumbers _ _ tt (Option·map datum (getElem? (elementsOf v) i))
     go (fault x) h = unfold ofValue in told-all elementNumbers valueNumbers tt x h
 
-cond-within : {A B : Type 0} (g : A → Reply B) (b : Bool) (x y : A) → Within textNumbers (g x) → Within textNumbers (g y) → Within textNumbers (g (cond b x y))
+-- of the text of a file that was read: 8 and 9, and 6, which no such file has
+abbrev pub printNumbers : List ℕ
+printNumbers = undefinedPrototype ∷ fieldCount ∷ enumValue ∷ []
+
+cond-within : {A B : Type 0} (g : A → Reply B) (b : Bool) (x y : A) → Within printNumbers (g x) → Within printNumbers (g y) → Within printNumbers (g (cond b x y))
 cond-within g true x y h k = h
 cond-within g false x y h k = k
 
-joined-within : (a b : Reply (List ℕ)) → Within textNumbers a → Within textNumbers b → Within textNumbers (joined a b)
+joined-within : (a b : Reply (List ℕ)) → Within printNumbers a → Within printNumbers b → Within printNumbers (joined a b)
 unfolding joined
 joined-within (gives a) (gives b) h k = tt
 joined-within (gives a) (refuses f) h k = k
 joined-within (refuses f) b h k = h
 
 -- text between an opening and a closing
-framed-within : (a c : List ℕ) (q : Reply (List ℕ)) → Within textNumbers q → Within textNumbers (joined (joined (gives a) q) (gives c))
+framed-within : (a c : List ℕ) (q : Reply (List ℕ)) → Within printNumbers q → Within printNumbers (joined (joined (gives a) q) (gives c))
 framed-within a c q h = joined-within (joined (gives a) q) (gives c) (joined-within (gives a) q tt h) tt
 
 module _ (text : ValuePrototype → Value → Option (List ℕ)) where
-  fields-within : (at : ℕ) (fs : List (Consumed ValuePrototype)) (l : List DataValue) → Within textNumbers (fieldsText text at fs l)
+  fields-within : (at : ℕ) (fs : List (Consumed ValuePrototype)) (l : List DataValue) → Within printNumbers (fieldsText text at fs l)
   unfolding fieldsText
   fields-within at [] l = tt
   fields-within at (f ∷ fs) [] = tt
-  fields-within at (f ∷ fs) (v ∷ l) = joined-within _ _ (or-within textNumbers _ at tt (text (f .value) (v .value))) (fields-within (at + length (v .raw)) fs l)
+  fields-within at (f ∷ fs) (v ∷ l) = joined-within _ _ (or-within printNumbers _ at tt (text (f .value) (v .value))) (fields-within (at + length (v .raw)) fs l)
 
-  block-within : (at : ℕ) (o : Option Prototype) (b : DataBlock) → Within textNumbers (blockText text at o b)
+  block-within : (at : ℕ) (o : Option Prototype) (b : DataBlock) → Within printNumbers (blockText text at o b)
   unfolding blockText
   block-within at none b = tt
   block-within at (some p) b =
@@ -79,7 +92,7 @@ module _ (text : ValuePrototype → Value → Option (List ℕ)) where
       (framed-within _ _ _ (fields-within (valuesOffset at b) (p .fields) (b .values))) tt
 
   module _ (prints : DataBlock → List Record → Bool) where
-    records-within : (last : List Prototype) (at : ℕ) (l : List Record) → Within textNumbers (recordsText text prints last at l)
+    records-within : (last : List Prototype) (at : ℕ) (l : List Record) → Within printNumbers (recordsText text prints last at l)
     unfolding recordsText
     records-within last at [] = tt
     records-within last at (prototype p ∷ l) = records-within last (at + length (recordBytes (prototype p))) l
@@ -87,17 +100,16 @@ module _ (text : ValuePrototype → Value → Option (List ℕ)) where
         joined-within _ _ (cond-within (λ q. q) (prints b l) _ (gives []) (block-within at (getPrototype (b .prototypeId) last) b) tt)
         (records-within last (at + length (recordBytes (block b))) l)
 
-    file-within : (f : BsiiFile) → Within textNumbers (fileText text prints f)
+    pub file-within : (f : BsiiFile) → Within printNumbers (fileText text prints f)
     unfolding fileText
     file-within f = framed-within _ _ _ (records-within (prototypesOf (f .records)) (length (f .header .raw)) (f .records))
 
 text-within : (words : ℕ) (s out : List ℕ) → Within textNumbers (textCall words s out .reply)
 unfolding textCall textOf
-text-within words s out = go (ofFile (λ f at. fileText valueText everyBlock f) (parse words s)) (call-within textNumbers (λ f at. fileText valueText everyBlock f) tt (λ f at. file-within valueText everyBlock f) words s)
-  where
-    go : (q : Reply (List ℕ)) → Within textNumbers q → Within textNumbers (textAnswer (stepsIn (parse words s)) out q .reply)
-    go (gives t) h = write-cases (converted (stepsIn (parse words s))) out t (λ a. Within textNumbers (a .reply)) tt tt
-    go (refuses f) h = unfold writeAnswer in h
+text-within words s out =
+    written-within textNumbers tt (converted (stepsIn (parse words s))) out (ofFile (λ f at. fileText valueText everyBlock f) (parse words s))
+    (call-within textNumbers (λ f at. fileText valueText everyBlock f) tt
+    (λ f at. more-within textNumbers printNumbers tt (fileText valueText everyBlock f) (file-within valueText everyBlock f)) words s)
 
 -- ---- each of them
 

@@ -8,7 +8,7 @@ use mathlib.Core.List.{List, [], _∷_}
 use lib.ListN.{length, take, drop}
 use lib.Dec.{T, leb, eqb, ltb, eqb→eq, lt→ltb, nleb→lt}
 use Rattle.bsii_format.specs.Ascii.{ascii}
-use Rattle.bsii_format.specs.Replies.{Fault, refused, malformed}
+use Rattle.bsii_format.specs.Replies.{Fault, refused, invalidHeader, malformed, undefinedPrototype, badMark}
 use Rattle.bsii_format.specs.Reader.{Result, ok, fault, faultAt, shortAt, Reader, after, _>>=_, success, fail, _<$>_, bytes, exhausted, verify, Consumed, with, consumed, repeat, same, tag}
 use Rattle.bsii_format.specs.Numbers.{number, littleEndian}
 use Rattle.bsii_format.specs.Strings.{strParser, low63, encodedStrParser, Id, nameless, named, idParser}
@@ -47,6 +47,10 @@ abbrev pub Told : {A : Type 0} → List ℕ → Result A → Type 0
 Told l (ok a at s) = Unit {0}
 Told l (fault f) = T (among l (f .number) && counted f)
 
+pub more-told : (l k : List ℕ) → T (allAmong l k) → {A : Type 0} (q : Result A) → Told k q → Told l q
+more-told l k h (ok a at s) t = tt
+more-told l k h (fault f) t = told-all l k h f t
+
 pub cond-told : {A : Type 0} (l : List ℕ) (b : Bool) (q r : Result A) → Told l q → Told l r → Told l (cond b q r)
 cond-told l true q r h k = h
 cond-told l false q r h k = k
@@ -57,6 +61,10 @@ short-told A l at k h p = and-both (among l malformed) (ltb 0 k) h (lt→ltb 0 k
 -- whatever it is given, the reader refuses with one of the numbers only
 pub record Only (l : List ℕ) (A : Type 0) (R : Reader A) : Type 0 where
   pub only : (at : ℕ) (s : List ℕ) → Told l (R at s)
+
+-- and so with one of more numbers
+pub more-only : (l k : List ℕ) → T (allAmong l k) → {A : Type 0} {R : Reader A} → Only k A R → Only l A R
+more-only l k h {R = R} o = record { only = λ at s. more-told l k h (R at s) (o .only at s) }
 
 module _ {l : List ℕ} where
   pub success-only : {A : Type 0} (a : A) → Only l A (success a)
@@ -179,51 +187,47 @@ values-only version (f ∷ fs) =
     bind-only _ (map-only (dataValue (f .value .typeId)) (consumed-only (value-only version (f .value .typeId))))
     (λ v. bind-only _ (values-only version fs) (λ l. success-only (v ∷ l)))
 
--- ---- the file
+-- ---- records
 
--- what a value is refused with, a file is
-in-file : {A : Type 0} {R : Reader A} → Only valueNumbers A R → Only fileNumbers A R
-in-file {A} {R} h = record { only = λ at s. go (R at s) (h .only at s) }
-  where
-    go : (q : Result A) → Told valueNumbers q → Told fileNumbers q
-    go (ok a at s) k = tt
-    go (fault f) k = told-all fileNumbers valueNumbers tt f k
+-- of a record: a value's, 6 and 15; 10 stands behind a prototype that was read
+abbrev pub recordNumbers : List ℕ
+recordNumbers = undefinedPrototype ∷ badMark ∷ valueNumbers
 
-string-only : Only fileNumbers (List ℕ) strParser
-string-only = in-file str-only
+-- what a value is refused with, a record is
+in-record : {A : Type 0} {R : Reader A} → Only valueNumbers A R → Only recordNumbers A R
+in-record h = more-only recordNumbers valueNumbers tt h
 
-u32-only : Only fileNumbers ℕ (number 4)
-u32-only = number-only 4 tt
-
-mark-only : (m : ℕ) → Only fileNumbers Head (markParser m)
+mark-only : (m : ℕ) → Only recordNumbers Head (markParser m)
 unfolding markParser
 mark-only zero = success-only ending
-mark-only (suc m) = bind-only _ u32-only (λ n. bind-only _ string-only (λ s. success-only (defining n s)))
+mark-only (suc m) = bind-only _ (number-only 4 tt) (λ n. bind-only _ (in-record str-only) (λ s. success-only (defining n s)))
 
-head-only : Only fileNumbers Head headParser
+head-only : Only recordNumbers Head headParser
 unfolding headParser
 head-only =
-    bind-only _ u32-only
+    bind-only _ (number-only 4 tt)
     (λ n. cond-only (eqb n 0) (bind-only markParser (verify-only _ _ tt (number-only 1 tt)) mark-only) (success-only (carrying n)))
 
-block-only : (version start : ℕ) (hd : List ℕ) (c : ℕ) (o : Option Prototype) → Only fileNumbers Step (dataBlockParser version start hd c o)
+block-only : (version start : ℕ) (hd : List ℕ) (c : ℕ) (o : Option Prototype) → Only recordNumbers Step (dataBlockParser version start hd c o)
 unfolding dataBlockParser
 block-only version start hd c none = record { only = λ at s. tt }
 block-only version start hd c (some p) = record {
-  only = bind-only (λ i. blockStep hd c i <$> dataValuesParser version (p .fields)) (consumed-only (in-file id-only)) (λ i. map-only (blockStep hd c i) (in-file (values-only version (p .fields)))) .only;
+  only = bind-only (λ i. blockStep hd c i <$> dataValuesParser version (p .fields)) (consumed-only (in-record id-only)) (λ i. map-only (blockStep hd c i) (in-record (values-only version (p .fields)))) .only;
 }
 
-step-only : (version : ℕ) (env : List Prototype) (start : ℕ) (hd : List ℕ) (h : Head) → Only fileNumbers Step (stepParser version env start hd h)
+step-only : (version : ℕ) (env : List Prototype) (start : ℕ) (hd : List ℕ) (h : Head) → Only recordNumbers Step (stepParser version env start hd h)
 unfolding stepParser
 step-only version env start hd ending = success-only (end hd)
-step-only version env start hd (defining c name) = map-only (prototypeStep hd c name) (in-file fields-only)
+step-only version env start hd (defining c name) = map-only (prototypeStep hd c name) (in-record fields-only)
 step-only version env start hd (carrying c) = block-only version start hd c (getPrototype c env)
 
-record-only : (version : ℕ) (env : List Prototype) → Only fileNumbers Step (recordParser version env)
+pub record-only : (version : ℕ) (env : List Prototype) → Only recordNumbers Step (recordParser version env)
 unfolding recordParser
 record-only version env = record {
   only = λ at s. after-only (consumed headParser at s) _ (consumed-only head-only .only at s) (λ h. step-only version env at (h .raw) (h .value));
 }
+
+-- ---- the file
 
 recordsThen-only : (rooms : ℕ) (env : List Prototype) (start : ℕ) (rest : List Prototype → Reader Records) → ((env : List Prototype) → Only fileNumbers Records (rest env))
     → (z : Step) → Only fileNumbers Records (recordsThen rooms env start rest z)
@@ -236,20 +240,20 @@ unfolding recordsFrom
 records-only version rooms zero env = exhausted-only _ tt (omega arith)
 records-only version rooms (suc n) env = record {
   only = λ at s.
-      after-only (recordParser version env at s) _ (record-only version env .only at s)
+      after-only (recordParser version env at s) _ (more-only fileNumbers recordNumbers tt (record-only version env) .only at s)
       (recordsThen-only rooms env at (λ e. recordsFrom version rooms n e) (records-only version rooms n));
 }
 
-header-only : Only fileNumbers ℕ headerParser
+pub header-only : Only (invalidHeader ∷ malformed ∷ []) ℕ headerParser
 unfolding headerParser tag
 header-only =
-    bind-only _ (record { only = λ at s. cond-told fileNumbers (same (take 4 s) (ascii "BSII")) _ _ tt tt })
-    (λ u. u32-only)
+    bind-only _ (record { only = λ at s. cond-told (invalidHeader ∷ malformed ∷ []) (same (take 4 s) (ascii "BSII")) _ _ tt tt })
+    (λ u. number-only 4 tt)
 
 file-only : (rooms : ℕ) → Only fileNumbers BsiiFile (bsiiParser rooms)
 unfolding bsiiParser recordsParser
 file-only rooms =
-    bind-only (λ h. bsiiFile h <$> recordsParser (h .value) rooms) (consumed-only header-only)
+    bind-only (λ h. bsiiFile h <$> recordsParser (h .value) rooms) (consumed-only (more-only fileNumbers _ tt header-only))
     (λ h. map-only (bsiiFile h) (record { only = λ at s. records-only (h .value) rooms (length s) [] .only at s }))
 
 pub parse-told : (words : ℕ) (s : List ℕ) → Told fileNumbers (parse words s)

@@ -9,9 +9,10 @@ use lib.ListN.{length, drop}
 use lib.Dec.{T, leb, le→leb, leb→le}
 use Rattle.bsii_format.specs.Replies.{Fault, Reply, gives, refuses, refusal, outputShort}
 use Rattle.bsii_format.specs.Reader.{Result, ok, fault, faultAt}
-use Rattle.bsii_format.specs.File.{BsiiFile}
-use Rattle.bsii_format.specs.BlockText.{joined, orRefuse}
-use Rattle.bsii_format.specs.Calls.{ofFile, WriteAnswer, writeAnswer}
+use Rattle.bsii_format.specs.File.{BsiiFile, parse}
+use Rattle.bsii_format.specs.Text.{valueText}
+use Rattle.bsii_format.specs.BlockText.{joined, orRefuse, everyBlock, fileText}
+use Rattle.bsii_format.specs.Calls.{ofFile, textOf, stepsOf, stepsIn, WriteAnswer, writeAnswer, textAnswer, textCall}
 use Rattle.bsii_format.proofs.Readers.{is-true, is-false}
 
 pub refuses≢gives : {A P : Type 0} {f : Fault} {a : A} → _≡_ {A = Reply A} (refuses f) (gives a) → P
@@ -53,6 +54,15 @@ of-read answer q e = rw e
 pub of-fault : {A : Type 0} (answer : BsiiFile → ℕ → Reply A) (q : Result BsiiFile) {n x : ℕ} → q ≡ faultAt n x → ofFile answer q ≡ refusal n x
 unfolding ofFile
 of-fault answer q e = rw e
+
+pub text-read : (words : ℕ) (s : List ℕ) {f : BsiiFile} {at : ℕ} {r : List ℕ} → parse words s ≡ ok f at r → (out : List ℕ)
+    → textCall words s out ≡ textAnswer (stepsOf f) out (fileText valueText everyBlock f)
+unfolding textCall textOf ofFile stepsIn
+text-read words s e out = rw e
+
+pub text-fault : (words : ℕ) (s : List ℕ) {x : Fault} → parse words s ≡ fault x → (out : List ℕ) → textCall words s out ≡ record { reply = refuses x; needed = 0; output = out }
+unfolding textCall textOf ofFile writeAnswer
+text-fault words s e out = rw e
 
 -- ---- what a call that writes answers, for bytes that were given
 

@@ -11,7 +11,7 @@ use lib.Dec.{leb, leb→le, le→leb}
 use Rattle.bsii_format.specs.Replies.{gives, outputShort}
 use Rattle.bsii_format.specs.Reader.{ok, fault}
 use Rattle.bsii_format.specs.File.{Records, BsiiFile, parse}
-use Rattle.bsii_format.specs.Calls.{placed, placedRecords, ofFile, textAnswer}
+use Rattle.bsii_format.specs.Calls.{placed, placedRecords, ofFile, writeAnswer}
 use Rattle.bsii_format.proofs.Readers.{fault≢ok, ok-val, is-true, is-false}
 use Rattle.bsii_string.specs.Answers.{refusedAt}
 use Rattle.bsii_string.specs.declared.answers.Refusal.{Refusal}
@@ -140,7 +140,7 @@ module _ {version : ℕ} {s t : List ℕ} {w blocks : ℕ} (d : Readable version
       index-length w (indexAt 8 (q .records)) ∙ ap (λ k. k * (4 * w)) (ap (λ k. length (indexAt 8 k)) (sym l) ∙ sym (d .counted))
 
   pub readable-short : (space : List ℕ) → length space < blocks * (4 * w) → ReadWritten version s t space w (Refused (refusedAt outputShort 0) (blocks * (4 * w))) t space
-  unfolding textAnswer
+  unfolding writeAnswer
   readable-short space h = record {
     answers = λ q n e.
         let k = long q n e in
@@ -161,7 +161,7 @@ module _ {version : ℕ} {s t : List ℕ} {w blocks : ℕ} (d : Readable version
 
   pub readable-written : (space : List ℕ) → blocks * (4 * w) ≤ length space → {t′ space′ : List ℕ} → RecordsWritten version s 8 t space w t′ space′
       → ReadWritten version s t space w (Length (blocks * (4 * w))) t′ space′
-  unfolding textAnswer
+  unfolding writeAnswer
   readable-written space h {space′ = space′} x = record {
     answers = λ q n e.
         let k = long q n e in
@@ -205,7 +205,7 @@ module _ {s t : List ℕ} where
       let x = file-parts (length t) s e in
       let v : f .header .value ≡ a .version = ap version-of z in
       y .answers (record { records = f .records; end = f .end }) n (ap (λ m. recordsAt m (length t′ / 3) [] 8 s) (sym v) ∙ ap (λ m. recordsAt (f .header .value) (m / 3) [] 8 s) l ∙ x .reads)
-      ∙ ap (λ i. textAnswer space (gives (indexBytes w i))) (sym (index-at (length t) s e)) ∙ rw e refl
+      ∙ ap (λ i. writeAnswer length space (gives (indexBytes w i))) (sym (index-at (length t) s e)) ∙ rw e refl
     where
       version-of : Walked → ℕ
       version-of (Done b) = b .version
@@ -214,6 +214,6 @@ module _ {s t : List ℕ} where
 
   pub tree-refused : {r : Walked} {t′ : List ℕ} → ReadTree s t r t′ → {f : Refusal} → r ≡ Stopped f → (w : ℕ) (space : List ℕ)
       → lengthIs (Refused f 0) space ≡ writeIndexCall w (length t) s space
-  unfolding writeIndexCall ofFile textAnswer
+  unfolding writeIndexCall ofFile writeAnswer
   tree-refused (read f e k l) z w space = done≢stopped z
   tree-refused (unread {f = x} e l) {f} z w space = let y : f ≡ x = cc in rw e (ap (λ g. lengthIs (Refused g 0) space) y)

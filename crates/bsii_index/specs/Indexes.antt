@@ -6,7 +6,7 @@ use lib.ListN.{length, drop}
 use Rattle.bsii_format.specs.Reader.{ok}
 use Rattle.bsii_format.specs.File.{Records, lengthLimit}
 use Rattle.bsii_format.specs.Replies.{gives}
-use Rattle.bsii_format.specs.Calls.{textAnswer}
+use Rattle.bsii_format.specs.Calls.{writeAnswer}
 use Rattle.bsii_derived.specs.Index as index
 use Rattle.bsii_derived.specs.Index.{indexBytes, agreeing}
 use Rattle.bsii_derived.specs.IndexCalls.{checked}
@@ -53,5 +53,5 @@ pub record Readable (version : ℕ) (s t : List ℕ) (w blocks : ℕ) : Type 0 w
 
 pub record ReadWritten (version : ℕ) (s t space : List ℕ) (w : ℕ) (r : LengthReply) (t′ space′ : List ℕ) : Type 0 where
   pub answers : (q : Records) (n : ℕ) → recordsAt version (length t / 3) [] 8 s ≡ ok q n (drop n s)
-      → lengthIs r space′ ≡ textAnswer space (gives (indexBytes w (indexAt 8 (q .records))))
+      → lengthIs r space′ ≡ writeAnswer length space (gives (indexBytes w (indexAt 8 (q .records))))
   pub size : length t′ ≡ length t

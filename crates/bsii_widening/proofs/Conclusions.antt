@@ -1,6 +1,6 @@
 -- What follows from demand 3, from the statement alone: each part of the claim by itself, so that a claim that says less is not enough for it.
 use mathlib.Core.Path.{_≡_, _∙_}
-use Prim.Native.Nat.{ℕ, _≤_}
+use Prim.Native.Nat.{ℕ, _+_, _≤_}
 use mathlib.Core.Option.{Option, none, some}
 use mathlib.Core.List.{List, _++_}
 use lib.ListN.{length, take, drop}
@@ -11,35 +11,41 @@ use Rattle.bsii_format.specs.Prototypes.{ValuePrototype}
 use Rattle.bsii_format.specs.Blocks.{DataValue}
 use Rattle.bsii_format.specs.File.{BsiiFile, fileBytes, distinctIds, prototypesOf, lengthLimit}
 use Rattle.bsii_format.specs.Text.{valueText}
-use Rattle.bsii_format.specs.Calls.{blocksOf, readingOf, readingCall, FieldAnswer, fieldCall, textAnswer, textCall}
-use Rattle.bsii_format.proofs.ReplyLaws.{text-fits}
+use Rattle.bsii_format.specs.Calls.{blocksOf, readingOf, readingCall, FieldAnswer, fieldCall, recordsSteps, stepsOf, Converted, converted, textCall}
+use Rattle.bsii_format.proofs.ReplyLaws.{write-fits}
 use Rattle.bsii_widening.specs.Marks.{all, olds, newRecords, oldRecords, markRecords}
 use Rattle.bsii_widening.specs.Insertions.{Insertion, aField, insert, DefinitionAllowed, AllAllowed}
 use Rattle.bsii_widening.specs.Parts.{concat, textParts, renumber}
 use Rattle.bsii_widening.specs.Claim.{OldSave, widened, newSave, newFile, Room, StillConverts, firstCarried, AfterLast, Demand3}
 
-module _ (claim : Demand3) {words : ℕ} {s out : List ℕ} {f : BsiiFile} {at : ℕ} {r : List ℕ} {size : ℕ} (o : OldSave words s out f at r size) (l : List Insertion) (a : AllAllowed (f .header .value) l (markRecords (f .records))) (words′ : ℕ) where
+module _ (claim : Demand3) {words : ℕ} {s out : List ℕ} {f : BsiiFile} {at : ℕ} {r : List ℕ} {made : Converted} (o : OldSave words s out f at r made) (l : List Insertion) (a : AllAllowed (f .header .value) l (markRecords (f .records))) (words′ : ℕ) where
   -- the old save is the file in which nothing was inserted
   pub nothing-inserted : s ≡ newFile f r (markRecords (f .records))
-  nothing-inserted = claim words s out f at r size o l a words′ .0
+  nothing-inserted = claim words s out f at r made o l a words′ .0
 
   module _ (m : Room lengthLimit words′ f r (widened f l)) where
-    still : StillConverts words s out f r size words′ (widened f l)
-    still = claim words s out f at r size o l a words′ .1 m
+    still : StillConverts words s out f r made words′ (widened f l)
+    still = claim words s out f at r made o l a words′ .1 m
 
     abbrev allParts : List ℕ
     allParts = concat (all (textParts valueText (widened f l)))
 
-    -- the text call answers with a length,
-    pub answers : (out′ : List ℕ) → length allParts ≤ length out′ → textCall words′ (newFile f r (widened f l)) out′ .reply ≡ gives (length allParts)
+    -- one for the end record, and those of the records in front of it
+    abbrev allSteps : ℕ
+    allSteps = recordsSteps (newRecords (widened f l)) + 1
+
+    -- the text call answers with a length and its steps,
+    pub answers : (out′ : List ℕ) → length allParts ≤ length out′ → textCall words′ (newFile f r (widened f l)) out′ .reply ≡ gives (record { size = length allParts; steps = allSteps })
+    unfolding stepsOf
     answers = still .converts
 
     -- writes all parts, and leaves the bytes behind them
     pub writes : (out′ : List ℕ) → length allParts ≤ length out′
-        → textCall words′ (newFile f r (widened f l)) out′ ≡ record { reply = gives (length allParts); needed = 0; output = allParts ++ drop (length allParts) out′ }
-    writes out′ k = still .text out′ ∙ text-fits out′ allParts k
+        → textCall words′ (newFile f r (widened f l)) out′ ≡ record { reply = gives (record { size = length allParts; steps = allSteps }); needed = 0; output = allParts ++ drop (length allParts) out′ }
+    unfolding stepsOf
+    writes out′ k = still .text out′ ∙ write-fits (converted allSteps) out′ allParts k
 
-    pub left : concat (olds (textParts valueText (widened f l))) ≡ take size (textCall words s out .output)
+    pub left : concat (olds (textParts valueText (widened f l))) ≡ take (made .size) (textCall words s out .output)
     left = still .leftOut
 
     pub unmarked : oldRecords (widened f l) ≡ f .records
@@ -67,8 +73,8 @@ module _ (claim : Demand3) {words : ℕ} {s out : List ℕ} {f : BsiiFile} {at :
     abbrev first : Option ℕ
     first = firstCarried n p (length (f .header .raw)) (newRecords (insert (aField n p d v) (widened f l)))
 
-    last : AfterLast words s out f r size words′ (insert (aField n p d v) (widened f l)) first
-    last = claim words s out f at r size o l a words′ .2 n p d v b u m
+    last : AfterLast words s out f r made words′ (insert (aField n p d v) (widened f l)) first
+    last = claim words s out f at r made o l a words′ .2 n p d v b u m
 
     pub reading-stops : (x : ℕ) → first ≡ some x → readingCall words′ (newFile f r (insert (aField n p d v) (widened f l))) ≡ refusal 7 x
     reading-stops x e = last .carried x e .reading
@@ -78,11 +84,10 @@ module _ (claim : Demand3) {words : ℕ} {s out : List ℕ} {f : BsiiFile} {at :
 
     pub text-stops : (x : ℕ) → first ≡ some x → (out′ : List ℕ)
         → textCall words′ (newFile f r (insert (aField n p d v) (widened f l))) out′ ≡ record { reply = refusal 7 x; needed = 0; output = out′ }
-    unfolding textAnswer
     text-stops x e = last .carried x e .text
 
     -- if no block carries it, all of the above holds; and 7 means that a block does
-    pub unused-converts : first ≡ none → StillConverts words s out f r size words′ (insert (aField n p d v) (widened f l))
+    pub unused-converts : first ≡ none → StillConverts words s out f r made words′ (insert (aField n p d v) (widened f l))
     unused-converts = last .unused
 
     pub reading-means : (x : ℕ) → readingCall words′ (newFile f r (insert (aField n p d v) (widened f l))) ≡ refusal 7 x → first ≡ some x

@@ -15,7 +15,7 @@ use Rattle.bsii_widening.specs.Parts.{renumber}
 use Rattle.bsii_widening.specs.Claim.{Room, StillConverts, widened, newFile}
 use Rattle.bsii_widening.specs.Written.{madeAll}
 use Rattle.bsii_widening.specs.EveryType.{everyField, everyRecord}
-use Rattle.bsii_widening.specs.Example.{oldFile}
+use Rattle.bsii_widening.specs.Example.{oldFile, oldMade}
 use Rattle.bsii_widening.proofs.Computes.{computesAll}
 use Rattle.bsii_widening.proofs.Decided.{allowed-proves}
 use Rattle.bsii_widening.proofs.Demand3.{demand3}
@@ -32,8 +32,8 @@ every-room : Room lengthLimit 6 oldFile [] (widened oldFile everyType)
 unfolding computesAll
 every-room = record { file = lit≤ tt; table = lit≤ tt }
 
-pub every-converts : StillConverts 768 workedFile (replicate 128 0) oldFile [] 73 6 (widened oldFile everyType)
-every-converts = demand3 768 workedFile (replicate 128 0) oldFile 82 [] 73 old-save everyType every-type 6 .1 every-room
+pub every-converts : StillConverts 768 workedFile (replicate 128 0) oldFile [] oldMade 6 (widened oldFile everyType)
+every-converts = demand3 768 workedFile (replicate 128 0) oldFile 82 [] oldMade old-save everyType every-type 6 .1 every-room
 
 -- the inserted block stands in front of the old one, which is number 1 now
 pub every-number : renumber (widened oldFile everyType) 0 ≡ 1

@@ -7,21 +7,21 @@ use lib.ListN.{length, replicate}
 use lib.Dec.{lit≤}
 use Rattle.bsii_format.specs.Ascii.{ascii}
 use Rattle.bsii_format.specs.Replies.{gives}
-use Rattle.bsii_format.specs.Calls.{readingCall, fieldCall}
+use Rattle.bsii_format.specs.Calls.{readingCall, fieldCall, stepsOf}
 use Rattle.bsii_format.specs.Worked.{u32, workedFile}
 use Rattle.bsii_format.specs.File.{lengthLimit}
 use Rattle.bsii_format.specs.Text.{valueText}
 use Rattle.bsii_widening.specs.Insertions.{aField, insert, AllAllowed, DefinitionAllowed}
-use Rattle.bsii_widening.specs.Claim.{OldSave, Room, StillConverts, Refused, newText, widened, newFile, firstCarried}
+use Rattle.bsii_widening.specs.Claim.{OldSave, Room, StillConverts, Refused, newText, widened, newSave, newFile, firstCarried}
 use Rattle.bsii_widening.specs.Marks.{newRecords, markRecords}
 use Rattle.bsii_widening.specs.Parts.{renumber}
-use Rattle.bsii_widening.specs.Example.{oldFile, additions, additionsText, unlistedField, anyBytes, afterUnlisted, unused}
+use Rattle.bsii_widening.specs.Example.{oldFile, oldMade, additions, additionsText, unlistedField, anyBytes, afterUnlisted, unused}
 use Rattle.bsii_widening.proofs.Computes.{computesAll}
 use Rattle.bsii_widening.proofs.Decided.{allowed-proves}
 use Rattle.bsii_widening.proofs.Demand3.{demand3}
 
 -- the worked file is an old save: it converts with 768 words and an output of 128 bytes
-pub old-save : OldSave 768 workedFile (replicate 128 0) oldFile 82 [] 73
+pub old-save : OldSave 768 workedFile (replicate 128 0) oldFile 82 [] oldMade
 unfolding computesAll
 old-save = record { reads = refl; converts = refl; once = (tt, tt) }
 
@@ -34,12 +34,17 @@ unfolding computesAll
 room = record { file = lit≤ tt; table = lit≤ tt }
 
 -- so the theorem speaks of it, and the new text is what one expects
-pub additions-convert : StillConverts 768 workedFile (replicate 128 0) oldFile [] 73 6 (widened oldFile additions)
-additions-convert = demand3 768 workedFile (replicate 128 0) oldFile 82 [] 73 old-save additions additions-allowed 6 .1 room
+pub additions-convert : StillConverts 768 workedFile (replicate 128 0) oldFile [] oldMade 6 (widened oldFile additions)
+additions-convert = demand3 768 workedFile (replicate 128 0) oldFile 82 [] oldMade old-save additions additions-allowed 6 .1 room
 
 pub additions-text : newText valueText (widened oldFile additions) ≡ additionsText
 unfolding computesAll
 additions-text = refl
+
+-- two prototypes, two blocks with three values and one, the end record
+pub additions-steps : stepsOf (newSave oldFile (widened oldFile additions)) ≡ 9
+unfolding computesAll
+additions-steps = refl
 
 -- `km` was found at 61, and is found at 113 with the same type and bytes
 pub km-before : fieldCall 768 workedFile 0 (ascii "km") ≡ gives (record { typeId = 0x27; part = record { offset = 61; size = 4 }; bytes = u32 300 })
@@ -72,7 +77,7 @@ carried = refl
 
 pub unlisted-refused : Refused 6 122 (newFile oldFile [] afterUnlisted)
 unfolding computesAll
-unlisted-refused = demand3 768 workedFile (replicate 128 0) oldFile 82 [] 73 old-save additions additions-allowed 6 .2 7 0 unlistedField anyBytes last-allowed refl last-room .carried 122 carried
+unlisted-refused = demand3 768 workedFile (replicate 128 0) oldFile 82 [] oldMade old-save additions additions-allowed 6 .2 7 0 unlistedField anyBytes last-allowed refl last-room .carried 122 carried
 
 -- in the prototype of a save without blocks of it, no block carries it, and all of the above holds
 not-carried : firstCarried 9 0 (length (oldFile .header .raw)) (newRecords (insert (aField 9 0 unlistedField anyBytes) (widened oldFile unused))) ≡ none
@@ -91,7 +96,7 @@ room-9 : Room lengthLimit 6 oldFile [] (insert (aField 9 0 unlistedField anyByte
 unfolding computesAll
 room-9 = record { file = lit≤ tt; table = lit≤ tt }
 
-pub unlisted-unused : StillConverts 768 workedFile (replicate 128 0) oldFile [] 73 6 (insert (aField 9 0 unlistedField anyBytes) (widened oldFile unused))
+pub unlisted-unused : StillConverts 768 workedFile (replicate 128 0) oldFile [] oldMade 6 (insert (aField 9 0 unlistedField anyBytes) (widened oldFile unused))
 unfolding computesAll
 unlisted-unused =
-    demand3 768 workedFile (replicate 128 0) oldFile 82 [] 73 old-save unused unused-allowed 6 .2 9 0 unlistedField anyBytes last-allowed-9 refl room-9 .unused not-carried
+    demand3 768 workedFile (replicate 128 0) oldFile 82 [] oldMade old-save unused unused-allowed 6 .2 9 0 unlistedField anyBytes last-allowed-9 refl room-9 .unused not-carried

@@ -12,8 +12,8 @@ use Rattle.bsii_format.specs.Types.{shapeOf}
 use Rattle.bsii_format.specs.Prototypes.{ValuePrototype}
 use Rattle.bsii_format.specs.Blocks.{DataValue}
 use Rattle.bsii_format.specs.File.{BsiiFile, lengthLimit, parse}
-use Rattle.bsii_format.specs.Calls.{FieldAnswer, textAnswer}
-use Rattle.bsii_format.proofs.ReplyLaws.{text-fits}
+use Rattle.bsii_format.specs.Calls.{FieldAnswer}
+use Rattle.bsii_format.proofs.ReplyLaws.{write-fits}
 use Rattle.bsii_derived.specs.Index.{indexBytes, indexOf}
 use Rattle.bsii_derived.specs.IndexCalls.{writeIndexCall, checkIndexCall, indexFieldCall, definesOnceCall}
 use Rattle.bsii_widening.specs.Marks.{newRecords, markRecords}
@@ -40,7 +40,7 @@ module _ (claim : IndexSurvives) (w words : ℕ) (s : List ℕ) (f : BsiiFile) (
 
     pub writes : (space : List ℕ) → length index ≤ length space
         → writeIndexCall w words′ (newFile f r (widened f l)) space ≡ record { reply = gives (length index); needed = 0; output = index ++ drop (length index) space }
-    writes space k = still .written space ∙ text-fits space index k
+    writes space k = still .written space ∙ write-fits length space index k
 
     pub its-own-fits : checkIndexCall w words′ (newFile f r (widened f l)) index ≡ gives tt
     its-own-fits = still .fits
@@ -67,7 +67,6 @@ module _ (claim : IndexSurvives) (w words : ℕ) (s : List ℕ) (f : BsiiFile) (
 
     pub write-stops : (x : ℕ) → first ≡ some x → (space : List ℕ)
         → writeIndexCall w words′ (newFile f r (insert (aField n p d v) (widened f l))) space ≡ record { reply = refusal 7 x; needed = 0; output = space }
-    unfolding textAnswer
     write-stops x e space = last .writeStops x e space
 
     pub check-stops : (x : ℕ) → first ≡ some x → (i : List ℕ) → checkIndexCall w words′ (newFile f r (insert (aField n p d v) (widened f l))) i ≡ refusal 7 x

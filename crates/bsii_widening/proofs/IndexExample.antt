@@ -9,8 +9,9 @@ use Rattle.bsii_format.specs.Replies.{gives, refusal, unlistedType, enumValue}
 use Rattle.bsii_format.specs.File.{lengthLimit}
 use Rattle.bsii_format.specs.Calls.{textCall}
 use Rattle.bsii_format.specs.Worked.{u32, workedFile}
-use Rattle.bsii_format.specs.WorkedCalls.{unlistedEnumFile, carries, written, unwritten}
+use Rattle.bsii_format.specs.WorkedCalls.{unlistedEnumFile, carries, unwritten}
 use Rattle.bsii_derived.specs.IndexCalls.{writeIndexCall, checkIndexCall, indexFieldCall}
+use Rattle.bsii_derived.specs.WorkedIndex.{indexed}
 use Rattle.bsii_derived.proofs.Computes.{computesIndex}
 use Rattle.bsii_widening.specs.Marks.{markRecords}
 use Rattle.bsii_widening.specs.Parts.{renumber}
@@ -38,11 +39,11 @@ small-room = record { file = lit≤ tt; table = lit≤ tt }
 pub additions-by-one : StillIndexed 1 768 workedFile oldFile [] 6 (widened oldFile additions)
 additions-by-one = index-survives 1 256 (lit≤ tt) (lit≤ tt) 768 workedFile oldFile 82 [] old-read additions additions-allowed 6 .0 small-room
 
-pub old-index : writeIndexCall 3 768 workedFile (replicate 12 1) ≡ written oldIndex []
+pub old-index : writeIndexCall 3 768 workedFile (replicate 12 1) ≡ indexed oldIndex []
 unfolding computesAll computesIndex oldIndex
 old-index = refl
 
-pub new-index : writeIndexCall 3 6 (newFile oldFile [] (widened oldFile additions)) (replicate 25 1) ≡ written newIndex (1 ∷ [])
+pub new-index : writeIndexCall 3 6 (newFile oldFile [] (widened oldFile additions)) (replicate 25 1) ≡ indexed newIndex (1 ∷ [])
 unfolding computesAll computesIndex newIndex
 new-index = refl
 

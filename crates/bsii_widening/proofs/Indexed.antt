@@ -16,8 +16,8 @@ use Rattle.bsii_format.specs.Strings.{isSome}
 use Rattle.bsii_format.specs.Prototypes.{ValuePrototype, Prototype}
 use Rattle.bsii_format.specs.Blocks.{DataValue, findBy, getPrototype}
 use Rattle.bsii_format.specs.File.{BsiiFile, Record, prototype, block, define, defineAll, prototypesOf, fileBytes, lengthLimit, parse}
-use Rattle.bsii_format.specs.Calls.{ofFile, orAbsent, FieldAnswer, fieldOf, TextAnswer, textAnswer}
-use Rattle.bsii_format.proofs.ReplyLaws.{refuses≢gives, of-read, text-fits}
+use Rattle.bsii_format.specs.Calls.{ofFile, orAbsent, FieldAnswer, fieldOf, WriteAnswer, writeAnswer}
+use Rattle.bsii_format.proofs.ReplyLaws.{refuses≢gives, of-read, write-fits}
 use Rattle.bsii_derived.specs.Index.{indexWidth, IndexRecord, indexOf, indexBytes, indexBytesOf, agreeing}
 use Rattle.bsii_derived.specs.IndexCalls.{writeIndexCall, checked, checkIndexCall, indexFieldCall, once, definesOnceCall}
 use Rattle.bsii_derived.proofs.Claims.{was-read, checks-exactly, looks-as-walk, fits-file}
@@ -63,11 +63,11 @@ module _ (w : ℕ) {words : ℕ} {s : List ℕ} {f : BsiiFile} {at : ℕ} {r : L
       let new : List ℕ = newFile f r M in
       let read = widens o l a m .reads in
       let old-held : length s ≤ 256 ^ w = omega (arith, held, no-shorter o l) in
-      let written : (space : List ℕ) → writeIndexCall w words′ new space ≡ textAnswer space (gives (indexBytesOf w (newSave f M))) =
-      λ space. ap (textAnswer space) (of-read (λ f at. gives (indexBytesOf w f)) (parse words′ new) read) in
+      let written : (space : List ℕ) → writeIndexCall w words′ new space ≡ writeAnswer length space (gives (indexBytesOf w (newSave f M))) =
+      λ space. ap (writeAnswer length space) (of-read (λ f at. gives (indexBytesOf w f)) (parse words′ new) read) in
       let new-once = once-counted (newRecords M) (once-widened o l a) in
       record {
-        writes = λ space k. ap (λ (z : TextAnswer). z .reply) (written space ∙ text-fits space (indexBytesOf w (newSave f M)) k);
+        writes = λ space k. ap (λ (z : WriteAnswer ℕ). z .reply) (written space ∙ write-fits length space (indexBytesOf w (newSave f M)) k);
         written = written;
         fits = checks-exactly w words′ new (indexBytesOf w (newSave f M)) .1 (newSave f M, length (fileBytes (newSave f M)), r, read, refl);
         once = of-read (λ f at. gives (cond (once (prototypesOf (f .records))) 1 0)) (parse words′ new) read ∙ ap (λ b. gives (cond b 1 0)) new-once;
@@ -99,12 +99,12 @@ checked-not-seven w l i x e = go (same (indexBytes w l) i) e
 
 module _ {w limit : ℕ} (short : limit ≤ lengthLimit) (held : limit ≤ 256 ^ w) {words : ℕ} {s : List ℕ} {f : BsiiFile} {at : ℕ} {r : List ℕ} (o : Old words s f at r) (l : List Insertion) (a : AllAllowed (f .header .value) l (markRecords (f .records))) (words′ : ℕ) where
   index-last : IndexLastUnlisted w limit words s f r words′ (widened f l)
-  unfolding writeIndexCall checkIndexCall textAnswer
+  unfolding writeIndexCall checkIndexCall writeAnswer
   index-last n p d v b u m = record {
     writeStops = write-stops;
     checkStops = check-stops;
-    writeExactly = λ space. both-ways (writeIndexCall w words′ (newFile f r M) space .reply) first (λ x e. ap (λ (z : TextAnswer). z .reply) (write-stops x e space))
-        (λ x e z. not-seven space (indexBytesOf w (newSave f M)) x (sym (ap (λ (y : TextAnswer). y .reply) (unused e .written space)) ∙ z));
+    writeExactly = λ space. both-ways (writeIndexCall w words′ (newFile f r M) space .reply) first (λ x e. ap (λ (z : WriteAnswer ℕ). z .reply) (write-stops x e space))
+        (λ x e z. not-seven length space (indexBytesOf w (newSave f M)) x (sym (ap (λ (y : WriteAnswer ℕ). y .reply) (unused e .written space)) ∙ z));
     checkExactly = λ i. both-ways (checkIndexCall w words′ (newFile f r M) i) first (λ x e. check-stops x e i) (λ x e z. checks-on e i x z);
     unused = unused;
   }
@@ -115,8 +115,8 @@ module _ {w limit : ℕ} (short : limit ≤ lengthLimit) (held : limit ≤ 256 ^
       first : Option ℕ
       first = firstCarried n p (length (f .header .raw)) (newRecords M)
 
-      write-stops : (x : ℕ) → first ≡ some x → (space : List ℕ) → writeIndexCall w words′ (newFile f r M) space ≡ textAnswer space (refusal unlistedType x)
-      write-stops x e space = ap (textAnswer space) (all-stop (λ f at. gives (indexBytesOf w f)) words s f at r o l a words′ n p d v b u (in-limit short m) x e)
+      write-stops : (x : ℕ) → first ≡ some x → (space : List ℕ) → writeIndexCall w words′ (newFile f r M) space ≡ record { reply = refusal unlistedType x; needed = 0; output = space }
+      write-stops x e space = ap (writeAnswer length space) (all-stop (λ f at. gives (indexBytesOf w f)) words s f at r o l a words′ n p d v b u (in-limit short m) x e)
 
       check-stops : (x : ℕ) → first ≡ some x → (i : List ℕ) → checkIndexCall w words′ (newFile f r M) i ≡ refusal unlistedType x
       check-stops x e i = all-stop (λ f at. checked w (indexOf f) i) words s f at r o l a words′ n p d v b u (in-limit short m) x e

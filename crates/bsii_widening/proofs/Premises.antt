@@ -17,7 +17,7 @@ use Rattle.bsii_format.specs.Prototypes.{EnumValue, ValuePrototype, Prototype, 
 use Rattle.bsii_format.specs.Blocks.{DataValue, DataBlock, findBy, getPrototype, dataValueParser}
 use Rattle.bsii_format.specs.File.{BsiiFile, Record, prototype, block, more, recordParser, recordBytes, define, defineAll, prototypesOf, distinctIds, parse}
 use Rattle.bsii_format.specs.Text.{firstSome, enumString}
-use Rattle.bsii_format.specs.Calls.{textCall}
+use Rattle.bsii_format.specs.Calls.{Converted, textCall}
 use Rattle.bsii_format.proofs.Readers.{same→eq}
 use Rattle.bsii_widening.specs.Marks.{old, inserted, unmark, MarkedBlock, markedPrototype, markedBlock, MarkedRecords, newBlock, newRecords}
 use Rattle.bsii_widening.specs.Insertions.{Insertion, aField, aPrototype, aBlock, insert, insertAll, numericListed, elementListed, ElementsListed, EnumListed, EnumsListed, hasName, ValueAllowed, ValuesAllowed, Allowed, AllAllowed, definesId, NoIdTwice}
@@ -200,8 +200,8 @@ any-once (prototype p ∷ l) h = (
   any-once l (λ i j p q x y e. let z = h (suc i) (suc j) p q x y e in omega arith),
 )
 
-pub any-save : {words : ℕ} {s out : List ℕ} {f : BsiiFile} {at : ℕ} {r : List ℕ} {size : ℕ} → parse words s ≡ ok f at r → textCall words s out .reply ≡ gives size → NoIdTwice (f .records)
-    → OldSave words s out f at r size
+pub any-save : {words : ℕ} {s out : List ℕ} {f : BsiiFile} {at : ℕ} {r : List ℕ} {made : Converted} → parse words s ≡ ok f at r → textCall words s out .reply ≡ gives made → NoIdTwice (f .records)
+    → OldSave words s out f at r made
 any-save e t o = record { reads = e; converts = t; once = o }
 
 pub any-read : {words : ℕ} {s : List ℕ} {f : BsiiFile} {at : ℕ} {r : List ℕ} → parse words s ≡ ok f at r → NoIdTwice (f .records) → Old words s f at r

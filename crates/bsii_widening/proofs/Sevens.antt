@@ -9,7 +9,7 @@ use Rattle.bsii_format.specs.Ascii.{ascii}
 use Rattle.bsii_format.specs.Replies.{gives}
 use Rattle.bsii_format.specs.File.{lengthLimit}
 use Rattle.bsii_format.specs.Text.{valueText}
-use Rattle.bsii_format.specs.Calls.{fieldCall}
+use Rattle.bsii_format.specs.Calls.{fieldCall, Converted}
 use Rattle.bsii_format.specs.WorkedCalls.{carries, sevenPart, sevenFile}
 use Rattle.bsii_widening.specs.Insertions.{AllAllowed}
 use Rattle.bsii_widening.specs.Marks.{markRecords}
@@ -20,7 +20,10 @@ use Rattle.bsii_widening.proofs.Computes.{computesAll}
 use Rattle.bsii_widening.proofs.Decided.{allowed, allowed-proves}
 use Rattle.bsii_widening.proofs.Demand3.{demand3}
 
-old-save : OldSave 3 (sevenFile 1) (replicate 73 0) sevenSave 73 [] 73
+abbrev oldMade : Converted
+oldMade = record { size = 73; steps = 4 }
+
+old-save : OldSave 3 (sevenFile 1) (replicate 73 0) sevenSave 73 [] oldMade
 unfolding computesAll
 old-save = record { reads = refl; converts = refl; once = (tt, tt) }
 
@@ -32,8 +35,8 @@ room : Room lengthLimit 6 sevenSave [] (widened sevenSave sevens)
 unfolding computesAll
 room = record { file = lit≤ tt; table = lit≤ tt }
 
-pub sevens-convert : StillConverts 3 (sevenFile 1) (replicate 73 0) sevenSave [] 73 6 (widened sevenSave sevens)
-sevens-convert = demand3 3 (sevenFile 1) (replicate 73 0) sevenSave 73 [] 73 old-save sevens sevens-allowed 6 .1 room
+pub sevens-convert : StillConverts 3 (sevenFile 1) (replicate 73 0) sevenSave [] oldMade 6 (widened sevenSave sevens)
+sevens-convert = demand3 3 (sevenFile 1) (replicate 73 0) sevenSave 73 [] oldMade old-save sevens sevens-allowed 6 .1 room
 
 pub sevens-text : newText valueText (widened sevenSave sevens) ≡ widenedText
 unfolding computesAll

@@ -5,6 +5,7 @@ use lib.ListN.{replicate}
 use lib.Dec.{lit≤}
 use Rattle.bsii_format.specs.File.{lengthLimit}
 use Rattle.bsii_format.specs.Text.{valueText}
+use Rattle.bsii_format.specs.Calls.{Converted}
 use Rattle.bsii_format.specs.WorkedCalls.{vectorsFile, vectorsText}
 use Rattle.bsii_widening.specs.Insertions.{AllAllowed}
 use Rattle.bsii_widening.specs.Marks.{markRecords}
@@ -14,7 +15,10 @@ use Rattle.bsii_widening.proofs.Computes.{computesAll}
 use Rattle.bsii_widening.proofs.Decided.{allowed-proves}
 use Rattle.bsii_widening.proofs.Demand3.{demand3}
 
-old-save : OldSave 3 definedFile (replicate 13 0) definedSave 49 [] 13
+abbrev oldMade : Converted
+oldMade = record { size = 13; steps = 2 }
+
+old-save : OldSave 3 definedFile (replicate 13 0) definedSave 49 [] oldMade
 unfolding computesAll
 old-save = record { reads = refl; converts = refl; once = (tt, tt) }
 
@@ -26,8 +30,8 @@ room : Room lengthLimit 3 definedSave [] (widened definedSave firstBlock)
 unfolding computesAll
 room = record { file = lit≤ tt; table = lit≤ tt }
 
-pub vectors-convert : StillConverts 3 definedFile (replicate 13 0) definedSave [] 13 3 (widened definedSave firstBlock)
-vectors-convert = demand3 3 definedFile (replicate 13 0) definedSave 49 [] 13 old-save firstBlock allowed 3 .1 room
+pub vectors-convert : StillConverts 3 definedFile (replicate 13 0) definedSave [] oldMade 3 (widened definedSave firstBlock)
+vectors-convert = demand3 3 definedFile (replicate 13 0) definedSave 49 [] oldMade old-save firstBlock allowed 3 .1 room
 
 -- the new save is the worked one, and has its text
 pub vectors-added : (newFile definedSave [] (widened definedSave firstBlock) ≡ vectorsFile) × (newText valueText (widened definedSave firstBlock) ≡ vectorsText)

@@ -17,16 +17,16 @@ use Rattle.bsii_format.specs.Blocks.{DataValue}
 use Rattle.bsii_format.specs.File.{BsiiFile, Record, prototype, block, recordBytes, valuesBytes, fileBytes, distinctIds, prototypesOf, lengthLimit, parse}
 use Rattle.bsii_format.specs.Text.{valueText}
 use Rattle.bsii_format.specs.BlockText.{valuesOffset}
-use Rattle.bsii_format.specs.Calls.{readingOf, readingCall, FieldAnswer, fieldCall, textAnswer, textCall}
+use Rattle.bsii_format.specs.Calls.{readingOf, readingCall, FieldAnswer, fieldCall, stepsOf, Converted, converted, textAnswer, textCall}
 use Rattle.bsii_widening.specs.Marks.{MarkedRecords, all, olds, newRecords, oldRecords, markRecords}
 use Rattle.bsii_widening.specs.Insertions.{Insertion, aField, insert, insertAll, DefinitionAllowed, AllAllowed, NoIdTwice}
 use Rattle.bsii_widening.specs.Parts.{concat, textParts, renumber}
 
 -- The old save s: "any save that converts", with some table and some output, "and defines no prototype id twice". `reads` names its parts:
--- the file f and the bytes r behind its end record. A text call that answers with a length is within the length limit.
-pub record OldSave (words : ℕ) (s out : List ℕ) (f : BsiiFile) (at : ℕ) (r : List ℕ) (size : ℕ) : Type 0 where
+-- the file f and the bytes r behind its end record; `made` is what the conversion answered. A text call that answers is within the length limit.
+pub record OldSave (words : ℕ) (s out : List ℕ) (f : BsiiFile) (at : ℕ) (r : List ℕ) (made : Converted) : Type 0 where
   pub reads : parse words s ≡ ok f at r
-  pub converts : textCall words s out .reply ≡ gives size
+  pub converts : textCall words s out .reply ≡ gives made
   pub once : NoIdTwice (f .records)
 
 -- ---- the new save
@@ -57,17 +57,18 @@ pub record Room (limit words : ℕ) (f : BsiiFile) (r : List ℕ) (M : MarkedRec
 
 -- ---- after the list
 
-pub record StillConverts (words : ℕ) (s out : List ℕ) (f : BsiiFile) (r : List ℕ) (size : ℕ) (words′ : ℕ) (M : MarkedRecords) : Type 0 where
-  -- "the save still converts after the list": with every output that has room the text call answers with the new text's length,
-  pub converts : (out′ : List ℕ) → length (newText valueText M) ≤ length out′ → textCall words′ (newFile f r M) out′ .reply ≡ gives (length (newText valueText M))
+pub record StillConverts (words : ℕ) (s out : List ℕ) (f : BsiiFile) (r : List ℕ) (made : Converted) (words′ : ℕ) (M : MarkedRecords) : Type 0 where
+  -- "the save still converts after the list": with every output that has room the text call answers with the new text's length and the new save's steps,
+  pub converts : (out′ : List ℕ) → length (newText valueText M) ≤ length out′
+      → textCall words′ (newFile f r M) out′ .reply ≡ gives (converted (stepsOf (newSave f M)) (newText valueText M))
   -- and with any output its whole answer is that of a file which has the new text
-  pub text : (out′ : List ℕ) → textCall words′ (newFile f r M) out′ ≡ textAnswer out′ (gives (newText valueText M))
+  pub text : (out′ : List ℕ) → textCall words′ (newFile f r M) out′ ≡ textAnswer (stepsOf (newSave f M)) out′ (gives (newText valueText M))
   -- "Every value that the field call found in the old save, by block and field name, it finds in the new one with the same type and bytes (blocks
   -- counted anew)."
   pub found : (k : ℕ) (name : List ℕ) (a : FieldAnswer) → fieldCall words s k name ≡ gives a
       → (b : FieldAnswer) × (fieldCall words′ (newFile f r M) (renumber M k) name ≡ gives b) × (b .typeId ≡ a .typeId) × (b .bytes ≡ a .bytes)
   -- "Leaving the inserted parts out of the new text gives the old text byte for byte."
-  pub leftOut : leftText valueText M ≡ take size (textCall words s out .output)
+  pub leftOut : leftText valueText M ≡ take (made .size) (textCall words s out .output)
   -- the records without the inserted parts are the old save's
   pub anchored : oldRecords M ≡ f .records
   -- the reading call answers, with the new save's counts and the offset behind its end record
@@ -90,7 +91,7 @@ firstCarried n p at (block b ∷ l) =
 pub record Refused (words x : ℕ) (s : List ℕ) : Type 0 where
   pub reading : readingCall words s ≡ refusal unlistedType x
   pub field : (k : ℕ) (name : List ℕ) → fieldCall words s k name ≡ refusal unlistedType x
-  pub text : (out : List ℕ) → textCall words s out ≡ textAnswer out (refusal unlistedType x)
+  pub text : (out : List ℕ) → textCall words s out ≡ record { reply = refusal unlistedType x; needed = 0; output = out }
 
 -- 7 at x "exactly when a block carries it" and its first value starts at x: o is `firstCarried`'s answer
 pub record ExactlyWhen (words : ℕ) (s : List ℕ) (o : Option ℕ) : Type 0 where
@@ -99,26 +100,26 @@ pub record ExactlyWhen (words : ℕ) (s : List ℕ) (o : Option ℕ) : Type 0 wh
   pub text : (out : List ℕ) (x : ℕ) → (textCall words s out .reply ≡ refusal unlistedType x) ↔ (o ≡ some x)
 
 -- M is the file with the last definition, and its first value starts at o
-pub record AfterLast (words : ℕ) (s out : List ℕ) (f : BsiiFile) (r : List ℕ) (size words′ : ℕ) (M : MarkedRecords) (o : Option ℕ) : Type 0 where
+pub record AfterLast (words : ℕ) (s out : List ℕ) (f : BsiiFile) (r : List ℕ) (made : Converted) (words′ : ℕ) (M : MarkedRecords) (o : Option ℕ) : Type 0 where
   -- "the reading, field and text calls refuse the save, at the first such value"
   pub carried : (x : ℕ) → o ≡ some x → Refused words′ x (newFile f r M)
   -- "if none does, all of the above holds"
-  pub unused : o ≡ none → StillConverts words s out f r size words′ M
+  pub unused : o ≡ none → StillConverts words s out f r made words′ M
   pub exactly : ExactlyWhen words′ (newFile f r M) o
 
 -- "After the list, one last (i) .. may have an unlisted type, not 0: 'listed' is dropped for that type, and 'well-formed' for its values, which
 -- are any bytes or none": v gives any value, so any bytes, for each block
-abbrev pub LastUnlisted : (words : ℕ) (s out : List ℕ) (f : BsiiFile) (r : List ℕ) (size words′ : ℕ) → MarkedRecords → Type 0
-LastUnlisted words s out f r size words′ M =
+abbrev pub LastUnlisted : (words : ℕ) (s out : List ℕ) (f : BsiiFile) (r : List ℕ) (made : Converted) (words′ : ℕ) → MarkedRecords → Type 0
+LastUnlisted words s out f r made words′ M =
     (n p : ℕ) (d : Consumed ValuePrototype) (v : ℕ → DataValue) → DefinitionAllowed n p d M → shapeOf (f .header .value) (d .value .typeId) ≡ none
     → Room lengthLimit words′ f r (insert (aField n p d v) M)
-    → AfterLast words s out f r size words′ (insert (aField n p d v) M) (firstCarried n p (length (f .header .raw)) (newRecords (insert (aField n p d v) M)))
+    → AfterLast words s out f r made words′ (insert (aField n p d v) M) (firstCarried n p (length (f .header .raw)) (newRecords (insert (aField n p d v) M)))
 
 -- "Demand 3 is a single claim about the whole list, the empty one included", over saves of every version: `f .header .value`, which no insertion changes
 abbrev pub Demand3 : Type 0
 Demand3 =
-    (words : ℕ) (s out : List ℕ) (f : BsiiFile) (at : ℕ) (r : List ℕ) (size : ℕ) → OldSave words s out f at r size
+    (words : ℕ) (s out : List ℕ) (f : BsiiFile) (at : ℕ) (r : List ℕ) (made : Converted) → OldSave words s out f at r made
     → (l : List Insertion) → AllAllowed (f .header .value) l (markRecords (f .records)) → (words′ : ℕ)
     → (s ≡ newFile f r (markRecords (f .records)))
-    × (Room lengthLimit words′ f r (widened f l) → StillConverts words s out f r size words′ (widened f l))
-    × LastUnlisted words s out f r size words′ (widened f l)
+    × (Room lengthLimit words′ f r (widened f l) → StillConverts words s out f r made words′ (widened f l))
+    × LastUnlisted words s out f r made words′ (widened f l)

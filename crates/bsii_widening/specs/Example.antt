@@ -8,6 +8,7 @@ use Rattle.bsii_format.specs.Values.{array}
 use Rattle.bsii_format.specs.Prototypes.{ValuePrototype}
 use Rattle.bsii_format.specs.Blocks.{DataValue}
 use Rattle.bsii_format.specs.File.{BsiiFile, parse}
+use Rattle.bsii_format.specs.Calls.{Converted}
 use Rattle.bsii_format.specs.Worked.{le, u32, workedFile}
 use Rattle.bsii_widening.specs.Marks.{MarkedRecords, markRecords}
 use Rattle.bsii_widening.specs.Insertions.{Insertion, aField, insert}
@@ -20,6 +21,10 @@ fileOf (fault x) = record { header = with 0 []; records = []; end = [] }
 
 unfoldable pub oldFile : BsiiFile
 oldFile = fileOf (parse 768 workedFile)
+
+-- its text of 73 bytes, in five steps
+abbrev pub oldMade : Converted
+oldMade = record { size = 73; steps = 5 }
 
 -- (i) the enum `e` behind `km`, with the list 5 `five`; 5 in block 0
 unfoldable pub enumField : Written

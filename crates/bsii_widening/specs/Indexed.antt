@@ -12,7 +12,7 @@ use Rattle.bsii_format.specs.Types.{shapeOf}
 use Rattle.bsii_format.specs.Prototypes.{ValuePrototype}
 use Rattle.bsii_format.specs.Blocks.{DataValue}
 use Rattle.bsii_format.specs.File.{BsiiFile, lengthLimit}
-use Rattle.bsii_format.specs.Calls.{FieldAnswer, textAnswer}
+use Rattle.bsii_format.specs.Calls.{FieldAnswer, writeAnswer}
 use Rattle.bsii_derived.specs.Index.{indexWidth, indexBytesOf}
 use Rattle.bsii_derived.specs.IndexCalls.{writeIndexCall, checkIndexCall, indexFieldCall, definesOnceCall}
 use Rattle.bsii_widening.specs.Marks.{MarkedRecords, newRecords, markRecords}
@@ -26,7 +26,7 @@ pub record StillIndexed (w words : ℕ) (s : List ℕ) (f : BsiiFile) (r : List 
   -- the index of the new save is written, with every space that has room,
   pub writes : (space : List ℕ) → length (indexBytesOf w (newSave f M)) ≤ length space → writeIndexCall w words′ (newFile f r M) space .reply ≡ gives (length (indexBytesOf w (newSave f M)))
   -- and with any space the whole answer is that of a file which has this index
-  pub written : (space : List ℕ) → writeIndexCall w words′ (newFile f r M) space ≡ textAnswer space (gives (indexBytesOf w (newSave f M)))
+  pub written : (space : List ℕ) → writeIndexCall w words′ (newFile f r M) space ≡ writeAnswer length space (gives (indexBytesOf w (newSave f M)))
   -- it fits
   pub fits : checkIndexCall w words′ (newFile f r M) (indexBytesOf w (newSave f M)) ≡ gives tt
   -- no id is defined twice, so it may stand in for the walk
@@ -39,7 +39,7 @@ pub record StillIndexed (w words : ℕ) (s : List ℕ) (f : BsiiFile) (r : List 
 -- after one last definition of an unlisted type: M is the file with it, and its first value starts at o
 pub record IndexAfterLast (w words : ℕ) (s : List ℕ) (f : BsiiFile) (r : List ℕ) (words′ : ℕ) (M : MarkedRecords) (o : Option ℕ) : Type 0 where
   -- write and check give 7 there,
-  pub writeStops : (x : ℕ) → o ≡ some x → (space : List ℕ) → writeIndexCall w words′ (newFile f r M) space ≡ textAnswer space (refusal unlistedType x)
+  pub writeStops : (x : ℕ) → o ≡ some x → (space : List ℕ) → writeIndexCall w words′ (newFile f r M) space ≡ record { reply = refusal unlistedType x; needed = 0; output = space }
   pub checkStops : (x : ℕ) → o ≡ some x → (i : List ℕ) → checkIndexCall w words′ (newFile f r M) i ≡ refusal unlistedType x
   -- exactly if a block carries it; otherwise all of the above holds
   pub writeExactly : (space : List ℕ) (x : ℕ) → (writeIndexCall w words′ (newFile f r M) space .reply ≡ refusal unlistedType x) ↔ (o ≡ some x)
