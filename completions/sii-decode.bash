@@ -51,7 +51,7 @@ _sii_decode() {
     fi
     if [[ $questions ]] && ((${#plain[@]} == 0)); then
         mapfile -t COMPREPLY < <(
-            compgen -W 'info prototypes prototype blocks block fields field index check' -- "$current"
+            compgen -W 'info forecast prototypes prototype blocks block fields field index check' -- "$current"
             compgen -f -- "$current"
         )
         return
@@ -59,7 +59,7 @@ _sii_decode() {
     # where the save stands, and of a question that has one more word or not, or an index, the file in front of it
     local save=0 first=0
     [[ ! $questions ]] || case ${plain[0]} in
-    info | prototypes | index) save=1 ;;
+    info | forecast | prototypes | index) save=1 ;;
     prototype | block | fields) save=2 ;;
     blocks | check) save=2 first=1 ;;
     field) save=3 ;;

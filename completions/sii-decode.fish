@@ -36,7 +36,7 @@ function __sii_decode_wants
     set -l first 0
     if test $questions = yes
         switch "$plain[1]"
-            case info prototypes index
+            case info forecast prototypes index
                 set save 1
             case prototype block fields
                 set save 2
@@ -63,6 +63,7 @@ complete -c sii-decode -l into -x -a '(__fish_complete_directories (string repla
 complete -c sii-decode -s h -l help -d 'Print a summary'
 complete -c sii-decode -s V -l version -d 'Print the version'
 complete -c sii-decode -n '__sii_decode_wants question' -a info -d 'Prototypes, blocks, bytes'
+complete -c sii-decode -n '__sii_decode_wants question' -a forecast -d 'What converting the save takes'
 complete -c sii-decode -n '__sii_decode_wants question' -a prototypes -d 'The prototypes of the blocks'
 complete -c sii-decode -n '__sii_decode_wants question' -a prototype -d 'A prototype by its id'
 complete -c sii-decode -n '__sii_decode_wants question' -a blocks -d 'All blocks, or those under a prototype name'

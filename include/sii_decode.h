@@ -18,7 +18,7 @@
  * run at the same time.
  *
  * What the library needs. x86-64 and the System V calling convention. Of libc memcpy and memset, and nothing else. 12288 bytes of stack for
- * each call: tests/c/stack.c runs each call on a stack filled with a pattern and measures at most 10920, those two functions included; a dynamic
+ * each call: tests/c/stack.c runs each call on a stack filled with a pattern and measures at most 11120, those two functions included; a dynamic
  * linker that binds them at their first call (without -z now) takes some kilobytes more at that time. Its code is position independent.
  *
  * The file is read only. It may be any bytes, also none; with more than SII_LENGTH_LIMIT it is refused. Its version is the uint32_t at byte 4,
@@ -26,7 +26,8 @@
  *
  * The table is scratch of `words` words. It may hold anything before a call; after every call, refused or not, all its words are 0. Three
  * words for each distinct prototype id of the file are enough. A prototype has at least 17 bytes, so three words for each whole 17 bytes of
- * the file, file_len / 17 * 3, always are.
+ * the file, file_len / 17 * 3, always are: with as many no call gives SII_TABLE_FULL. With such a table sii_forecast tells how many the file
+ * needs, and how long its text and its index are.
  *
  * An index is kept beside a file, so that a field can be found without reading all of it. It has no header and one record of 12 bytes for each
  * block, in the order of the blocks: four numbers of three bytes, least byte first. They are the offset of the block, which is that of its prototype
@@ -49,7 +50,7 @@ extern "C" {
  * layouts included, for calls are still to be added; a new patch version changes nothing of it. From 1.0 on that takes a new major version.
  */
 #define SII_VERSION_MAJOR 0
-#define SII_VERSION_MINOR 5
+#define SII_VERSION_MINOR 6
 #define SII_VERSION_PATCH 0
 
 /* The most bytes that a file may have, those behind its end record included. */
@@ -57,9 +58,9 @@ extern "C" {
 
 /*
  * The refusals. Of several, SII_INPUT_LONG comes first, then the first fault of the file from front to back (1, 3 to 7, 10 and 15), whatever was
- * asked for, then SII_ABSENT; for sii_to_siin 8 and 9 in the order of the text, then SII_OUTPUT_SHORT; for sii_write_index SII_OUTPUT_SHORT, for
- * sii_check_index SII_MISFIT. sii_field_by_index does not read the file from its front, and has an order of its own. 2 is retired: no call gives
- * it, and it is used for nothing else. No refusal has the number 0.
+ * asked for, then SII_ABSENT; for sii_to_siin and sii_forecast 8 and 9 in the order of the text; last, for sii_to_siin and sii_write_index
+ * SII_OUTPUT_SHORT, for sii_check_index SII_MISFIT. sii_field_by_index does not read the file from its front, and has an order of its own. 2 is
+ * retired: no call gives it, and it is used for nothing else. No refusal has the number 0.
  */
 enum {
     /* The first 4 bytes are missing or are not "BSII". Offset 0. */
@@ -192,6 +193,7 @@ typedef struct SiiText {
     uint64_t offset;
     uint64_t lacking;
     uint64_t length; /* the text's; with SII_OUTPUT_SHORT the needed length, with every other refusal 0 */
+    uint64_t steps;  /* as in SiiForecast; with every refusal 0 */
 } SiiText;
 
 typedef struct SiiLength {
@@ -206,6 +208,18 @@ typedef struct SiiChecked {
     uint64_t offset;
     uint64_t lacking;
 } SiiChecked;
+
+typedef struct SiiForecast {
+    uint32_t number;
+    uint64_t offset;
+    uint64_t lacking;
+    uint64_t table_words;   /* three for each distinct prototype id; an id that is defined again adds none */
+    uint64_t text_len;      /* the text's length, which may be above 32 bits */
+    uint64_t index_len;     /* the index's length, 12 for each block */
+    uint64_t largest_block; /* the length of the longest block, as an index has it; 0 without blocks */
+    uint64_t steps;         /* of reading the file: one for each record, replaced prototypes and the end record too, and one for each value of a
+                               block, an array being one; at most file_len */
+} SiiForecast;
 
 typedef struct SiiElement {
     uint32_t number;
@@ -272,10 +286,11 @@ SiiField sii_field_of(const uint8_t *file, size_t file_len, uint32_t *table, siz
 SiiElement sii_element_of(uint32_t version, uint32_t type_id, const uint8_t *part, size_t part_len, uint64_t index);
 
 /*
- * Writes the file's text into the output. Answers the text's length, which has no terminator. Refusals: 1, 3 to 12, 15; with SII_OUTPUT_SHORT
- * `length` is the length that the output must have, which may be above 32 bits. Afterwards the output starts with the text, and its bytes beyond
- * the text keep their values; after a refusal all of them do. The table is all 0. With NULL and length 0 for the output the call is a way to ask
- * for the length: every text is longer than that, so it is refused with SII_OUTPUT_SHORT if nothing else is wrong.
+ * Writes the file's text into the output. Answers the text's length, which has no terminator, and the steps of the walk over the file that it made,
+ * which are those that sii_forecast foretells. Refusals: 1, 3 to 12, 15; with SII_OUTPUT_SHORT `length` is the length that the output must have,
+ * which may be above 32 bits. Afterwards the output starts with the text, and its bytes beyond the text keep their values; after a refusal all of
+ * them do. The table is all 0. How much to lend is foretold by sii_forecast; with NULL and length 0 for the output this call is a way to ask
+ * for the length, too: every text is longer than that, so it is refused with SII_OUTPUT_SHORT if nothing else is wrong.
  */
 SiiText sii_to_siin(const uint8_t *file, size_t file_len, uint32_t *table, size_t words, uint8_t *output, size_t output_len);
 
@@ -318,6 +333,21 @@ SiiField sii_field_by_index(const uint8_t *file, size_t file_len, const uint8_t 
  * 1, 3 to 7, 10 and 15, the first in the file. Afterwards the table is all 0.
  */
 SiiNumber sii_defines_once(const uint8_t *file, size_t file_len, uint32_t *table, size_t words);
+
+/*
+ * What the file will need, so that memory can be lent before anything is converted. Answers the words of the table, the lengths of text and index,
+ * the length of the longest block, and the steps of reading the file. With at least `table_words` words no call on this file gives SII_TABLE_FULL;
+ * with these and at least `text_len` bytes sii_to_siin answers, with these and at least `index_len` bytes sii_write_index does. With fewer words
+ * sii_to_siin is refused with SII_TABLE_FULL, whatever the output; with enough words and fewer bytes with SII_OUTPUT_SHORT.
+ *
+ * The refusals are those of sii_to_siin with the same table and an output without end, in this order: SII_INPUT_LONG; 1, 3 to 7, 10 and 15, the first
+ * in the file; 8 and 9, the first in the text. SII_OUTPUT_SHORT does not occur. A refusal foretells nothing: every other member is 0. With
+ * file_len / 17 * 3 words it is never SII_TABLE_FULL; with fewer it may be, and a larger table is to be tried.
+ *
+ * The call takes no output and walks over the file once, twice if a prototype id is defined again. Afterwards the table is all 0; nothing
+ * else is written.
+ */
+SiiForecast sii_forecast(const uint8_t *file, size_t file_len, uint32_t *table, size_t words);
 
 #ifdef __cplusplus
 }

@@ -14,10 +14,11 @@ static_assert(plain<SiiPrototype, 48>(), "SiiPrototype");
 static_assert(plain<SiiBlock, 48>(), "SiiBlock");
 static_assert(plain<SiiNumber, 32>(), "SiiNumber");
 static_assert(plain<SiiField, 48>(), "SiiField");
-static_assert(plain<SiiText, 32>(), "SiiText");
+static_assert(plain<SiiText, 40>(), "SiiText");
 static_assert(plain<SiiElement, 88>(), "SiiElement");
 static_assert(plain<SiiLength, 32>(), "SiiLength");
 static_assert(plain<SiiChecked, 24>(), "SiiChecked");
+static_assert(plain<SiiForecast, 64>(), "SiiForecast");
 
 // one prototype 1, `p`, with a u32 `f`, and a block of it with the value 9
 static const uint8_t file[] = {
@@ -53,7 +54,7 @@ int main()
     const SiiElement element = sii_element_of(2, 0x27, file + 40, 4, 0);
     expect("sii_element_of", element.number == 0 && element.kind == SII_KIND_U32 && element.value == 9);
     const SiiText text = sii_to_siin(file, sizeof file, table, 3, output, sizeof output);
-    expect("sii_to_siin", text.number == 0 && text.length == 33);
+    expect("sii_to_siin", text.number == 0 && text.length == 33 && text.steps == 4);
     uint8_t index[12];
     const SiiLength length = sii_write_index(file, sizeof file, table, 3, index, sizeof index);
     expect("sii_write_index", length.number == 0 && length.length == 12 && index[0] == 35 && index[3] == 9 && index[6] == 8 && index[9] == 1);
@@ -64,5 +65,8 @@ int main()
     expect("sii_field_by_index", by_index.number == 0 && by_index.type_id == 0x27 && by_index.part_offset == 40 && by_index.part_len == 4);
     const SiiNumber once = sii_defines_once(file, sizeof file, table, 3);
     expect("sii_defines_once", once.number == 0 && once.value == 1);
+    const SiiForecast foretold = sii_forecast(file, sizeof file, table, 3);
+    expect("sii_forecast", foretold.number == 0 && foretold.table_words == 3 && foretold.text_len == 33 && foretold.index_len == 12 &&
+                               foretold.largest_block == 9 && foretold.steps == 4);
     return failed;
 }

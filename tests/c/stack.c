@@ -1,9 +1,9 @@
 /*
  * How deep each call goes into the stack: it runs on a stack of its own, which was filled with a pattern, and the lowest byte that changed is
  * looked for. The file is that of the first argument, which has every type; then one of version 1 with placements; then one with the prototype
- * ids 0 and 1, which differ in the last bit that the sort of the rows comes to, so that it goes as deep as it can. Prints the most bytes of all
- * calls, and exits with 1 if that is more than the second argument, the number that the header promises, or if a call answers otherwise than it
- * must.
+ * ids 0 and 1, which differ in the last bit that the sort of the rows comes to, so that it goes as deep as it can; then one that defines an id
+ * again, so that a text is measured by other functions. Prints the most bytes of all calls, and exits with 1 if that is more than the second
+ * argument, the number that the header promises, or if a call answers otherwise than it must.
  */
 #define _XOPEN_SOURCE 700
 #include <stdio.h>
@@ -61,6 +61,7 @@ static void a_written_index(void)
 static void a_checked_index(void) { expect(sii_check_index(FILE_AND_TABLE, index_space, index_len).number); }
 static void a_look_up(void) { expect_block(sii_field_by_index(file, file_len, index_space, index_len, 0, (const uint8_t *)"parent", 6).number); }
 static void defined_once(void) { expect(sii_defines_once(FILE_AND_TABLE).number); }
+static void a_forecast(void) { expect(sii_forecast(FILE_AND_TABLE).number); }
 
 /* every element of the first block's fields that have these names */
 static void elements(void)
@@ -114,7 +115,8 @@ static size_t greater(size_t a, size_t b)
 int main(int count, char **words)
 {
     static void (*const calls[])(void) = {a_reading, a_prototype,     a_block,         a_named_block, a_field,
-                                          a_text,    a_written_index, a_checked_index, a_look_up,     defined_once};
+                                          a_text,    a_written_index, a_checked_index, a_look_up,     defined_once,
+                                          a_forecast};
     static const uint8_t deep[] = "BSII\2\0\0\0"
                                   "\0\0\0\0\1\0\0\0\0\0\0\0\0\0\0\0\0"
                                   "\0\0\0\0\1\1\0\0\0\0\0\0\0\0\0\0\0"
@@ -124,6 +126,11 @@ int main(int count, char **words)
                                        "\1\0\0\0\0"
                                        "abcdefghijklmnopqrstuvwxyz01"
                                        "\2\0\0\0ABCDEFGHIJKLMNOPQRSTUVWXYZ01abcdefghijklmnopqrstuvwxyz01"
+                                       "\0\0\0\0";
+    static const uint8_t redefined[] = "BSII\2\0\0\0"
+                                       "\0\0\0\0\1\1\0\0\0\1\0\0\0p\x27\0\0\0\1\0\0\0f\0\0\0\0"
+                                       "\1\0\0\0\0\x9\0\0\0"
+                                       "\0\0\0\0\1\1\0\0\0\1\0\0\0q\6\0\0\0\1\0\0\0g\0\0\0\0"
                                        "\0\0\0\0";
     const size_t how_many = sizeof calls / sizeof calls[0];
     size_t at, most, promised;
@@ -147,6 +154,10 @@ int main(int count, char **words)
         most = greater(most, depth_of(calls[at]));
     memcpy(file, deep, sizeof deep);
     file_len = sizeof deep;
+    for (at = 0; at < how_many; at++)
+        most = greater(most, depth_of(calls[at]));
+    memcpy(file, redefined, sizeof redefined);
+    file_len = sizeof redefined;
     for (at = 0; at < how_many; at++)
         most = greater(most, depth_of(calls[at]));
     printf("%lu\n", (unsigned long)most);

@@ -260,6 +260,7 @@ static void text(const uint8_t *bytes, size_t len, size_t words, size_t output_l
     equal("sii_to_siin, offset", expected.offset, got.offset);
     equal("sii_to_siin, lacking", expected.lacking, got.lacking);
     equal("sii_to_siin, length", expected.length, got.length);
+    equal("sii_to_siin, steps", expected.steps, got.steps);
     same_bytes("text", (const uint8_t *)text, output.start, text_len);
     for (at = text_len; at < output_len; at++)
         changed += output.start[at] != output_byte(at);
@@ -330,6 +331,43 @@ static void defines_once(const uint8_t *bytes, size_t len, size_t words, SiiNumb
     end(loan, "");
 }
 
+static void forecast(const uint8_t *bytes, size_t len, size_t words, SiiForecast expected)
+{
+    Loan loan = begin(bytes, len, words, "");
+    SiiForecast got = sii_forecast(FILE_AND_TABLE(loan));
+    equal("sii_forecast, number", expected.number, got.number);
+    equal("sii_forecast, offset", expected.offset, got.offset);
+    equal("sii_forecast, lacking", expected.lacking, got.lacking);
+    equal("sii_forecast, table_words", expected.table_words, got.table_words);
+    equal("sii_forecast, text_len", expected.text_len, got.text_len);
+    equal("sii_forecast, index_len", expected.index_len, got.index_len);
+    equal("sii_forecast, largest_block", expected.largest_block, got.largest_block);
+    equal("sii_forecast, steps", expected.steps, got.steps);
+    end(loan, "");
+}
+
+/* what a file will need, but for its text */
+static SiiForecast needs(uint64_t table_words, uint64_t blocks, uint64_t largest_block, uint64_t steps)
+{
+    return (SiiForecast){.table_words = table_words, .index_len = 12 * blocks, .largest_block = largest_block, .steps = steps};
+}
+
+static SiiForecast no_forecast(uint32_t number, uint64_t offset, uint64_t lacking)
+{
+    return (SiiForecast){.number = number, .offset = offset, .lacking = lacking};
+}
+
+/* with fewer words than foretold, whatever the output is */
+static void too_few_words(const uint8_t *bytes, size_t len, size_t words, size_t output_len)
+{
+    Loan loan = begin(bytes, len, words, "");
+    Lent output = lend(output_len, GUARD);
+    equal("sii_forecast with too few words", SII_TABLE_FULL, sii_forecast(FILE_AND_TABLE(loan)).number);
+    equal("sii_to_siin with too few words", SII_TABLE_FULL, sii_to_siin(FILE_AND_TABLE(loan), output.start, output.size).number);
+    give_back("around the output", output);
+    end(loan, "");
+}
+
 /* The index is written as a text is, and accepted; and by each of its bytes it is another. */
 static void has_index(const uint8_t *bytes, size_t len, size_t words, const void *index, size_t length)
 {
@@ -354,14 +392,26 @@ static void has_index(const uint8_t *bytes, size_t len, size_t words, const void
         check_index(bytes, len, words, other, length + at, (SiiChecked){SII_MISFIT, length, 0});
 }
 
-/* The text whole, into an output of just its length and into a longer one, and refused for an output that is a byte short and for none. */
-static void converts(const uint8_t *bytes, size_t len, size_t words, const char *expected)
+/*
+ * It is foretold, with these words, with just those that it needs and with those that are enough for its length. The text whole, into an output of
+ * just its length and into a longer one, and refused for an output that is a byte short and for none, and for every smaller table.
+ */
+static void converts(const uint8_t *bytes, size_t len, size_t words, const char *expected, SiiForecast foretold)
 {
-    size_t length = strlen(expected);
-    text(bytes, len, words, length, (SiiText){0, 0, 0, length}, expected);
-    text(bytes, len, words, length + 50, (SiiText){0, 0, 0, length}, expected);
-    text(bytes, len, words, length - 1, (SiiText){SII_OUTPUT_SHORT, 0, 0, length}, "");
-    text(bytes, len, words, 0, (SiiText){SII_OUTPUT_SHORT, 0, 0, length}, "");
+    size_t length = strlen(expected), fewer;
+    foretold.text_len = length;
+    forecast(bytes, len, words, foretold);
+    forecast(bytes, len, (size_t)foretold.table_words, foretold);
+    forecast(bytes, len, len / 17 * 3, foretold);
+    for (fewer = 0; fewer < foretold.table_words; fewer++) {
+        too_few_words(bytes, len, fewer, 0);
+        too_few_words(bytes, len, fewer, length + 50);
+    }
+    text(bytes, len, (size_t)foretold.table_words, length, (SiiText){0, 0, 0, length, foretold.steps}, expected);
+    text(bytes, len, words, length, (SiiText){0, 0, 0, length, foretold.steps}, expected);
+    text(bytes, len, words, length + 50, (SiiText){0, 0, 0, length, foretold.steps}, expected);
+    text(bytes, len, words, length - 1, (SiiText){SII_OUTPUT_SHORT, 0, 0, length, 0}, "");
+    text(bytes, len, words, 0, (SiiText){SII_OUTPUT_SHORT, 0, 0, length, 0}, "");
 }
 
 static SiiElement place(uint32_t kind, uint64_t offset, uint64_t len)
@@ -397,13 +447,14 @@ static void fault(const char *name, const uint8_t *bytes, size_t len, size_t wor
     named_block(bytes, len, words, "", 0, (SiiNumber){number, offset, lacking, 0});
     field(bytes, len, words, 0, "km", (SiiField){number, offset, lacking, 0, 0, 0});
     field(bytes, len, words, 0, "", (SiiField){number, offset, lacking, 0, 0, 0});
-    text(bytes, len, words, 100, (SiiText){number, offset, lacking, 0}, "");
-    text(bytes, len, words, 0, (SiiText){number, offset, lacking, 0}, "");
+    text(bytes, len, words, 100, (SiiText){number, offset, lacking, 0, 0}, "");
+    text(bytes, len, words, 0, (SiiText){number, offset, lacking, 0, 0}, "");
     write_index(bytes, len, words, 100, (SiiLength){number, offset, lacking, 0}, "");
     write_index(bytes, len, words, 0, (SiiLength){number, offset, lacking, 0}, "");
     check_index(bytes, len, words, "another", 7, (SiiChecked){number, offset, lacking});
     check_index(bytes, len, words, "", 0, (SiiChecked){number, offset, lacking});
     defines_once(bytes, len, words, (SiiNumber){number, offset, lacking, 0});
+    forecast(bytes, len, words, no_forecast(number, offset, lacking));
 }
 
 /* any but 3: nothing is lacking */
@@ -486,7 +537,7 @@ static void the_worked_file(void)
         named_block(worked, WORKED, words, "trip", 0, (SiiNumber){0, 0, 0, 0});
         field(worked, WORKED, words, 0, "km", (SiiField){0, 0, 0, 0x27, 61, 4});
         field(worked, WORKED, words, 0, "w", (SiiField){0, 0, 0, 0x06, 65, 12});
-        converts(worked, WORKED, words, worked_text);
+        converts(worked, WORKED, words, worked_text, needs(3, 1, 29, 5));
         has_index(worked, WORKED, words, "\x30\0\0\x1d\0\0\x8\0\0\2\0\0", 12);
         defines_once(worked, WORKED, words, (SiiNumber){0, 0, 0, 1});
     }
@@ -498,7 +549,7 @@ static void the_worked_file(void)
     start();
     insert(82, "BSII\1\0\0\0", 8);
     reading(made, made_len, 3, (SiiReading){0, 0, 0, 1, 1, 82});
-    converts(made, made_len, 3, worked_text);
+    converts(made, made_len, 3, worked_text, needs(3, 1, 29, 5));
 
     label = "worked file, what is not there";
     prototype(worked, WORKED, 3, 8, (SiiPrototype){SII_ABSENT, 0, 0, 0, 0, 0});
@@ -576,6 +627,27 @@ static void worked_cuts(void)
     reading(bytes, sizeof save, 3, (SiiReading){0, 0, 0, 1, 2, 62});
 }
 
+/* the two saves that the forecast was worked out for: the second has three fields, an array of bools and a string among them, in two blocks */
+static void worked_forecasts(void)
+{
+    static const char sheet[] = "BSII\2\0\0\0"
+                                "\0\0\0\0\1\3\0\0\0\1\0\0\0t\x2b\0\0\0\1\0\0\0n\x36\0\0\0\1\0\0\0f\1\0\0\0\1\0\0\0s\0\0\0\0"
+                                "\3\0\0\0\0\5\0\2\0\0\0\1\0\3\0\0\0a\tb"
+                                "\3\0\0\0\1\x22\0\0\0\0\0\0\0\xff\xff\0\0\0\0\2\0\0\0ok"
+                                "\0\0\0\0";
+    label = "worked forecasts";
+    converts(save_bytes, sizeof save, 3, "SiiNunit\n{\nt : null {\n  n: 5\n}\nt : x {\n  n: 7\n}\n}\n", needs(3, 2, 15, 6));
+    forecast(save_bytes, sizeof save, 3, (SiiForecast){0, 0, 0, 3, 50, 24, 15, 6});
+    refused("worked forecast, 2 words", save_bytes, sizeof save, 2, SII_TABLE_FULL, 8);
+    label = "worked forecasts";
+    equal("bytes of the second save", 103, sizeof sheet);
+    forecast((const uint8_t *)sheet, sizeof sheet, 3, (SiiForecast){0, 0, 0, 3, 115, 24, 25, 10});
+    converts((const uint8_t *)sheet, sizeof sheet, 3,
+             "SiiNunit\n{\nt : null {\n  n: 5\n  f: 2\n  f[0]: true\n  f[1]: false\n  s: \"a\\x09b\"\n}\n"
+             "t : x {\n  n: nil\n  f: 0\n  s: ok\n}\n}\n",
+             needs(3, 2, 25, 10));
+}
+
 /* The mark is there and is neither 0 nor 1, whatever stands behind it. */
 static void marks(void)
 {
@@ -625,8 +697,9 @@ static void damage(void)
     field(made, made_len, 3, 0, "km", (SiiField){SII_ABSENT, 0, 0, 0, 0, 0});
     has_index(made, made_len, 3, "\x30\0\0\x1d\0\0\x8\0\0\2\0\0", 12);
     defines_once(made, made_len, 3, (SiiNumber){0, 0, 0, 0});
-    text(made, made_len, 3, 100, (SiiText){SII_FIELD_COUNT, 48, 0, 0}, "");
-    text(made, made_len, 3, 0, (SiiText){SII_FIELD_COUNT, 48, 0, 0}, "");
+    text(made, made_len, 3, 100, (SiiText){SII_FIELD_COUNT, 48, 0, 0, 0}, "");
+    text(made, made_len, 3, 0, (SiiText){SII_FIELD_COUNT, 48, 0, 0, 0}, "");
+    forecast(made, made_len, 3, no_forecast(SII_FIELD_COUNT, 48, 0));
 
     start();
     made[25] = 0x37;
@@ -636,8 +709,9 @@ static void damage(void)
     field(made, made_len, 3, 0, "km", (SiiField){0, 0, 0, 0x37, 77, 4});
     element(0x37, made + 77, 4, 0, value(SII_KIND_ENUM, 300));
     has_index(made, made_len, 3, "\x40\0\0\x1d\0\0\x8\0\0\2\0\0", 12);
-    text(made, made_len, 3, 100, (SiiText){SII_ENUM_VALUE, 77, 0, 0}, "");
-    text(made, made_len, 3, 0, (SiiText){SII_ENUM_VALUE, 77, 0, 0}, "");
+    text(made, made_len, 3, 100, (SiiText){SII_ENUM_VALUE, 77, 0, 0, 0}, "");
+    text(made, made_len, 3, 0, (SiiText){SII_ENUM_VALUE, 77, 0, 0, 0}, "");
+    forecast(made, made_len, 3, no_forecast(SII_ENUM_VALUE, 77, 0));
 }
 
 /* two prototypes and two blocks, with an enum: the worked list of insertions of FORMAT.md, "Widening" */
@@ -681,7 +755,7 @@ static void the_widened_file(void)
     field(made, made_len, 6, 0, "w", (SiiField){0, 0, 0, 0x06, 121, 12});
     field(made, made_len, 6, 1, "b", (SiiField){0, 0, 0, 0x35, 138, 1});
     field(made, made_len, 6, 1, "km", (SiiField){SII_ABSENT, 0, 0, 0, 0, 0});
-    converts(made, made_len, 6, expected);
+    converts(made, made_len, 6, expected, needs(6, 2, 33, 9));
     has_index(made, made_len, 6, "\x64\0\0\x21\0\0\x23\0\0\3\0\0\x85\0\0\6\0\0\x8\0\0\1\0\0", 24);
     defines_once(made, made_len, 6, (SiiNumber){0, 0, 0, 1});
 }
@@ -704,7 +778,8 @@ static void the_redefined_file(void)
     named_block(file, sizeof file, 3, "p", 0, (SiiNumber){SII_ABSENT, 0, 0, 0});
     field(file, sizeof file, 3, 0, "g", (SiiField){0, 0, 0, 0x27, 40, 4});
     field(file, sizeof file, 3, 0, "f", (SiiField){SII_ABSENT, 0, 0, 0, 0, 0});
-    converts(file, sizeof file, 3, "SiiNunit\n{\nq : null {\n  g: 9\n}\n}\n");
+    /* the definition that is replaced is a step, and needs no words */
+    converts(file, sizeof file, 3, "SiiNunit\n{\nq : null {\n  g: 9\n}\n}\n", needs(3, 1, 9, 5));
     /* by the definition in force */
     has_index(file, sizeof file, 3, "\x23\0\0\x9\0\0\x8\0\0\1\0\0", 12);
     by_index(file, sizeof file, BYTES("\x23\0\0\x9\0\0\x8\0\0\1\0\0"), 0, "f", (SiiField){0, 0, 0, 0x27, 40, 4});
@@ -871,7 +946,7 @@ static void the_file_with_vectors(void)
     element(0x0a, file + 49, 16, 1, no_element(SII_ABSENT, 0));
     element(0x17, file + 65, 16, 0, four);
     element(0x17, file + 65, 16, 1, no_element(SII_ABSENT, 0));
-    converts(file, sizeof file, 3, "SiiNunit\n{\nt : null {\n  v: 1\n  v[0]: (&3f000000, 1, -2)\n  r: (1; 0, 0, -0)\n}\n}\n");
+    converts(file, sizeof file, 3, "SiiNunit\n{\nt : null {\n  v: 1\n  v[0]: (&3f000000, 1, -2)\n  r: (1; 0, 0, -0)\n}\n}\n", needs(3, 1, 37, 5));
     for (len = 49; len < 81; len++) {
         item = 49 + (len - 49) / 4 * 4;
         cut("cut vectors", file, len, item, item + 4 - len);
@@ -904,7 +979,7 @@ static void every_version(void)
         label = "worked file of another version";
         reading(made, made_len, 3, (SiiReading){0, 0, 0, 1, 1, 82});
         field(made, made_len, 3, 0, "w", (SiiField){0, 0, 0, 0x06, 65, 12});
-        converts(made, made_len, 3, worked_text);
+        converts(made, made_len, 3, worked_text, needs(3, 1, 29, 5));
         cut("header alone", made, 8, 8, 4);
         cut("header and a byte", made, 9, 8, 3);
         cut("version without its last byte", made, 7, 4, 1);
@@ -930,7 +1005,7 @@ static void the_file_of_version_1(void)
     label = "version 1";
     reading(file, sizeof file, 3, (SiiReading){0, 0, 0, 1, 1, 73});
     field(file, sizeof file, 3, 0, "w", (SiiField){0, 0, 0, 0x19, 40, 28});
-    converts(file, sizeof file, 3, "SiiNunit\n{\nj : null {\n  w: (1, -0, -0) (&7f800002; 0, &3fc00000, -2)\n}\n}\n");
+    converts(file, sizeof file, 3, "SiiNunit\n{\nj : null {\n  w: (1, -0, -0) (&7f800002; 0, &3fc00000, -2)\n}\n}\n", needs(3, 1, 33, 4));
     has_index(file, sizeof file, 3, "\x23\0\0\x21\0\0\x8\0\0\1\0\0", 12);
     by_index(file, sizeof file, pointing(35, 8), 12, 0, "w", (SiiField){0, 0, 0, 0x19, 40, 28});
     element_in(1, 0x19, file + 40, 28, 0, seven);
@@ -975,7 +1050,8 @@ static void placements_of_version_1(void)
     field(file, sizeof file, 3, 0, "n", (SiiField){0, 0, 0, 0x27, 109, 4});
     converts(file, sizeof file, 3,
              "SiiNunit\n{\nj : null {\n  w: 2\n  w[0]: (-0, 1, &ffc00001) (8390656; &1, 0, 0)\n"
-             "  w[1]: (&7f800000, &ff800000, 2) (&bfc00000; 1, 0, -0)\n  n: 9\n}\n}\n");
+             "  w[1]: (&7f800000, &ff800000, 2) (&bfc00000; 1, 0, -0)\n  n: 9\n}\n}\n",
+             needs(3, 1, 69, 5));
     element_in(1, 0x1a, file + 49, 60, 0, first);
     element_in(1, 0x1a, file + 49, 60, 1, second);
     element_in(1, 0x1a, file + 49, 60, 2, no_element(SII_ABSENT, 0));
@@ -999,7 +1075,7 @@ static void small_files(void)
     reading(smallest, sizeof smallest, 0, (SiiReading){0, 0, 0, 0, 0, 13});
     reading(smallest, sizeof smallest, 2, (SiiReading){0, 0, 0, 0, 0, 13});
     block(smallest, sizeof smallest, 0, 0, (SiiBlock){SII_ABSENT, 0, 0, 0, 0, 0});
-    converts(smallest, sizeof smallest, 0, "SiiNunit\n{\n}\n");
+    converts(smallest, sizeof smallest, 0, "SiiNunit\n{\n}\n", needs(0, 0, 0, 1));
 
     memcpy(made, smallest, sizeof smallest);
     made_len = sizeof smallest;
@@ -1009,6 +1085,8 @@ static void small_files(void)
         label = "smallest prototypes";
         reading(made, made_len, made_len / 17 * 3, (SiiReading){0, 0, 0, count, 0, made_len});
         reading(made, made_len, made_len / 17 * 3 - 1, (SiiReading){SII_TABLE_FULL, 8 + 17 * (count - 1), 0, 0, 0, 0});
+        forecast(made, made_len, made_len / 17 * 3 - 1, no_forecast(SII_TABLE_FULL, 8 + 17 * (count - 1), 0));
+        converts(made, made_len, made_len / 17 * 3, "SiiNunit\n{\n}\n", needs(3 * count, 0, 0, count + 1));
     }
 
     memcpy(made, smallest, sizeof smallest);
@@ -1019,7 +1097,7 @@ static void small_files(void)
     prototype(made, made_len, 3, 1, (SiiPrototype){0, 0, 0, 21, 0, 0});
     named_block(made, made_len, 3, "", 0, (SiiNumber){0, 0, 0, 0});
     field(made, made_len, 3, 0, "", (SiiField){SII_ABSENT, 0, 0, 0, 0, 0});
-    converts(made, made_len, 3, "SiiNunit\n{\n : null {\n}\n}\n");
+    converts(made, made_len, 3, "SiiNunit\n{\n : null {\n}\n}\n", needs(3, 1, 5, 3));
 }
 
 static void the_length_limit(void)
@@ -1032,7 +1110,8 @@ static void the_length_limit(void)
     memcpy(file, worked, WORKED);
     label = "16,777,216 bytes";
     reading(file, 16777216, 3, (SiiReading){0, 0, 0, 1, 1, 82});
-    text(file, 16777216, 3, 73, (SiiText){0, 0, 0, 73}, worked_text);
+    text(file, 16777216, 3, 73, (SiiText){0, 0, 0, 73, 5}, worked_text);
+    forecast(file, 16777216, 3, (SiiForecast){0, 0, 0, 3, 73, 12, 29, 5});
     write_index(file, 16777216, 3, 12, (SiiLength){0, 0, 0, 12}, "\x30\0\0\x1d\0\0\x8\0\0\2\0\0");
     by_index(file, 16777216, pointing(48, 8), 12, 0, "km", (SiiField){0, 0, 0, 0x27, 61, 4});
     by_index(file, 16777216, pointing(0xffffff, 8), 12, 0, "km", cut_field(0xffffff, 3));
@@ -1061,7 +1140,8 @@ static void a_long_text(void)
     memcpy(file + sizeof head + many, value, sizeof value);
     label = "a long text";
     reading(file, len, 3, (SiiReading){0, 0, 0, 1, 1, len});
-    text(file, len, 3, 100, (SiiText){SII_OUTPUT_SHORT, 0, 0, 1099531488224}, "");
+    text(file, len, 3, 100, (SiiText){SII_OUTPUT_SHORT, 0, 0, 1099531488224, 0}, "");
+    forecast(file, len, 3, (SiiForecast){0, 0, 0, 3, 1099531488224, 12, 5 + 4 + many, 4});
     free(file);
 }
 
@@ -1181,7 +1261,7 @@ static void nothing_at_all(void)
     element(0x27, NULL, 0, 0, cut_element(0, 4));
     element(0x08, NULL, 0, 0, no_element(SII_UNLISTED_TYPE, 0));
     label = "NULL for the output";
-    text(worked, WORKED, 3, 0, (SiiText){SII_OUTPUT_SHORT, 0, 0, 73}, "");
+    text(worked, WORKED, 3, 0, (SiiText){SII_OUTPUT_SHORT, 0, 0, 73, 0}, "");
     label = "NULL for the index or its space";
     write_index(worked, WORKED, 3, 0, (SiiLength){SII_OUTPUT_SHORT, 0, 0, 12}, "");
     check_index(worked, WORKED, 3, "", 0, (SiiChecked){SII_MISFIT, 0, 0});
@@ -1231,11 +1311,12 @@ static void layout(void)
     AT(SiiField, type_id, 24, 4);
     AT(SiiField, part_offset, 32, 8);
     AT(SiiField, part_len, 40, 8);
-    SIZE(SiiText, 32);
+    SIZE(SiiText, 40);
     AT(SiiText, number, 0, 4);
     AT(SiiText, offset, 8, 8);
     AT(SiiText, lacking, 16, 8);
     AT(SiiText, length, 24, 8);
+    AT(SiiText, steps, 32, 8);
     SIZE(SiiLength, 32);
     AT(SiiLength, number, 0, 4);
     AT(SiiLength, offset, 8, 8);
@@ -1245,6 +1326,15 @@ static void layout(void)
     AT(SiiChecked, number, 0, 4);
     AT(SiiChecked, offset, 8, 8);
     AT(SiiChecked, lacking, 16, 8);
+    SIZE(SiiForecast, 64);
+    AT(SiiForecast, number, 0, 4);
+    AT(SiiForecast, offset, 8, 8);
+    AT(SiiForecast, lacking, 16, 8);
+    AT(SiiForecast, table_words, 24, 8);
+    AT(SiiForecast, text_len, 32, 8);
+    AT(SiiForecast, index_len, 40, 8);
+    AT(SiiForecast, largest_block, 48, 8);
+    AT(SiiForecast, steps, 56, 8);
     SIZE(SiiElement, 88);
     AT(SiiElement, number, 0, 4);
     AT(SiiElement, offset, 8, 8);
@@ -1282,7 +1372,7 @@ static void constants(void)
     for (at = 0; at < sizeof kinds / sizeof kinds[0]; at++)
         equal("kind", at + 1, (uint64_t)kinds[at]);
     equal("length limit", 16777216, SII_LENGTH_LIMIT);
-    equal("version", 500, SII_VERSION_MAJOR * 10000 + SII_VERSION_MINOR * 100 + SII_VERSION_PATCH);
+    equal("version", 600, SII_VERSION_MAJOR * 10000 + SII_VERSION_MINOR * 100 + SII_VERSION_PATCH);
 }
 
 int main(void)
@@ -1297,6 +1387,7 @@ int main(void)
         the_worked_file();
         cuts();
         worked_cuts();
+        worked_forecasts();
         marks();
         damage();
         the_widened_file();

@@ -17,6 +17,7 @@ SiiLength __real_sii_write_index(const uint8_t *, size_t, uint32_t *, size_t, ui
 SiiChecked __real_sii_check_index(const uint8_t *, size_t, uint32_t *, size_t, const uint8_t *, size_t);
 SiiField __real_sii_field_by_index(const uint8_t *, size_t, const uint8_t *, size_t, uint64_t, const uint8_t *, size_t);
 SiiNumber __real_sii_defines_once(const uint8_t *, size_t, uint32_t *, size_t);
+SiiForecast __real_sii_forecast(const uint8_t *, size_t, uint32_t *, size_t);
 
 SiiReading __wrap_sii_read(const uint8_t *file, size_t file_len, uint32_t *table, size_t words)
 {
@@ -157,6 +158,12 @@ SiiText __wrap_sii_to_siin(const uint8_t *file, size_t file_len, uint32_t *table
 #elif WRONG == 24 /* something is lacking beside another refusal */
     if (r.number == SII_ENUM_VALUE)
         r.lacking = 1;
+#elif WRONG == 51 /* steps beside the needed length */
+    if (r.number == SII_OUTPUT_SHORT)
+        r.steps = 1;
+#elif WRONG == 52 /* steps that were not made */
+    if (r.number == 0)
+        r.steps = file_len;
 #elif WRONG == 26 /* no semicolon in a text */
     for (size_t at = 0; r.number == 0 && at < r.length; at++)
         output[at] = output[at] == ';' ? ',' : output[at];
@@ -243,6 +250,40 @@ SiiNumber __wrap_sii_defines_once(const uint8_t *file, size_t file_len, uint32_t
 #elif WRONG == 50 /* a word of the table is left */
     if (words > 0)
         table[words - 1] = 1;
+#endif
+    return r;
+}
+
+SiiForecast __wrap_sii_forecast(const uint8_t *file, size_t file_len, uint32_t *table, size_t words)
+{
+    SiiForecast r = __real_sii_forecast(file, file_len, table, words);
+#if WRONG == 53 /* words that are enough, and more than needed */
+    if (r.number == 0)
+        r.table_words = file_len / 17 * 3;
+#elif WRONG == 54 /* the end record is no step */
+    if (r.number == 0)
+        r.steps -= 1;
+#elif WRONG == 55 /* 8 is passed over */
+    if (r.number == SII_FIELD_COUNT)
+        return (SiiForecast){.table_words = 3};
+#elif WRONG == 56 /* 9 is passed over */
+    if (r.number == SII_ENUM_VALUE)
+        return (SiiForecast){.table_words = 3};
+#elif WRONG == 57 /* a full table foretells a larger one */
+    if (r.number == SII_TABLE_FULL)
+        r.table_words = words + 3;
+#elif WRONG == 58 /* the longest block without its number and id */
+    if (r.largest_block > 0)
+        r.largest_block -= 5;
+#elif WRONG == 59 /* only 32 bits of the text's length */
+    r.text_len = (uint32_t)r.text_len;
+#elif WRONG == 60 /* the index in records */
+    r.index_len /= 12;
+#elif WRONG == 61 /* a word of the table is left */
+    if (words > 0)
+        table[words - 1] = 1;
+#elif WRONG == 62 /* the lacking bytes are left out */
+    r.lacking = 0;
 #endif
     return r;
 }

@@ -6,14 +6,15 @@ use native.Mathlib.Omega.{arith}
 use mathlib.Core.List.{List, []}
 use lib.ListN.{length}
 use Rattle.bsii_format.specs.Replies.{Fault, gives, refuses, refusal}
-use Rattle.bsii_format.specs.Calls.{readingCall, fieldCall, Converted, TextAnswer, textCall}
-use Rattle.bsii_derived.specs.IndexCalls.{writeIndexCall, checkIndexCall}
+use Rattle.bsii_format.specs.Calls.{readingCall, prototypeCall, blockCall, namedBlockCall, fieldCall, elementCall, Converted, TextAnswer, textCall}
+use Rattle.bsii_derived.specs.IndexCalls.{writeIndexCall, checkIndexCall, indexFieldCall, definesOnceCall}
 use Rattle.bsii_derived.specs.Forecast.{Forecast, forecastCall}
-use Rattle.bsii_derived.specs.ForecastClaims.{RepliesAsText, StepsAgree, NeverFull, Exact}
+use Rattle.bsii_derived.specs.ForecastClaims.{RepliesAsText, StepsAgree, Roomy, EachCall, NeverFull, Exact}
 use Rattle.bsii_derived.specs.WorkedIndex.{saveA}
 use Rattle.bsii_derived.specs.WorkedForecast.{smallSave}
 use Rattle.bsii_derived.proofs.Computes.{computesForecast}
 use Rattle.bsii_derived.proofs.Forecasts.{exact}
+use Rattle.bsii_derived.proofs.Roomy.{each-call}
 
 -- ---- refused alike
 
@@ -70,7 +71,46 @@ module _ (claim : NeverFull) (s : List ℕ) where
       → writeIndexCall w (a .tableWords + n) s space .reply ≡ refuses x → x .number ≡ 10 → ⊥
   foretold-writes known a e w n space x z = claim .byForecast .writeIndex w space known s a e (a .tableWords + n) (omega arith) x z
 
+-- ---- the same of every call, written out
+
+-- no call that takes a table is refused with x
+abbrev NoneRefused : ℕ → List ℕ → Fault → Type 0
+NoneRefused words s x =
+    (readingCall words s ≡ refuses x → ⊥) × ((n : ℕ) → prototypeCall words s n ≡ refuses x → ⊥) × ((k : ℕ) → blockCall words s k ≡ refuses x → ⊥)
+    × ((name : List ℕ) (n : ℕ) → namedBlockCall words s name n ≡ refuses x → ⊥) × ((k : ℕ) (name : List ℕ) → fieldCall words s k name ≡ refuses x → ⊥)
+    × ((out : List ℕ) → textCall words s out .reply ≡ refuses x → ⊥) × ((w : ℕ) (space : List ℕ) → writeIndexCall w words s space .reply ≡ refuses x → ⊥)
+    × ((w : ℕ) (i : List ℕ) → checkIndexCall w words s i ≡ refuses x → ⊥) × (definesOnceCall words s ≡ refuses x → ⊥) × (forecastCall words s ≡ refuses x → ⊥)
+
+none-refused : (words : ℕ) (s : List ℕ) → EachCall (λ A call. Roomy (call words s)) → (x : Fault) → x .number ≡ 10 → NoneRefused words s x
+none-refused words s e x h = (
+  (λ z. e .reading x z h),
+  (λ n z. e .prototype n x z h),
+  (λ k z. e .block k x z h),
+  (λ name n z. e .namedBlock name n x z h),
+  (λ k name z. e .field k name x z h),
+  (λ out z. e .text out x z h),
+  (λ w space z. e .writeIndex w space x z h),
+  (λ w i z. e .checkIndex w i x z h),
+  (λ z. e .definesOnce x z h),
+  (λ z. e .forecast x z h),
+)
+
+module _ (claim : NeverFull) (words : ℕ) (s : List ℕ) (x : Fault) (ten : x .number ≡ 10) where
+  pub none-by-length : 3 * (length s / 17) ≤ words → NoneRefused words s x
+  none-by-length h = none-refused words s (each-call (λ A call f. f words s h) (claim .byLength)) x ten
+
+  pub none-by-forecast : (known : ℕ) (a : Forecast) → forecastCall known s ≡ gives a → a .tableWords ≤ words → NoneRefused words s x
+  none-by-forecast known a e h = none-refused words s (each-call (λ A call f. f known s a e words h) (claim .byForecast)) x ten
+
+  -- those that take none
+  pub none-without-a-table : ((w : ℕ) (i : List ℕ) (k : ℕ) (name : List ℕ) → indexFieldCall w s i k name ≡ refuses x → ⊥) × ((version t i : ℕ) → elementCall version t s i ≡ refuses x → ⊥)
+  none-without-a-table = ((λ w i k name z. claim .indexField w s i k name x z ten), (λ version t i z. claim .element version t s i x z ten))
+
 -- ---- no 11, and either with less
+
+module _ (claim : Exact) (s i : List ℕ) (x : Fault) (eleven : x .number ≡ 11) where
+  pub no-space-asked : ((w words : ℕ) → checkIndexCall w words s i ≡ refuses x → ⊥) × ((w k : ℕ) (name : List ℕ) → indexFieldCall w s i k name ≡ refuses x → ⊥)
+  no-space-asked = ((λ w words z. claim .checkIndex w words s i x z eleven), (λ w k name z. claim .indexField w s i k name x z eleven))
 
 module _ (claim : Exact) (words : ℕ) (s : List ℕ) (a : Forecast) (e : forecastCall words s ≡ gives a) where
   pub converts-in : (n : ℕ) (out : List ℕ) → a .textLength ≤ length out → textCall (a .tableWords + n) s out .reply ≡ gives (record { size = a .textLength; steps = a .steps })

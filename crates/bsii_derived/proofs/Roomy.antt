@@ -40,7 +40,7 @@ module _ {A : Type 0} {call : ℕ → List ℕ → Reply A} (c : ReadsFirst call
       let g = read-again d words (subst (λ (y : Forecast). y .tableWords ≤ words) (sym p) h) in
       c .roomy f (g .at) x (sym (of-read (c .answer) (parse words s) (g .reads)) ∙ sym (c .reads words s) ∙ z) k
 
-each-call : {P Q : (A : Type 0) → (ℕ → List ℕ → Reply A) → Type 0} → ((A : Type 0) (call : ℕ → List ℕ → Reply A) → P A call → Q A call) → EachCall P → EachCall Q
+pub each-call : {P Q : (A : Type 0) → (ℕ → List ℕ → Reply A) → Type 0} → ((A : Type 0) (call : ℕ → List ℕ → Reply A) → P A call → Q A call) → EachCall P → EachCall Q
 each-call g e = record {
   reading = g _ _ (e .reading);
   prototype = λ n. g _ _ (e .prototype n);

@@ -73,14 +73,14 @@ pub record NeverFull : Type 0 where
   pub indexField : (w : ℕ) (s i : List ℕ) (k : ℕ) (name : List ℕ) → Roomy (indexFieldCall w s i k name)
   pub element : (version t : ℕ) (s : List ℕ) (i : ℕ) → Roomy (elementCall version t s i)
 
--- ---- 11 and 10: "no text or index call 11; for a save that converts with them, the text call gives one with any smaller table or output"
+-- ---- 11 and 10: "no text or index call 11"; "for a save that converts with them, the text call gives one with any smaller table or output"
 
 -- with at least the words and bytes of the forecast
 pub record Enough (s : List ℕ) (a : Forecast) : Type 0 where
   pub text : (words : ℕ) (out : List ℕ) → a .tableWords ≤ words → a .textLength ≤ length out → textCall words s out .reply ≡ gives (record { size = a .textLength; steps = a .steps })
   pub writeIndex : (words : ℕ) (space : List ℕ) → a .tableWords ≤ words → a .indexLength ≤ length space → writeIndexCall indexWidth words s space .reply ≡ gives (a .indexLength)
 
--- with fewer: 10 at some prototype, whatever the output; 11 with the needed length
+-- with fewer: 10, whatever the output; 11 with the needed length
 pub record Needed (s : List ℕ) (a : Forecast) : Type 0 where
   pub table : (words : ℕ) (out : List ℕ) → words < a .tableWords → (x : ℕ) × (textCall words s out ≡ record { reply = refusal tableFull x; needed = 0; output = out })
   pub output : (words : ℕ) (out : List ℕ) → a .tableWords ≤ words → length out < a .textLength

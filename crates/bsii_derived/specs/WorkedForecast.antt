@@ -55,5 +55,6 @@ forecasts =
 unfoldable pub conversions : List (Fact TextAnswer)
 conversions =
     textCall 3 saveA (replicate 51 1) says written 6 (ascii "SiiNunit\n{\nt : null {\n  n: 5\n}\nt : x {\n  n: 7\n}\n}\n") (1 ∷ []) ∷
+    textCall 3 saveA (replicate 50 1) says written 6 (ascii "SiiNunit\n{\nt : null {\n  n: 5\n}\nt : x {\n  n: 7\n}\n}\n") [] ∷
     textCall 3 saveA (replicate 49 1) says unwritten outputShort 0 50 (replicate 49 1) ∷
     textCall 2 saveA (replicate 50 1) says unwritten tableFull 8 0 (replicate 50 1) ∷ []

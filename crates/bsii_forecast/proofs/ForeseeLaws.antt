@@ -3,24 +3,25 @@
 use mathlib.Core.Path.{_≡_, refl, sym, ap, _∙_, subst}
 use Prim.Native.Nat.{ℕ, _+_, _*_, _/_, _≤_, _<_}
 use native.Mathlib.Omega.{arith}
-use mathlib.Core.List.{List, []}
+use mathlib.Core.List.{List, [], _∷_}
 use lib.ListN.{length, getD, drop}
 use Rattle.bsii_format.specs.Replies.{Reply, gives, refuses}
 use Rattle.bsii_format.specs.Reader.{Result, ok, fault}
-use Rattle.bsii_format.specs.File.{BsiiFile, recordBytes, prototypesOf, distinctIds, lengthLimit, parse}
+use Rattle.bsii_format.specs.File.{Record, prototype, block, BsiiFile, recordBytes, prototypesOf, distinctIds, lengthLimit, parse}
 use Rattle.bsii_format.specs.Text.{valueText}
 use Rattle.bsii_format.specs.BlockText.{joined, fileOpening, closing, everyBlock, recordsText, fileText}
-use Rattle.bsii_format.specs.Calls.{ofFile, placedRecords, blocksOf, stepsOf, textOf}
+use Rattle.bsii_format.specs.Calls.{ofFile, placedRecords, blocksOf, recordSteps, recordsSteps, stepsOf, textOf}
 use Rattle.bsii_format.proofs.ReplyLaws.{refuses≢gives, gives-inj}
 use Rattle.bsii_derived.specs.Forecast.{largestIn, forecastOf, foretold, forecastCall}
 use Rattle.bsii_format.proofs.File.{file-good, parse-ok}
+use Rattle.bsii_derived.proofs.Claims.{was-read as was-parsed}
+use Rattle.bsii_derived.proofs.Steps.{steps-few}
 use Rattle.bsii_length.proofs.Bounded.{text-bounded}
 use Rattle.bsii_string.specs.Answers.{faultIs}
 use Rattle.bsii_string.specs.declared.answers.Refusal.{Refusal}
-use Rattle.bsii_parse.specs.Walks.{ReadFile}
+use Rattle.bsii_parse.specs.Walks.{blockCount, ReadFile}
 use Rattle.bsii_parse.specs.declared.walk.Totals.{Totals}
 use Rattle.bsii_parse.proofs.Whole.{file-parts, blocks-counted}
-use Rattle.bsii_index.proofs.Counting.{blocks-limited}
 use Rattle.bsii_walk.specs.Seek.{WalkAt}
 use Rattle.bsii_file.proofs.Lookups.{WasRead, was-read, read-answers, unread-refuses, holds-last}
 use Rattle.bsii_file.proofs.Rereading.{walk-first}
@@ -105,14 +106,21 @@ module _ (s t : List ℕ) {r : Measuring} {t′ : List ℕ} (k : MeasuresFile s 
 
 -- ---- the call
 
+-- a block is a step
+blocks-few : (l : List Record) → blockCount l ≤ recordsSteps l
+unfolding blockCount recordsSteps recordSteps
+blocks-few [] = omega arith
+blocks-few (prototype p ∷ l) = omega (arith, blocks-few l)
+blocks-few (block b ∷ l) = omega (arith, blocks-few l)
+
 -- the products fit: no more ids than a third of the words, no more blocks than the limit has bytes
 pub figures-fit : {s t : List ℕ} {r : Foreseen} {t′ : List ℕ} → Foresees s t r t′ → {a : Figures} → r ≡ Told a → (3 * a .rows ≤ length t) × (a .blocks ≤ lengthLimit)
-unfolding prototypesOf blocksOf placedRecords
+unfolding prototypesOf blocksOf placedRecords stepsOf
 figures-fit {s} {t} (foreseen f x e h w l) {a} z =
     let same : figuresOf f x ≡ a = cc in
     subst (λ (a : Figures). (3 * a .rows ≤ length t) × (a .blocks ≤ lengthLimit)) same (
       omega (arith, file-good (length t / 3) s f _ _ (parse-ok (length t) s e .1) .good .roomed),
-      omega (arith, blocks-limited (length t) s e, blocks-counted (λ r. length (recordBytes r)) (length (f .header .raw)) (f .records)),
+      omega (arith, steps-few (was-parsed (length t) s e), blocks-few (f .records), parse-ok (length t) s e .0, blocks-counted (λ r. length (recordBytes r)) (length (f .header .raw)) (f .records)),
     )
 figures-fit (unforeseen e l) z = let x : _≡_ {A = ℕ} 0 1 = cc in absurd (omega arith)
 

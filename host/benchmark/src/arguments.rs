@@ -17,19 +17,21 @@ Usage: benchmark [--rounds N] [--only INPUT]... [--markdown] [--plot FILE]
 Times the library and the unchanged Rust on the same inputs, in one process and
 in turns: reading with the Rust's parse, the text call with the Rust's parse and
 to_siin. Then, but where the table is larger: the calls about an index beside
-the reading and a look-up by one beside the field call; and each side converts
-each input in a process of its own, for the peak of its memory. On the saves,
-whole processes are timed too: the command, which has to stand beside this
-program (cargo build -p command), a program over the crate, and one over the
-Rust. The report goes to standard output.
+the reading and a look-up by one beside the field call; the forecast beside the
+text call, with room and without; and each side converts each input in a process
+of its own, for the peak of its memory. On the saves, whole processes are timed
+too: the command, which has to stand beside this program (cargo build -p
+command), a program over the crate, and one over the Rust. The report goes to
+standard output.
 
 With --instructions nothing is timed: the instructions of one call are counted,
 each call in a process of its own under callgrind, for which valgrind has to be
 installed; that takes no root. The calls are reading and text as above; field,
 the field call for the first field of the block in the middle, and for the Rust
 its parse and its look-up of the same; and without the Rust, which has none, the
-calls about an index. Without --only it takes a minute or two, for save-1,
-save-7 and the hostile files but enums.
+calls about an index, the forecast, and measuring, the text call without room,
+which ends behind its first walk. Without --only it takes some minutes, for
+save-1, save-7 and the hostile files but enums.
 
   --instructions       count instructions
   --rounds N           so many rounds, from 1 up; without it 9
@@ -40,9 +42,10 @@ save-7 and the hostile files but enums.
                        if INPUT is -, the file is read from standard input
   --convert SIDE FILE  convert FILE to standard output, as a process that is timed
   --one-call ...       do one call, as a process whose instructions are counted:
-                       reading, text, field, write, check, once or look-up, with
-                       a table of so many words, room for so many bytes of text,
-                       and the block and the field's name for the field call
+                       reading, text, field, write, check, once, look-up,
+                       forecast or measuring, with a table of so many words,
+                       room for so many bytes of text, and the block and the
+                       field's name for the field call
   --write INPUT        write the input's bytes to standard output
   -h, --help           print this and exit
 

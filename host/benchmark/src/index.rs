@@ -44,7 +44,7 @@ fn questions(file: &[u8]) -> Result<Vec<(u64, String)>, String> {
     Ok((0..asked).map(question).collect())
 }
 
-fn seconds<T>(call: impl FnOnce() -> T) -> f64 {
+pub fn seconds<T>(call: impl FnOnce() -> T) -> f64 {
     let start = Instant::now();
     black_box(call());
     start.elapsed().as_secs_f64()

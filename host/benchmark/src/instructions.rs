@@ -3,7 +3,7 @@
 
 use crate::arguments::Side;
 use crate::inputs::{Input, NORMAL};
-use crate::one_call::{rust_finds, Asked, Call, COMPARED, INDEX, LOOK_UPS};
+use crate::one_call::{rust_finds, Asked, Call, COMPARED, FORECAST, INDEX, LOOK_UPS};
 use crate::report::{markdown_tables, plain_tables, Section, Table};
 use crate::sides::{agreed, lent};
 use crate::temporary::Temporary;
@@ -22,6 +22,8 @@ struct Row {
     index: [u64; 3],
     /// The mean of all look-ups.
     look_up: f64,
+    /// Of `FORECAST`.
+    forecast: [u64; 2],
 }
 
 impl Row {
@@ -129,12 +131,17 @@ fn row(input: &Input) -> Result<Row, String> {
     for (call, ours) in INDEX.into_iter().zip(&mut index) {
         *ours = of(Side::Ours, call)?;
     }
+    let mut forecast = [0; 2];
+    for (call, ours) in FORECAST.into_iter().zip(&mut forecast) {
+        *ours = of(Side::Ours, call)?;
+    }
     Ok(Row {
         name: input.name.clone(),
         bytes: file.len(),
         compared,
         index,
         look_up: of(Side::Ours, Call::LookUp)? as f64 / look_ups as f64,
+        forecast,
     })
 }
 
@@ -232,11 +239,42 @@ fn look_ups(rows: &[Row]) -> Table {
     }
 }
 
-fn sections(rows: &[Row]) -> [Section; 3] {
+/// The text call without room ends behind its first walk.
+fn forecast(rows: &[Row]) -> Table {
+    let line = |row: &Row| {
+        let [forecast, measuring] = row.forecast;
+        let text = row.ours(Call::Text);
+        vec![
+            row.name.clone(),
+            million(forecast),
+            million(measuring),
+            million(text),
+            digits(4, row.per_byte(forecast)),
+            ratio(forecast as f64, measuring as f64),
+            ratio(forecast as f64, text as f64),
+        ]
+    };
+    Table {
+        heads: vec![
+            "input",
+            "forecast, million",
+            "text without room, million",
+            "text, million",
+            "forecast, a byte",
+            "forecast / text without room",
+            "forecast / text",
+        ],
+        words: 1,
+        lines: rows.iter().map(line).collect(),
+    }
+}
+
+fn sections(rows: &[Row]) -> [Section; 4] {
     [
         ("Instructions", compared(rows)),
         ("Instructions: index", index(rows)),
         ("Instructions: look-ups by index", look_ups(rows)),
+        ("Instructions: forecast", forecast(rows)),
     ]
 }
 
@@ -328,6 +366,7 @@ mod tests {
             compared: [(10_000_000, rust); 3],
             index: [15_000_000; 3],
             look_up: 2500.0,
+            forecast: [4_000_000, 5_000_000],
         };
         let rows = [row("save-7", Some(45_000_000)), row("triples", None)];
         let shown = markdown_tables(&sections(&rows));
@@ -336,6 +375,7 @@ mod tests {
             "| triples | field | 10.00 | - | 10.00 | 1.00 | - |",
             "| save-7 | write | 15.00 | 15.00 | 1.50 |",
             "| triples | 10.00 | 2500 | 4000 |",
+            "| triples | 4.000 | 5.000 | 10.00 | 4.000 | 0.800 | 0.400 |",
         ] {
             assert!(shown.lines().any(|shown| shown == line), "{line}\n{shown}");
         }

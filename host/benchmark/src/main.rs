@@ -3,6 +3,7 @@
 #![forbid(unsafe_code)]
 
 mod arguments;
+mod forecast;
 mod hostile;
 mod index;
 mod inputs;
@@ -92,16 +93,17 @@ fn timed(input: &Input, rounds: usize) -> Result<(Vec<u8>, Timed), String> {
 
 fn row(input: Input, rounds: usize) -> Result<Row, String> {
     let (file, timed) = timed(&input, rounds)?;
-    let (peaks, index) = if inputs::is_larger(&input.name) {
-        (None, None)
+    let (peaks, index, forecast) = if inputs::is_larger(&input.name) {
+        (None, None, None)
     } else {
         let peaks = Peaks {
             ours: memory::of_child(Side::Ours, &file)?,
             rust: memory::of_child(Side::Rust, &file)?,
         };
-        let index = index::time(&file, rounds);
-        let index = index.map_err(|what| format!("{}: {what}", input.name))?;
-        (Some(peaks), Some(index))
+        let of = |what| format!("{}: {what}", input.name);
+        let index = index::time(&file, rounds).map_err(of)?;
+        let forecast = forecast::time(&file, rounds).map_err(of)?;
+        (Some(peaks), Some(index), Some(forecast))
     };
     let processes = if inputs::is_save(&input.name) {
         processes::time(&file, rounds)?
@@ -111,6 +113,7 @@ fn row(input: Input, rounds: usize) -> Result<Row, String> {
     Ok(Row {
         timed,
         index,
+        forecast,
         peaks,
         processes,
         name: input.name,

@@ -15,12 +15,16 @@ pub enum Call {
     Check,
     Once,
     LookUp,
+    Forecast,
+    Measuring,
 }
 
 /// The calls that the Rust has a counterpart of.
 pub const COMPARED: [Call; 3] = [Call::Reading, Call::Text, Call::Field];
 /// Those about an index that read the whole file.
 pub const INDEX: [Call; 3] = [Call::Write, Call::Check, Call::Once];
+/// The forecast, and the text call without room, which ends behind its first walk.
+pub const FORECAST: [Call; 2] = [Call::Forecast, Call::Measuring];
 /// So many blocks, spread over the file, are looked up, or all if there are fewer.
 pub const LOOK_UPS: u64 = 1000;
 
@@ -37,12 +41,18 @@ impl Call {
             Call::Check => "check",
             Call::Once => "once",
             Call::LookUp => "look-up",
+            Call::Forecast => "forecast",
+            Call::Measuring => "measuring",
         }
     }
 
+    fn all() -> impl Iterator<Item = Call> {
+        let of_files = COMPARED.into_iter().chain(INDEX).chain(FORECAST);
+        of_files.chain([Call::LookUp])
+    }
+
     pub fn by_name(name: &str) -> Option<Call> {
-        let mut all = COMPARED.into_iter().chain(INDEX).chain([Call::LookUp]);
-        all.find(|call| call.name() == name)
+        Call::all().find(|call| call.name() == name)
     }
 
     /// The functions below which instructions are counted, as callgrind names them. Ours are called
@@ -51,7 +61,8 @@ impl Call {
         match (side, self) {
             (Side::Rust, _) => "benchmark*::one_call::counted*",
             (Side::Ours, Call::Reading) => "sii_read",
-            (Side::Ours, Call::Text) => "sii_to_siin",
+            (Side::Ours, Call::Text | Call::Measuring) => "sii_to_siin",
+            (Side::Ours, Call::Forecast) => "sii_forecast",
             (Side::Ours, Call::Field) => "sii_field_of",
             (Side::Ours, Call::Write) => "sii_write_index",
             (Side::Ours, Call::Check) => "sii_check_index",
@@ -101,6 +112,8 @@ fn ours(file: &[u8], call: Call, asked: &Asked) -> Result<(), String> {
         }
         Call::Once => library::defines_once(file, &mut table).number,
         Call::LookUp => look_ups(file)?,
+        Call::Forecast => library::forecast(file, &mut table).number,
+        Call::Measuring => measured(library::to_siin(file, &mut table, &mut []).number),
     };
     match number {
         0 => Ok(()),
@@ -112,6 +125,14 @@ fn ours(file: &[u8], call: Call, asked: &Asked) -> Result<(), String> {
 fn found_or_absent(number: u32) -> u32 {
     match number {
         13 => 0,
+        _ => number,
+    }
+}
+
+/// Nothing is refused but the room that the text has not.
+fn measured(number: u32) -> u32 {
+    match number {
+        11 => 0,
         _ => number,
     }
 }
@@ -191,14 +212,10 @@ mod tests {
         }
     }
 
-    fn all() -> impl Iterator<Item = Call> {
-        COMPARED.into_iter().chain(INDEX).chain([Call::LookUp])
-    }
-
     #[test]
     fn every_call_is_done() {
         let (file, asked) = (generate::worked_bytes(), asked("km"));
-        for call in all() {
+        for call in Call::all() {
             assert_eq!(ours(&file, call, &asked), Ok(()), "{call:?}");
             let is_compared = COMPARED.contains(&call);
             assert_eq!(rust(&file, call, &asked).is_ok(), is_compared, "{call:?}");
@@ -220,7 +237,7 @@ mod tests {
 
     #[test]
     fn refusals_are_said() {
-        for call in all() {
+        for call in Call::all() {
             assert!(ours(b"BSII", call, &asked("")).is_err(), "{call:?}");
             assert!(
                 rust(b"NONE\x02\0\0\0", call, &asked("")).is_err(),

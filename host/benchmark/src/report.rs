@@ -1,5 +1,6 @@
 //! The tables, as plain text and as Markdown, and what they say about the bar.
 
+use crate::forecast::ForecastTimes;
 use crate::index::{Beside, IndexTimes};
 use crate::inputs::{is_hostile, is_larger, NORMAL};
 use crate::machine;
@@ -14,6 +15,8 @@ pub struct Row {
     pub timed: Timed,
     /// None where the table is larger.
     pub index: Option<IndexTimes>,
+    /// None where the table is larger.
+    pub forecast: Option<ForecastTimes>,
     /// None where the table is larger.
     pub peaks: Option<Peaks>,
     /// Of saves.
@@ -242,6 +245,32 @@ fn look_ups(rows: &[Row]) -> Table {
     }
 }
 
+fn forecast(rows: &[Row]) -> Table {
+    let line = |row: &Row| {
+        let forecast = row.forecast.as_ref()?;
+        Some(vec![
+            row.name.clone(),
+            grouped(row.timed.bytes as u64),
+            spread(forecast.time.times(1e3)),
+            rounded(per_byte(forecast.time, row.timed.bytes)),
+            spread(forecast.to_measuring),
+            spread(forecast.to_text),
+        ])
+    };
+    Table {
+        heads: vec![
+            "input",
+            "bytes",
+            "ms",
+            "ns/byte",
+            "forecast / text without room",
+            "forecast / text",
+        ],
+        words: 1,
+        lines: rows.iter().filter_map(line).collect(),
+    }
+}
+
 fn memory(rows: &[Row]) -> Table {
     let mega = |bytes: u64| rounded(bytes as f64 / 1e6);
     let lines = rows
@@ -368,6 +397,7 @@ fn sections(rows: &[Row]) -> Vec<Section> {
         ),
         ("Index", index(rows)),
         ("Look-ups by index", look_ups(rows)),
+        ("Forecast", forecast(rows)),
         ("Whole processes", processes(rows)),
         ("Peak memory", memory(rows)),
         ("The bar", bar(rows)),
@@ -446,6 +476,11 @@ mod tests {
                 look_up: flat(seconds / 4.0),
                 ratio: flat(4.0),
             }),
+            forecast: (!is_larger(name)).then(|| ForecastTimes {
+                time: flat(seconds),
+                to_measuring: flat(1.0),
+                to_text: flat(0.5),
+            }),
             peaks: (!is_larger(name)).then_some(Peaks {
                 ours: 4_000_000,
                 rust: 8_000_000,
@@ -498,7 +533,7 @@ mod tests {
             row("rows-random", 0.3, 1.0),
         ];
         let sections = sections(&rows);
-        assert_eq!(sections.len(), 8);
+        assert_eq!(sections.len(), 9);
         for (_, table) in sections {
             assert!(table
                 .lines
@@ -526,6 +561,7 @@ mod tests {
                 "Times",
                 "Index",
                 "Look-ups by index",
+                "Forecast",
                 "Peak memory"
             ]
         );
@@ -548,6 +584,13 @@ mod tests {
         assert!(shown.contains(write), "{shown}");
         let look_up = "\n| save-7 | 1,000,000 | 10.0 (10.0 to 10.0) | 2500 (2500 to 2500) | 4.00 (4.00 to 4.00) |\n";
         assert!(shown.contains(look_up), "{shown}");
+    }
+
+    #[test]
+    fn forecasts() {
+        let shown = markdown(&[row("save-7", 0.01, 2.0)], 1);
+        let line = "\n| save-7 | 1,000,000 | 10.0 (10.0 to 10.0) | 10.0 | 1.00 (1.00 to 1.00) | 0.50 (0.50 to 0.50) |\n";
+        assert!(shown.contains(line), "{shown}");
     }
 
     #[test]

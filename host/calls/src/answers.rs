@@ -102,6 +102,8 @@ pub struct Text {
     pub lacking: u64,
     /// The text's length; for reply 11 the length that is needed.
     pub length: u64,
+    /// Of the walk; 0 in every refusal.
+    pub steps: u64,
 }
 
 /// An index is written.
@@ -124,14 +126,38 @@ pub struct Checked {
     pub lacking: u64,
 }
 
-macro_rules! plain_answers {
+/// What a save will need. A refusal foretells nothing: all of it is 0 there.
+#[repr(C)]
+#[derive(Clone, Copy, Debug, Default, PartialEq, Eq)]
+pub struct Forecast {
+    pub number: u32,
+    pub offset: u64,
+    pub lacking: u64,
+    pub table_words: u64,
+    pub text_len: u64,
+    pub index_len: u64,
+    /// In bytes of the file; 0 without blocks.
+    pub largest_block: u64,
+    pub steps: u64,
+}
+
+macro_rules! refusals {
     ($($answer:ident),*) => {$(
         impl $answer {
             /// With nothing lacking.
             pub fn refused(number: u32, offset: u64) -> Self {
                 $answer { number, offset, ..Default::default() }
             }
+        }
+    )*};
+}
 
+refusals!(Reading, Prototype, Block, Number, Field, Element);
+refusals!(Text, Length, Checked, Forecast);
+
+macro_rules! plain_answers {
+    ($($answer:ident),*) => {$(
+        impl $answer {
             /// The answer with the fields that mean nothing set to zero.
             pub fn known(self) -> Self {
                 if self.number != 0 {
@@ -147,34 +173,27 @@ macro_rules! plain_answers {
 
 plain_answers!(Reading, Prototype, Block, Number, Field);
 
-impl Checked {
-    /// With nothing lacking.
-    pub fn refused(number: u32, offset: u64) -> Self {
-        Checked {
-            number,
-            offset,
-            lacking: 0,
+/// Answers all of whose fields mean something in a refusal too.
+macro_rules! whole_answers {
+    ($($answer:ident),*) => {$(
+        impl $answer {
+            /// The answer with the fields that mean nothing set to zero.
+            pub fn known(self) -> Self {
+                match self.number {
+                    0 => $answer { offset: 0, ..self },
+                    _ => self,
+                }
+            }
         }
-    }
-
-    /// The answer with the fields that mean nothing set to zero.
-    pub fn known(self) -> Self {
-        match self.number {
-            0 => Checked { offset: 0, ..self },
-            _ => self,
-        }
-    }
+    )*};
 }
+
+whole_answers!(Checked, Forecast);
 
 /// Answers with a length, which reply 11 has too.
 macro_rules! lengths {
     ($($answer:ident),*) => {$(
         impl $answer {
-            /// With nothing lacking.
-            pub fn refused(number: u32, offset: u64) -> Self {
-                $answer { number, offset, ..Default::default() }
-            }
-
             /// The answer with the fields that mean nothing set to zero.
             pub fn known(self) -> Self {
                 match self.number {
@@ -216,14 +235,6 @@ pub fn one_nan(bits: u32) -> u32 {
 }
 
 impl Element {
-    pub fn refused(number: u32, offset: u64) -> Self {
-        Element {
-            number,
-            offset,
-            ..Default::default()
-        }
-    }
-
     /// The answer with every NaN as the one that there is.
     pub fn with_one_nan(mut self) -> Self {
         if self.kind != kind::THREE_I32 {
@@ -322,5 +333,6 @@ answers!(
     Element element,
     Text text,
     Length length,
-    Checked checked
+    Checked checked,
+    Forecast forecast
 );

@@ -6,12 +6,23 @@
 mod answers;
 
 pub use answers::{
-    kind, one_nan, parts_of, Answer, Block, Checked, Element, Field, Length, Number, Prototype,
-    Reading, Text, ONE_NAN,
+    kind, one_nan, parts_of, Answer, Block, Checked, Element, Field, Forecast, Length, Number,
+    Prototype, Reading, Text, ONE_NAN,
 };
 
 /// The bytes of an index that one block has.
 pub const RECORD: usize = 12;
+
+/// The words of a table that one prototype id has.
+pub const ROW: usize = 3;
+
+/// The fewest bytes that a prototype has.
+pub const SHORTEST_PROTOTYPE: usize = 17;
+
+/// The words of a table that are enough for every file of so many bytes.
+pub const fn enough_words(file: usize) -> usize {
+    ROW * (file / SHORTEST_PROTOTYPE)
+}
 
 /// The length that every call with a file refuses above (reply 12).
 pub const LENGTH_LIMIT: usize = 16_777_216;
@@ -55,6 +66,7 @@ pub enum Call<'a> {
         name: &'a [u8],
     },
     DefinesOnce,
+    Forecast,
 }
 
 impl Call<'_> {
@@ -72,6 +84,7 @@ impl Call<'_> {
             Call::CheckIndex { .. } => "check_index",
             Call::FieldByIndex { .. } => "field_by_index",
             Call::DefinesOnce => "defines_once",
+            Call::Forecast => "forecast",
         }
     }
 }

@@ -10,6 +10,7 @@ pub const VERSION: &str = concat!("sii-decode ", env!("CARGO_PKG_VERSION"), "\n"
 pub const HELP: &str = "\
 Usage: sii-decode [-o FILE] SAVE
        sii-decode [-o FILE] info SAVE
+       sii-decode [-o FILE] forecast SAVE
        sii-decode [-o FILE] prototypes SAVE
        sii-decode [-o FILE] prototype ID SAVE
        sii-decode [-o FILE] blocks [NAME] SAVE
@@ -24,6 +25,7 @@ Writes a BSII save as SiiNunit text, or answers a question about it.
 SAVE is a file of at most 16777216 bytes; - is standard input.
 
   info             how many prototypes, blocks and bytes the save has
+  forecast         what converting it takes: table, text, index and steps
   prototypes       each prototype of a block: id, name and number of fields
   prototype ID     the prototype with this id: its name and number of fields
   blocks           each block: its number, its prototype's name and its id
@@ -45,8 +47,9 @@ Exit status: 0 if all went well, 1 if a save, an index or the question was
 refused, 2 for wrong usage and for failed reading or writing.
 ";
 
-const QUESTIONS: [&str; 9] = [
+const QUESTIONS: [&str; 10] = [
     "info",
+    "forecast",
     "prototypes",
     "prototype",
     "blocks",
@@ -59,6 +62,7 @@ const QUESTIONS: [&str; 9] = [
 
 pub enum Question {
     Info,
+    Forecast,
     Prototypes,
     Prototype(u32),
     Blocks,
@@ -246,6 +250,7 @@ fn question(mut plain: Vec<OsString>, commands: bool) -> Result<Asked, Failure> 
     let wanted: &[&str] = match first {
         _ if !commands => &["SAVE"],
         b"info" => &["info", "SAVE"],
+        b"forecast" => &["forecast", "SAVE"],
         b"prototypes" => &["prototypes", "SAVE"],
         b"prototype" => &["prototype", "ID", "SAVE"],
         b"blocks" if plain.len() < 3 => &["blocks", "SAVE"],
@@ -278,6 +283,7 @@ fn question(mut plain: Vec<OsString>, commands: bool) -> Result<Asked, Failure> 
     let mut index = None;
     let question = match wanted[0] {
         "info" => Some(Question::Info),
+        "forecast" => Some(Question::Forecast),
         "prototypes" => Some(Question::Prototypes),
         "prototype" => Some(Question::Prototype(number(&next())?)),
         "blocks" if wanted.len() < 3 => Some(Question::Blocks),
@@ -386,6 +392,7 @@ mod tests {
         assert_eq!(near(b"protoypes"), Some("prototypes"));
         assert_eq!(near(b"protoype"), Some("prototype"));
         assert_eq!(near(b"indexes"), Some("index"));
+        assert_eq!(near(b"forcast"), Some("forecast"));
         assert_eq!(near(b"blcok"), Some("block"));
         assert_eq!(near(b"bloks"), Some("blocks"));
         assert_eq!(near(b"game.sii"), None);

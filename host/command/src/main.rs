@@ -122,6 +122,7 @@ fn answer(
     output: Option<&Path>,
 ) -> Result<(), Failure> {
     let file = match (index, question) {
+        (_, Question::Forecast) => return forecast(content, output),
         (Some(index), _) => BsiiFile::with_index(content, &index.bytes)?,
         // An index would cost more readings than it saves.
         (None, Question::Info | Question::Prototype(_) | Question::Field(..)) => {
@@ -182,9 +183,21 @@ fn answer(
             let index = index_of(&file)?;
             output::write(output, |out| out.write_all(index))
         }
-        // That it fits was found out above.
-        Question::Check => Ok(()),
+        // What is foretold was told above, and that the index fits was found out.
+        Question::Forecast | Question::Check => Ok(()),
     }
+}
+
+/// The save is not opened for it.
+fn forecast(content: &[u8], output: Option<&Path>) -> Result<(), Failure> {
+    let foretold = sii_decode::forecast(content)?;
+    output::write(output, |out| {
+        writeln!(out, "table {}", foretold.table_words)?;
+        writeln!(out, "text {}", foretold.text_len)?;
+        writeln!(out, "index {}", foretold.index_len)?;
+        writeln!(out, "largest {}", foretold.largest_block)?;
+        writeln!(out, "steps {}", foretold.steps)
+    })
 }
 
 fn index_of<'f>(file: &'f BsiiFile) -> Result<&'f [u8], Failure> {

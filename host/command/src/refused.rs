@@ -148,6 +148,7 @@ fn absent(content: &[u8], question: &Question) -> Option<String> {
     };
     match question {
         Question::Info
+        | Question::Forecast
         | Question::Prototypes
         | Question::Blocks
         | Question::Index

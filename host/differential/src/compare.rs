@@ -1,5 +1,6 @@
 //! One file, all sides.
 
+use crate::forecast_side::Foretold;
 use crate::model_side::{element_fault, Pair};
 use crate::oracle_side::{self, Verdict};
 use crate::plan::Plan;
@@ -35,12 +36,12 @@ impl Comparison {
         let verdict = Verdict::new(file, &stand_in, &mut self.planner, tally)?;
         let garbage = random.number() as u32;
         let mut model = Side::new("model", &mut self.model, garbage);
-        oracle_side::compare(&mut model, file, &plan, &verdict, tally)?;
+        by_itself(&mut model, file, &plan, &verdict, random, tally)?;
         let Some(library) = &mut self.library else {
             return Ok(());
         };
         let mut library = Side::new("library", library.as_mut(), garbage);
-        oracle_side::compare(&mut library, file, &plan, &verdict, tally)?;
+        by_itself(&mut library, file, &plan, &verdict, random, tally)?;
         let mut pair = Pair {
             library: &mut library,
             model: &mut model,
@@ -86,4 +87,24 @@ impl Comparison {
         };
         pair.element(version, type_id, part, index)
     }
+}
+
+/// What takes no other implementation than the Rust.
+fn by_itself(
+    side: &mut Side<'_>,
+    file: &[u8],
+    plan: &Plan,
+    verdict: &Verdict<'_>,
+    random: &mut Random,
+    tally: &mut Tally,
+) -> Check {
+    oracle_side::compare(side, file, plan, verdict, tally)?;
+    let mut foretold = Foretold {
+        side,
+        file,
+        plan,
+        random,
+        tally,
+    };
+    foretold.compare()
 }

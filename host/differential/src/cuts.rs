@@ -131,7 +131,7 @@ impl<'a, 'b> Asked<'a, 'b> {
     /// One of the other calls with a file says the same as the reading call.
     fn other_call(&mut self, file: &[u8], words: usize, expected: Fault) -> Check {
         let (n, name) = (0, &b""[..]);
-        let call = match self.random.below(8) {
+        let call = match self.random.below(9) {
             0 => Call::GetPrototype { id: 1 },
             1 => Call::BlockAt { n },
             2 => Call::BlocksByPrototypeName { name, n },
@@ -139,6 +139,7 @@ impl<'a, 'b> Asked<'a, 'b> {
             4 => Call::WriteIndex,
             5 => Call::CheckIndex { index: b"none" },
             6 => Call::DefinesOnce,
+            7 => Call::Forecast,
             _ => Call::ToSiin,
         };
         let found = self.side.ask(call, file, words)?.fault();

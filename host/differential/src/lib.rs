@@ -2,6 +2,7 @@
 
 pub mod compare;
 pub mod cuts;
+mod forecast_side;
 mod index_side;
 pub mod large;
 #[cfg(feature = "linked")]

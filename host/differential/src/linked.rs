@@ -31,6 +31,7 @@ impl Implementation for Linked {
                 Answer::Field(library::field_by_index(file, index, block, name))
             }
             Call::DefinesOnce => Answer::Number(library::defines_once(file, table)),
+            Call::Forecast => Answer::Forecast(library::forecast(file, table)),
         }
     }
 }

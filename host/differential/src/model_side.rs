@@ -4,7 +4,7 @@ use crate::plan::{indices, Plan, TEXT_MEMORY};
 use crate::report::{Check, Difference, Tally};
 use crate::side::Side;
 use crate::stand_in::StandIn;
-use calls::{Answer, Call, Implementation, Lent, Text};
+use calls::{enough_words, Answer, Call, Implementation, Lent, Text, ROW};
 use generate::index::changed;
 use generate::Random;
 use model::Model;
@@ -37,6 +37,13 @@ impl Pair<'_, '_> {
         let asked = || format!("{words} words, {call:?}");
         self.tally
             .same((WHO, call.name()), asked, found, expected)?;
+        let number = found.number() as usize;
+        match call {
+            Call::CheckIndex { .. } => self.tally.checks[number] += 1,
+            Call::FieldByIndex { .. } => self.tally.look_ups[number] += 1,
+            Call::Forecast => self.tally.forecasts[number] += 1,
+            _ => {}
+        }
         Ok(found)
     }
 
@@ -128,9 +135,9 @@ impl Pair<'_, '_> {
             .same((WHO, "text bytes"), String::new, found, expected)
     }
 
-    /// Exactly enough words, one too few, small tables and a large one.
+    /// Exactly enough words, one too few, small tables and large ones: the forecast with all of them.
     fn table_sizes(&mut self, plan: &Plan, random: &mut Random) -> Check {
-        let exact = 3 * plan.distinct.unwrap_or(3);
+        let exact = ROW * plan.distinct.unwrap_or(3);
         let less = random.below(exact + 1);
         let sizes = [
             0,
@@ -142,7 +149,11 @@ impl Pair<'_, '_> {
             exact.saturating_sub(1),
             less,
             3 * exact + 40,
+            enough_words(self.file.len()),
         ];
+        for words in sizes {
+            self.both(Call::Forecast, words)?;
+        }
         for _ in 0..TABLE_SIZES {
             let wrong = changed(random, &plan.index.index);
             self.table_size(plan, &wrong, random.pick(&sizes))?;
@@ -152,21 +163,10 @@ impl Pair<'_, '_> {
 
     /// All calls with a table. With a wrong index, because a full table comes before a misfit.
     fn table_size(&mut self, plan: &Plan, wrong: &[u8], words: usize) -> Check {
-        let name = plan.names.last().expect("some are always asked for");
-        let calls = [
-            Call::Read,
-            Call::GetPrototype { id: plan.ids[0] },
-            Call::BlockAt { n: 0 },
-            Call::BlocksByPrototypeName { name, n: 0 },
-            Call::FieldOf { block: 0, name },
-            Call::DefinesOnce,
-        ];
-        for call in calls {
+        for call in plan.calls() {
             self.both(call, words)?;
         }
-        for index in [&plan.index.index, wrong] {
-            self.check(index, words)?;
-        }
+        self.check(wrong, words)?;
         self.write_index(words)?;
         self.text(words)
     }

@@ -4,7 +4,7 @@ use crate::plan::{indices, Plan, TEXT_MEMORY};
 use crate::report::{differ, Check, Difference, Exception, Label, Note, Tally};
 use crate::side::Side;
 use crate::stand_in::StandIn;
-use calls::{kind, one_nan, Answer, Call, Element, Field, LENGTH_LIMIT};
+use calls::{kind, one_nan, Answer, Call, Element, Field, Forecast, LENGTH_LIMIT};
 use model::{word_text, Model, Place};
 use oracle::{BsiiFile, DataValue, Fault, Id};
 
@@ -127,7 +127,8 @@ pub fn compare(
             lookups.fields(index.as_deref())?;
         }
     }
-    text(side, file, plan, verdict, tally)
+    text(side, file, plan, verdict, tally)?;
+    forecast(side, file, plan, verdict, tally)
 }
 
 fn label(side: &Side<'_>, call: &'static str) -> Label {
@@ -145,23 +146,8 @@ fn refusals(
     expected: u32,
     tally: &mut Tally,
 ) -> Check {
-    let calls = [
-        Call::Read,
-        Call::GetPrototype { id: 1 },
-        Call::BlockAt { n: 0 },
-        Call::BlocksByPrototypeName { name: b"", n: 0 },
-        Call::FieldOf {
-            block: 0,
-            name: b"",
-        },
-        Call::WriteIndex,
-        Call::CheckIndex {
-            index: &plan.index.index,
-        },
-        Call::DefinesOnce,
-    ];
-    let mut found = [0; 8];
-    for (found, call) in found.iter_mut().zip(calls) {
+    let mut found = [0; 10];
+    for (found, call) in found.iter_mut().zip(plan.calls()) {
         *found = class(side.ask(call, file, plan.words)?.number());
     }
     let label = label(side, "class of a refused file");
@@ -169,7 +155,7 @@ fn refusals(
         label,
         || "reply to each call".to_string(),
         found,
-        [expected; 8],
+        [expected; 10],
     )
 }
 
@@ -529,6 +515,57 @@ fn text(
             too_little_room(side, file, plan, verdict, tally)
         }
     }
+}
+
+/// Refused where the Rust does not print, and of what it prints the length. Of what it has read the
+/// distinct ids, the blocks and, if no id is defined twice, the steps; a replaced prototype is not
+/// among it.
+fn forecast(
+    side: &mut Side<'_>,
+    file: &[u8],
+    plan: &Plan,
+    verdict: &Verdict<'_>,
+    tally: &mut Tally,
+) -> Check {
+    let call = label(side, "forecast");
+    let found = side.forecast(file, plan.words)?;
+    let (parsed, text) = match (&verdict.parsed, &verdict.text) {
+        (Ok(parsed), Ok(text)) => (parsed, text),
+        (Err(fault), _) | (_, Err(fault)) => {
+            return tally.same(
+                call,
+                || "reply".to_string(),
+                class(found.number),
+                number(fault),
+            )
+        }
+    };
+    let [prototypes, blocks, values] = counts(parsed);
+    let shown = text.as_ref().filter(|_| !verdict.has_lost_sums);
+    let expected = Forecast {
+        table_words: calls::ROW as u64 * prototypes,
+        index_len: calls::RECORD as u64 * blocks,
+        text_len: shown.map_or(found.text_len, |text| text.len() as u64),
+        steps: match plan.is_once {
+            true => prototypes + blocks + values + 1,
+            false => found.steps,
+        },
+        // The Rust has no bytes of a block.
+        largest_block: found.largest_block,
+        ..Forecast::default()
+    };
+    tally.same(call, String::new, found, expected)
+}
+
+/// Prototypes, blocks and values that the Rust has read.
+fn counts(parsed: &BsiiFile<'_>) -> [u64; 3] {
+    let values = parsed.data_blocks.iter().map(|block| block.data.len());
+    [
+        parsed.prototypes.len(),
+        parsed.data_blocks.len(),
+        values.sum(),
+    ]
+    .map(|count| count as u64)
 }
 
 fn too_little_room(

@@ -1,5 +1,6 @@
 //! What is asked about a file.
 
+use calls::{enough_words, Call, ROW};
 use model::{Model, Parsed, Place};
 
 /// The text length up to which the Rust is asked for the text.
@@ -15,6 +16,8 @@ pub struct Plan {
     pub words: usize,
     /// The distinct ids, if the file is accepted.
     pub distinct: Option<usize>,
+    /// Whether the file is accepted and defines no id twice.
+    pub is_once: bool,
     /// What an index is asked about, also of a file that is refused.
     pub index: IndexPlan,
 }
@@ -62,9 +65,9 @@ impl Plan {
             names: vec![b"".to_vec(), b"nowhere".to_vec(), vec![0xff]],
             ids: vec![0, 1, 0xffff_ffff],
             blocks: vec![0, u64::MAX, 1 << 32],
-            // A prototype has at least 17 bytes.
-            words: 3 * (file.len() / 17) + 2,
+            words: enough_words(file.len()) + 2,
             distinct: None,
+            is_once: false,
             index: IndexPlan::new(file, model.in_front_of_fault(file)),
         };
         if let Ok(parsed) = model.parsed(file, usize::MAX) {
@@ -74,7 +77,8 @@ impl Plan {
             plan.ids.extend(parsed.prototypes.iter().map(|p| p.id));
             plan.blocks.extend(0..=parsed.blocks.len() as u64);
             plan.distinct = Some(parsed.prototypes.len());
-            plan.words = 3 * parsed.prototypes.len() + 2;
+            plan.is_once = !parsed.redefined;
+            plan.words = ROW * parsed.prototypes.len() + 2;
             plan.add_close_names();
         }
         plan.names.sort();
@@ -84,6 +88,24 @@ impl Plan {
         plan.blocks.sort();
         plan.blocks.dedup();
         plan
+    }
+
+    /// One call of each kind that takes a file and a table.
+    pub fn calls(&self) -> [Call<'_>; 10] {
+        let name = self.names.last().expect("some are always asked for");
+        let index = &self.index.index;
+        [
+            Call::Read,
+            Call::GetPrototype { id: self.ids[0] },
+            Call::BlockAt { n: 0 },
+            Call::BlocksByPrototypeName { name, n: 0 },
+            Call::FieldOf { block: 0, name },
+            Call::ToSiin,
+            Call::WriteIndex,
+            Call::CheckIndex { index },
+            Call::DefinesOnce,
+            Call::Forecast,
+        ]
     }
 
     /// Names that share a start with one of the file.

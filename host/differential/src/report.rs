@@ -96,9 +96,10 @@ pub struct Tally {
     /// marks (15) apart.
     pub readings: [u64; REPLIES],
     pub texts: [u64; REPLIES],
-    /// Checks of an index and look-ups by one, by the reply.
+    /// Checks of an index, look-ups by one and forecasts, by the reply.
     pub checks: [u64; REPLIES],
     pub look_ups: [u64; REPLIES],
+    pub forecasts: [u64; REPLIES],
 }
 
 impl Tally {
@@ -136,7 +137,11 @@ impl Tally {
         let _ = writeln!(text, "answers     {}", self.answers);
         let _ = writeln!(text, "readings    {}", replies(&self.readings));
         let _ = writeln!(text, "texts       {}", replies(&self.texts));
-        for (what, counts) in [("checks", &self.checks), ("look-ups", &self.look_ups)] {
+        for (what, counts) in [
+            ("checks", &self.checks),
+            ("look-ups", &self.look_ups),
+            ("forecasts", &self.forecasts),
+        ] {
             if counts.iter().any(|count| *count > 0) {
                 let _ = writeln!(text, "{what:<11} {}", replies(counts));
             }

@@ -1,7 +1,7 @@
 //! One implementation, called with a table and an output that are watched.
 
 use crate::report::{differ, Difference};
-use calls::{Answer, Call, Element, Implementation, Length, Lent, Text, RECORD};
+use calls::{Answer, Call, Element, Forecast, Implementation, Length, Lent, Text, RECORD};
 
 /// Words or bytes on both ends of what is lent.
 const MARGIN: usize = 8;
@@ -59,6 +59,10 @@ impl<'a> Side<'a> {
     /// A call without an output, with a table of so many words.
     pub fn ask(&mut self, call: Call<'_>, file: &[u8], words: usize) -> Result<Answer, Difference> {
         self.with_table(call, file, words, &mut [])
+    }
+
+    pub fn forecast(&mut self, file: &[u8], words: usize) -> Result<Forecast, Difference> {
+        Ok(self.ask(Call::Forecast, file, words)?.forecast())
     }
 
     pub fn element(&mut self, version: u32, type_id: u32, part: &[u8], index: u64) -> Element {

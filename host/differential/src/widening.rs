@@ -10,7 +10,7 @@ pub use run::{run, Counts};
 
 use crate::report::{Check, Difference, Label, Tally};
 use crate::side::Side;
-use calls::{Answer, Call, Field, Implementation, Length, Reading, RECORD};
+use calls::{Answer, Call, Field, Forecast, Implementation, Length, Reading, RECORD, ROW};
 use generate::save::{Block, Save};
 use generate::widening::{Insertion, Widening};
 use model::Model;
@@ -91,7 +91,7 @@ struct Asked<'a, 'b> {
 
 /// Words enough for the save's ids, and none too many.
 fn words(save: &Save) -> usize {
-    3 * save.prototypes().count()
+    ROW * save.prototypes().count()
 }
 
 /// Every name in the save, and one that is nowhere.
@@ -130,6 +130,7 @@ impl Asked<'_, '_> {
     fn before(&mut self, old: &Save) -> Result<Before, Difference> {
         self.reading(old)?;
         let text = self.text(old)?;
+        self.forecast(old, &text)?;
         let file = old.bytes();
         let index = self.index(old)?;
         let mut found = Vec::new();
@@ -216,10 +217,25 @@ impl Asked<'_, '_> {
 
     fn text_in(&mut self, save: &Save, length: usize, room: usize) -> Result<Vec<u8>, Difference> {
         let answer = self.side.text(&save.bytes(), words(save), room)?;
-        let found = (answer.number, answer.length);
+        let found = (answer.number, answer.length, answer.steps);
         let asked = || format!("with {room} bytes");
-        self.same("text", asked, found, (0, length as u64))?;
+        self.same("text", asked, found, (0, length as u64, save.steps()))?;
         Ok(self.side.written(answer.length).to_vec())
+    }
+
+    /// What is foretold is the text's length, and what follows from the records that the save was made
+    /// of.
+    fn forecast(&mut self, save: &Save, text: &[u8]) -> Check {
+        let found = self.side.forecast(&save.bytes(), words(save))?;
+        let expected = Forecast {
+            table_words: words(save) as u64,
+            text_len: text.len() as u64,
+            index_len: (RECORD * save.blocks().count()) as u64,
+            largest_block: save.largest_block(),
+            steps: save.steps(),
+            ..Forecast::default()
+        };
+        self.same("forecast", String::new, found, expected)
     }
 
     /// What demand 3 says of a save after insertions.
@@ -228,6 +244,7 @@ impl Asked<'_, '_> {
         let text = self.text(new)?;
         let parts = text_parts(self.model, new);
         self.left_out(&text, &parts, &before.text)?;
+        self.forecast(new, &text)?;
         let (file, numbers) = (new.bytes(), new.new_numbers());
         let index = self.index(new)?;
         self.stale(&file, words(new), &before.index, &index)?;
@@ -326,7 +343,8 @@ impl Asked<'_, '_> {
         Ok(())
     }
 
-    /// Reading, text, every field call, writing an index and checking one give 7 at the offset.
+    /// Reading, text, forecast, every field call, writing an index and checking one give 7 at the
+    /// offset.
     fn stops(&mut self, save: &Save, last: &Insertion, offset: u64) -> Check {
         let (file, words) = (save.bytes(), words(save));
         let answer = self.side.ask(Call::Read, &file, words)?;
@@ -337,6 +355,10 @@ impl Asked<'_, '_> {
             let found = (answer.number, answer.offset);
             self.same("text of an unlisted type", String::new, found, (7, offset))?;
         }
+        let answer = self.side.forecast(&file, words)?;
+        let expected = Forecast::refused(7, offset);
+        let what = "forecast of an unlisted type";
+        self.same(what, String::new, answer, expected)?;
         for room in [0, RECORD, RECORD * save.blocks().count()] {
             let answer = self.side.index(&file, words, room)?;
             let expected = Length::refused(7, offset);

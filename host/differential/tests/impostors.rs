@@ -1,8 +1,8 @@
 //! The comparison has to find each of these wrong implementations out.
 
 use calls::{
-    Answer, Block, Call, Checked, Element, Field, Implementation, Length, Lent, Number, Prototype,
-    Reading, Text, LENGTH_LIMIT, RECORD,
+    Answer, Block, Call, Checked, Element, Field, Forecast, Implementation, Length, Lent, Number,
+    Prototype, Reading, Text, LENGTH_LIMIT, RECORD,
 };
 use differential::compare::Comparison;
 use differential::report::Tally;
@@ -90,6 +90,26 @@ enum Fault {
     AlwaysOnce,
     OnceWithoutIdZero,
     TwiceIfTheyDiffer,
+    WordsOfEachDefinition,
+    StepsByElements,
+    StepsWithoutTheEnd,
+    StepsWithoutReplaced,
+    EmptyArrayNoStep,
+    PassesOver8,
+    PassesOver9,
+    PassesOverAFullTable,
+    ForetellsWithoutAnEnd,
+    TextStepsAreTheFile,
+    TextStepsOfRecords,
+    StepsBesideNeededLength,
+    StepsOfARefusedText,
+    RefusalForetells,
+    LargestWithoutItsHead,
+    LargestIsTheLast,
+    IndexOfOneMore,
+    TextWithoutItsFrame,
+    ForecastLeavesTheTable,
+    LackingNotForetold,
 }
 
 const FAULTS: [Fault; 47] = [
@@ -214,6 +234,37 @@ const INDEX_FAULTS: [(Fault, &str); 26] = [
     (Fault::TwiceIfTheyDiffer, "library and model: defines_once"),
 ];
 
+/// About a forecast and steps, each with the check that finds it out first.
+const FORECAST_FAULTS: [(Fault, &str); 20] = [
+    (Fault::WordsOfEachDefinition, "library and Rust: forecast"),
+    (Fault::StepsByElements, "library and model: text"),
+    (Fault::StepsWithoutTheEnd, "library and Rust: forecast"),
+    // The Rust has no replaced prototypes.
+    (Fault::StepsWithoutReplaced, "library and model: text"),
+    (Fault::EmptyArrayNoStep, "library and Rust: forecast"),
+    (Fault::PassesOver8, "library and Rust: forecast"),
+    (Fault::PassesOver9, "library and Rust: forecast"),
+    (Fault::PassesOverAFullTable, "library: forecast and text"),
+    (
+        Fault::ForetellsWithoutAnEnd,
+        "library and Rust: class of a refused file",
+    ),
+    (Fault::TextStepsAreTheFile, "library: text foretold"),
+    (Fault::TextStepsOfRecords, "library: text foretold"),
+    (
+        Fault::StepsBesideNeededLength,
+        "library: steps of a refusal",
+    ),
+    (Fault::StepsOfARefusedText, "library: steps of a refusal"),
+    (Fault::RefusalForetells, "library: forecast and text"),
+    (Fault::LargestWithoutItsHead, "library: index foretold"),
+    (Fault::LargestIsTheLast, "library: index foretold"),
+    (Fault::IndexOfOneMore, "library and Rust: forecast"),
+    (Fault::TextWithoutItsFrame, "library and Rust: forecast"),
+    (Fault::ForecastLeavesTheTable, "library: table"),
+    (Fault::LackingNotForetold, "library: forecast and text"),
+];
+
 struct Impostor {
     model: Model,
     fault: Fault,
@@ -224,11 +275,18 @@ impl Impostor {
         self.fault == fault
     }
 
-    fn spoil_table(&self, table: &mut [u32], number: u32) {
-        let len = table.len();
-        let odd = self.is(Fault::TableKeepsOddWords) && !len.is_multiple_of(3);
-        if odd || self.is(Fault::TableKeptOnRefusal) && number != 0 && len > 0 {
-            table[len - 1] = 1;
+    fn spoil_table(&self, table: &mut [u32], answer: Answer) {
+        let Some(last) = table.len().checked_sub(1) else {
+            return;
+        };
+        let is_spoilt = match self.fault {
+            Fault::TableKeepsOddWords => !table.len().is_multiple_of(3),
+            Fault::TableKeptOnRefusal => answer.number() != 0,
+            Fault::ForecastLeavesTheTable => matches!(answer, Answer::Forecast(_)),
+            _ => false,
+        };
+        if is_spoilt {
+            table[last] = 1;
         }
     }
 
@@ -273,7 +331,7 @@ impl Implementation for Impostor {
         };
         let asked = self.changed_call(call, file);
         let answer = self.model.answer(asked, lent);
-        self.spoil_table(table, answer.number());
+        self.spoil_table(table, answer);
         let answer = self.cut_or_mark(answer, call, file);
         let answer = self.retired(answer, call, file);
         match answer {
@@ -287,7 +345,11 @@ impl Implementation for Impostor {
                 _ => self.field(answer, call, file),
             }),
             Answer::Element(answer) => Answer::Element(self.element(answer, call)),
-            Answer::Text(answer) => Answer::Text(self.text(answer, file, out, &before)),
+            Answer::Text(answer) => {
+                let answer = self.text(answer, file, out, &before);
+                Answer::Text(self.text_steps(answer, file))
+            }
+            Answer::Forecast(answer) => Answer::Forecast(self.forecast(answer, file)),
             Answer::Number(_) => self.once(answer, call, file),
             Answer::Length(answer) => Answer::Length(self.written(answer, file, out)),
             Answer::Checked(answer) => Answer::Checked(self.checked(answer, call, file)),
@@ -590,7 +652,7 @@ impl Impostor {
             }
             (Fault::FirstBlocksText, 0) => {
                 let text = self.first_block_repeated(file);
-                answer = in_place_of_text(&text, out, before);
+                answer = in_place_of_text(&text, answer.steps, out, before);
             }
             (Fault::SumsInVersion1 | Fault::ZeroAddedInVersion1, 0)
                 if file.starts_with(b"BSII\x01\0\0\0") =>
@@ -602,7 +664,7 @@ impl Impostor {
                 let summed = self.with_sums(file, f4);
                 let made = self.model.whole_text(&summed, usize::MAX);
                 let (text, _, _) = made.expect("as many fields");
-                answer = in_place_of_text(&text, out, before);
+                answer = in_place_of_text(&text, answer.steps, out, before);
             }
             _ => {}
         }
@@ -860,10 +922,120 @@ impl Impostor {
     }
 }
 
+/// What is wrong about a forecast and the steps of a text.
+impl Impostor {
+    /// The file's records with room, which the reading call has answered.
+    fn read(&mut self, file: &[u8]) -> &model::Parsed {
+        self.model.parsed(file, usize::MAX).expect("it answered")
+    }
+
+    fn steps(&mut self, steps: u64, file: &[u8]) -> u64 {
+        match self.fault {
+            Fault::StepsByElements => {
+                let counts = self.element_counts(file);
+                steps - counts.len() as u64 + counts.iter().sum::<u64>()
+            }
+            Fault::EmptyArrayNoStep => {
+                let counts = self.element_counts(file);
+                steps - counts.iter().filter(|count| **count == 0).count() as u64
+            }
+            Fault::StepsWithoutTheEnd => steps - 1,
+            Fault::StepsWithoutReplaced => {
+                let parsed = self.read(file);
+                let replaced = definitions(parsed) - parsed.prototypes.len();
+                steps - replaced as u64
+            }
+            _ => steps,
+        }
+    }
+
+    /// Of each value of a block.
+    fn element_counts(&mut self, file: &[u8]) -> Vec<u64> {
+        let parsed = self.read(file);
+        let version = parsed.version;
+        let values = parsed.blocks.iter().flat_map(|block| &block.values);
+        let values: Vec<_> = values.map(|it| (it.type_id, it.place.of(file))).collect();
+        let mut is_there = |type_id, part, index| {
+            let call = Call::ElementOf {
+                version,
+                type_id,
+                part,
+                index,
+            };
+            self.model.answer(call, Lent::default()).number() == 0
+        };
+        let count = |(type_id, part)| (0..).find(|index| !is_there(type_id, part, *index));
+        values.into_iter().filter_map(count).collect()
+    }
+
+    fn text_steps(&mut self, mut answer: Text, file: &[u8]) -> Text {
+        match (self.fault, answer.number) {
+            (Fault::StepsBesideNeededLength, 11) => answer.steps = 1,
+            (Fault::StepsOfARefusedText, 3..=10) => answer.steps = 1,
+            (Fault::TextStepsAreTheFile, 0) => answer.steps = file.len() as u64,
+            (Fault::TextStepsOfRecords, 0) => answer.steps = self.read(file).starts.len() as u64,
+            (_, 0) => answer.steps = self.steps(answer.steps, file),
+            _ => {}
+        }
+        answer
+    }
+
+    fn forecast(&mut self, mut answer: Forecast, file: &[u8]) -> Forecast {
+        match (self.fault, answer.number) {
+            (Fault::PassesOver8, 8)
+            | (Fault::PassesOver9, 9)
+            | (Fault::ForetellsWithoutAnEnd, 3) => Forecast::default(),
+            (Fault::PassesOverAFullTable, 10) => {
+                let mut table = vec![0; calls::enough_words(file.len())];
+                let lent = Lent::file(file, &mut table);
+                self.model.answer(Call::Forecast, lent).forecast()
+            }
+            (Fault::RefusalForetells, 8..=10) => Forecast {
+                table_words: 3,
+                ..answer
+            },
+            (Fault::LackingNotForetold, 3) => Forecast {
+                lacking: 0,
+                ..answer
+            },
+            (_, 0) => {
+                answer.steps = self.steps(answer.steps, file);
+                self.figures(answer, file)
+            }
+            _ => answer,
+        }
+    }
+
+    fn figures(&mut self, mut answer: Forecast, file: &[u8]) -> Forecast {
+        let fault = self.fault;
+        let parsed = self.read(file);
+        let last = parsed.blocks.last();
+        match fault {
+            Fault::WordsOfEachDefinition => answer.table_words = 3 * definitions(parsed) as u64,
+            Fault::LargestWithoutItsHead => {
+                let head = |block: &model::BlockRecord| (block.size() - 4 - block.id.len) as u64;
+                answer.largest_block = parsed.blocks.iter().map(head).max().unwrap_or(0);
+            }
+            Fault::LargestIsTheLast => {
+                answer.largest_block = last.map_or(0, |block| block.size() as u64)
+            }
+            Fault::IndexOfOneMore => answer.index_len += RECORD as u64,
+            Fault::TextWithoutItsFrame => answer.text_len -= 13,
+            _ => {}
+        }
+        answer
+    }
+}
+
+/// All records but the blocks and the end, replaced ones too.
+fn definitions(parsed: &model::Parsed) -> usize {
+    parsed.starts.len() - parsed.blocks.len() - 1
+}
+
 /// Another text than the one that was written, if there is room for it.
-fn in_place_of_text(text: &[u8], out: &mut [u8], before: &[u8]) -> Text {
+fn in_place_of_text(text: &[u8], steps: u64, out: &mut [u8], before: &[u8]) -> Text {
     out.copy_from_slice(before);
-    store(text, out)
+    store(text, steps, out)
 }
 
 /// The labels of the differences in so many files.
@@ -894,6 +1066,14 @@ fn each_impostor_is_found() {
 #[test]
 fn each_impostor_of_an_index_is_found() {
     for (fault, by) in INDEX_FAULTS {
+        let found = differences(Some(fault), 2000).next();
+        assert_eq!(found.as_deref(), Some(by), "{fault:?}");
+    }
+}
+
+#[test]
+fn each_impostor_of_a_forecast_is_found() {
+    for (fault, by) in FORECAST_FAULTS {
         let found = differences(Some(fault), 2000).next();
         assert_eq!(found.as_deref(), Some(by), "{fault:?}");
     }

@@ -1,7 +1,8 @@
 //! The run over lists of insertions has to find each of these wrong implementations out.
 
 use calls::{
-    Answer, Call, Checked, Field, Implementation, Length, Lent, Number, Reading, Text, RECORD,
+    Answer, Call, Checked, Field, Forecast, Implementation, Length, Lent, Number, Reading, Text,
+    RECORD,
 };
 use differential::report::Tally;
 use differential::widening::{first_unlisted, run, Widenings};
@@ -52,10 +53,19 @@ enum Fault {
     /// Looks a name up without reading what stands behind its value.
     LooksUpUnlisted,
     SevenInEveryBlock,
+    /// Of the text.
+    OldSteps,
+    ForetellsTheOldSteps,
+    ForetellsTheOldText,
+    ForetellsTheOldWords,
+    ForetellsTheOldIndex,
+    ForetellsTheOldLargest,
+    ForecastSevenWithoutABlock,
+    ForetellsUnlisted,
 }
 
 /// Each with the check that finds it out first.
-const FAULTS: [(Fault, &str); 32] = [
+const FAULTS: [(Fault, &str); 40] = [
     (Fault::GuessesLength, "a field after"),
     (Fault::OldNumbers, "a field after"),
     (Fault::OldPositions, "a field after"),
@@ -88,6 +98,14 @@ const FAULTS: [(Fault, &str); 32] = [
     (Fault::MisfitBeforeSeven, "check of an index"),
     (Fault::LooksUpUnlisted, "look-up of an unlisted type"),
     (Fault::SevenInEveryBlock, "look-up beside an unlisted type"),
+    (Fault::OldSteps, "text"),
+    (Fault::ForetellsTheOldSteps, "forecast"),
+    (Fault::ForetellsTheOldText, "forecast"),
+    (Fault::ForetellsTheOldWords, "forecast"),
+    (Fault::ForetellsTheOldIndex, "forecast"),
+    (Fault::ForetellsTheOldLargest, "forecast"),
+    (Fault::ForecastSevenWithoutABlock, "forecast"),
+    (Fault::ForetellsUnlisted, "forecast of an unlisted type"),
 ];
 
 /// Knows the list, so that it can be wrong about what was inserted and about nothing else.
@@ -156,7 +174,7 @@ impl Implementation for Impostor {
                     return Answer::Length(answer);
                 };
                 out.copy_from_slice(&before);
-                let Text { number, length, .. } = store(&index, out);
+                let Text { number, length, .. } = store(&index, 0, out);
                 Answer::Length(Length {
                     number,
                     length,
@@ -171,8 +189,13 @@ impl Implementation for Impostor {
             }
             (Answer::Text(_), _) => {
                 out.copy_from_slice(&before);
-                Answer::Text(store(&self.text(), out))
+                let steps = match self.fault {
+                    Fault::OldSteps => self.old.steps(),
+                    _ => self.new.steps(),
+                };
+                Answer::Text(store(&self.text(), steps, out))
             }
+            (Answer::Forecast(answer), _) => Answer::Forecast(self.forecast(answer)),
             (answer, _) => answer,
         }
     }
@@ -293,6 +316,23 @@ impl Impostor {
         }
     }
 
+    /// One figure of the old save.
+    fn forecast(&mut self, mut answer: Forecast) -> Forecast {
+        let file = self.old.bytes();
+        let mut table = vec![0; calls::enough_words(file.len())];
+        let lent = Lent::file(&file, &mut table);
+        let old = self.model.answer(Call::Forecast, lent).forecast();
+        match self.fault {
+            Fault::ForetellsTheOldSteps => answer.steps = old.steps,
+            Fault::ForetellsTheOldText => answer.text_len = old.text_len,
+            Fault::ForetellsTheOldWords => answer.table_words = old.table_words,
+            Fault::ForetellsTheOldIndex => answer.index_len = old.index_len,
+            Fault::ForetellsTheOldLargest => answer.largest_block = old.largest_block,
+            _ => {}
+        }
+        answer
+    }
+
     /// Where a value of a block of the new save starts.
     fn start(&self, block: u64, position: usize) -> u64 {
         let id = self.new.blocks().nth(block as usize).unwrap().prototype;
@@ -339,6 +379,9 @@ impl Impostor {
             (Fault::IndexSevenWithoutABlock, None) if call == Call::WriteIndex => {
                 answer.refused(7, 8)
             }
+            (Fault::ForecastSevenWithoutABlock, None) if call == Call::Forecast => {
+                answer.refused(7, 8)
+            }
             (_, None) => answer,
             (Fault::SevenAtTheBlock, Some(_)) => {
                 let first = save.value_starts(*id, 0)[0];
@@ -370,6 +413,7 @@ fn carried(fault: Fault, answer: Answer, call: Call<'_>, save: &Save) -> Answer 
         }
         (Fault::OutputBeforeSeven, Call::ToSiin) => answer.refused(11, 0),
         (Fault::SpaceBeforeSeven, Call::WriteIndex) => answer.refused(11, 0),
+        (Fault::ForetellsUnlisted, Call::Forecast) => Answer::Forecast(Forecast::default()),
         (Fault::LooksUpUnlisted, Call::FieldByIndex { .. }) if answer.number() == 7 => {
             Answer::Field(Field::default())
         }

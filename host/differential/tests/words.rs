@@ -359,7 +359,8 @@ impl ByTable {
             .map(|word| u64::from_le_bytes(word.try_into().unwrap()))
             .collect();
         match text(0x04, &words, |word| self.spelled(word)) {
-            Ok(text) => store(text.as_bytes(), out),
+            // A prototype, a block, its value and the end.
+            Ok(text) => store(text.as_bytes(), 4, out),
             Err((number, offset, _)) => Text::refused(number, offset),
         }
     }

@@ -34,6 +34,8 @@ fn is_measured_without_going_through_the_name() {
     let start = Instant::now();
     let lent = Lent::file(&file, &mut table);
     let answer = Linked.answer(Call::ToSiin, lent).text();
+    let lent = Lent::file(&file, &mut table);
+    let foretold = Linked.answer(Call::Forecast, lent).forecast();
     let time = start.elapsed();
     // `  NAME: COUNT`, and for each element `  NAME[i]: true`, each with a line feed
     let lines = 2 + name + 2 + count.to_string().len() as u64 + 1;
@@ -41,6 +43,8 @@ fn is_measured_without_going_through_the_name() {
     let frame = "SiiNunit\n{\np : null {\n}\n}\n".len() as u64;
     assert_eq!((answer.number, answer.offset), (11, 0));
     assert_eq!(answer.length, frame + lines + elements);
+    let figures = (foretold.number, foretold.text_len, foretold.steps);
+    assert_eq!(figures, (0, answer.length, 4));
     assert_eq!(table, [0; 3]);
     // 2^46 bytes of names would take hours
     assert!(time < Duration::from_secs(10), "measured in {time:?}");

@@ -177,6 +177,18 @@ impl Save {
         index
     }
 
+    /// The bytes of the longest block; 0 without blocks.
+    pub fn largest_block(&self) -> u64 {
+        let sizes = self.blocks().map(|block| block.bytes().len() as u64);
+        sizes.max().unwrap_or(0)
+    }
+
+    /// One for each record, the end record too, and one for each value of a block.
+    pub fn steps(&self) -> u64 {
+        let values: usize = self.blocks().map(|block| block.values.len()).sum();
+        (self.records.len() + 1 + values) as u64
+    }
+
     /// Where the value at a position starts in each block of an id.
     pub fn value_starts(&self, id: u32, position: usize) -> Vec<usize> {
         let (mut starts, mut at) = (Vec::new(), self.head().len());

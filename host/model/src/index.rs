@@ -7,9 +7,12 @@ use calls::{Checked, Field, Length, Number, LENGTH_LIMIT, RECORD};
 /// The block's offset, its length, the offset of the prototype in force and that one's number of
 /// fields, three bytes each.
 fn record(block: &BlockRecord) -> impl Iterator<Item = u8> {
-    let end = block.values.last().map_or(block.id, |last| last.place);
-    let len = end.offset + end.len - block.start;
-    let numbers = [block.start, len, block.in_force, block.values.len()];
+    let numbers = [
+        block.start,
+        block.size(),
+        block.in_force,
+        block.values.len(),
+    ];
     numbers.into_iter().flat_map(three_bytes)
 }
 

@@ -4,18 +4,19 @@
 //! It is written from the documents and not from the Rust source, so that it can stand beside both
 //! the Rust (which gives no offsets) and the library.
 
+mod forecast;
 mod index;
 mod layout;
 mod lookup;
 mod text;
 
 pub use layout::{word_text, Cursor, Place, Refusal};
-pub use lookup::{Definition, Parsed};
+pub use lookup::{BlockRecord, Definition, Parsed};
 pub use text::OpenPlace;
 
 use calls::{
-    Answer, Block, Call, Checked, Element, Field, Implementation, Length, Lent, Number, Prototype,
-    Reading, Text,
+    Answer, Block, Call, Checked, Element, Field, Forecast, Implementation, Length, Lent, Number,
+    Prototype, Reading, Text, ROW,
 };
 
 /// Keeps the last file it read, since many calls on one file follow each other.
@@ -79,7 +80,7 @@ impl Implementation for Model {
     /// Three words of the table hold one id, and all of them are zero afterwards.
     fn answer(&mut self, call: Call<'_>, lent: Lent<'_>) -> Answer {
         let Lent { file, table, out } = lent;
-        let ids = table.len() / 3;
+        let ids = table.len() / ROW;
         table.fill(0);
         match call {
             Call::Read => answer!(Reading, self.parsed(file, ids).map(Parsed::reading)),
@@ -129,6 +130,12 @@ impl Implementation for Model {
                 answer!(Field, index::field_by_index(file, index, block, name))
             }
             Call::DefinesOnce => answer!(Number, self.parsed(file, ids).map(Parsed::defines_once)),
+            Call::Forecast => {
+                answer!(
+                    Forecast,
+                    self.parsed(file, ids).and_then(|p| p.forecast(file))
+                )
+            }
         }
     }
 }
@@ -143,6 +150,7 @@ fn to_siin(parsed: &Parsed, file: &[u8], out: &mut [u8]) -> Result<Text, Refusal
     Ok(Text {
         number: if fits { 0 } else { 11 },
         length,
+        steps: if fits { parsed.steps() } else { 0 },
         ..Text::default()
     })
 }

@@ -33,6 +33,14 @@ pub struct BlockRecord {
     pub values: Vec<Value>,
 }
 
+impl BlockRecord {
+    /// From its prototype's id to the end of its last value.
+    pub fn size(&self) -> usize {
+        let end = self.values.last().map_or(self.id, |last| last.place);
+        end.offset + end.len - self.start
+    }
+}
+
 #[derive(Default)]
 pub struct Parsed {
     pub version: u32,

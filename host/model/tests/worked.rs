@@ -1,7 +1,9 @@
 //! Document 01's worked bytes, those of 02's requests, and offsets and lacking bytes that no other
 //! side gives.
 
-use calls::{kind, Call, Element, Field, Implementation, Length, Lent, Text, LENGTH_LIMIT};
+use calls::{
+    kind, Call, Element, Field, Forecast, Implementation, Length, Lent, Text, LENGTH_LIMIT,
+};
 use model::Model;
 
 fn text_in(file: &[u8], table: &mut [u32], out: &mut [u8]) -> Text {
@@ -850,4 +852,107 @@ fn a_look_up_in_version_1() {
     }
     let cut = by_index(&with_version(&save[..68], 2), &index, 0, b"w");
     assert_eq!(cut, runs_out(68, 4));
+}
+
+/// The haul sheet's save: a u16, an array of bools and a string, in two blocks.
+const SHEET: &str =
+    "425349490200000000000000010300000001000000742b000000010000006e3600000001000000\
+                     66010000000100000073000000000300000000050002000000010003000000610962\
+                     03000000012200000000000000ffff00000000020000006f6b0000000000";
+
+/// With so many words, which come in full and are zero afterwards.
+fn forecast(file: &[u8], words: usize) -> Forecast {
+    let mut table = vec![7; words];
+    let lent = Lent::file(file, &mut table);
+    let answer = Model::default().answer(Call::Forecast, lent);
+    assert!(table.iter().all(|word| *word == 0));
+    answer.forecast()
+}
+
+/// Table, text, index, largest block and steps.
+fn foretold([table_words, text_len, index_len, largest_block, steps]: [u64; 5]) -> Forecast {
+    Forecast {
+        table_words,
+        text_len,
+        index_len,
+        largest_block,
+        steps,
+        ..Forecast::default()
+    }
+}
+
+#[test]
+fn worked_forecasts() {
+    let save = bytes(SAVE_A);
+    assert_eq!(forecast(&save, 3), foretold([3, 50, 24, 15, 6]));
+    assert_eq!(forecast(&save, 2), Forecast::refused(10, 8));
+    let text = |words, room| text_in(&save, &mut vec![7; words], &mut vec![7; room]);
+    let answered = Text {
+        length: 50,
+        steps: 6,
+        ..Text::default()
+    };
+    let short = Text {
+        number: 11,
+        length: 50,
+        ..Text::default()
+    };
+    assert_eq!(text(3, 50), answered);
+    assert_eq!(text(3, 49), short);
+    assert_eq!(text(2, 50), Text::refused(10, 8));
+    assert_eq!(forecast(&bytes(SHEET), 3), foretold([3, 115, 24, 25, 10]));
+    // The end record alone, and bytes behind it.
+    let empty = file(&[]);
+    assert_eq!(forecast(&empty, 0), foretold([0, 13, 0, 0, 1]));
+    let longer = [&empty[..], &[0; 40]].concat();
+    assert_eq!(forecast(&longer, 0), foretold([0, 13, 0, 0, 1]));
+}
+
+/// Id 0 has its words, and a redefinition is a step without words.
+#[test]
+fn a_forecast_of_definitions() {
+    let records = [
+        prototype(0, "a", &[]),
+        prototype(5, "p", &[(0x2c, "f")]),
+        vec![5, 0, 0, 0, 0, 0, 0, 0, 0],
+        prototype(0, "b", &[]),
+        prototype(5, "longer", &[(0x2c, "g")]),
+        vec![5, 0, 0, 0, 0, 1, 0, 0, 0, 7, 0],
+        vec![5, 0, 0, 0, 0, 0, 0, 0, 0],
+    ];
+    let save = file(&records);
+    let text = text_of(&save).len() as u64;
+    // Seven records, the end record, and a value in each of three blocks.
+    assert_eq!(forecast(&save, 6), foretold([6, text, 36, 11, 11]));
+    assert_eq!(forecast(&save, 5), Forecast::refused(10, 8 + 18));
+}
+
+/// Where the text is refused with room, and with the same words.
+#[test]
+fn refused_forecasts() {
+    let save = bytes(SAVE_A);
+    let cut = Forecast {
+        lacking: 1,
+        ..Forecast::refused(3, 40)
+    };
+    assert_eq!(forecast(&save[..41], 3), cut);
+    // The table is full in front of the cut.
+    assert_eq!(forecast(&save[..41], 2), Forecast::refused(10, 8));
+    let block = vec![1, 0, 0, 0, 0, 9, 0, 0, 0];
+    let first = prototype(1, "p", &[(0x27, "f")]);
+    let fewer = file(&[first, block, prototype(1, "q", &[])]);
+    assert_eq!(forecast(&fewer, 3), Forecast::refused(8, 35));
+    // A fault of the file comes in front of 8.
+    let unfinished = &fewer[..fewer.len() - 1];
+    let fault = Forecast {
+        lacking: 1,
+        ..Forecast::refused(3, unfinished.len() as u64)
+    };
+    assert_eq!(forecast(unfinished, 3), fault);
+    let no_list = one_value(0x37, &[5, 0, 0, 0]);
+    let list = [&no_list[..31], &[0; 4], &no_list[31..]].concat();
+    assert_eq!(forecast(&list, 3), Forecast::refused(9, 44));
+    assert_eq!(forecast(b"BSI", 3), Forecast::refused(1, 0));
+    let long = vec![0; LENGTH_LIMIT + 1];
+    assert_eq!(forecast(&long, 0), Forecast::refused(12, 0));
 }

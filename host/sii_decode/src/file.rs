@@ -2,19 +2,13 @@
 
 use crate::index::{longest_index, Record, RECORD};
 use crate::library::{self, Reading};
-use crate::{DataField, Definitions, Id, Prototypes, Refusal, LENGTH_LIMIT};
+use crate::{DataField, Definitions, Forecast, Id, Prototypes, Refusal, LENGTH_LIMIT};
 use std::borrow::Cow;
 use std::cell::{OnceCell, RefCell};
 use std::fmt;
 
-/// A prototype has at least so many bytes.
-const SHORTEST_PROTOTYPE: usize = 17;
-/// The table's words for each prototype.
-const WORDS: usize = 3;
 /// The prototypes of a first table. Saves have a few hundred.
 const ROWS: usize = 4096;
-/// The room for a text at the first try, by the bytes of the save: most have less.
-const ROOM: usize = 4;
 
 /// A save that was read whole and found well-formed.
 ///
@@ -56,7 +50,7 @@ pub struct DataBlock {
 }
 
 /// Number, offset and lacking bytes of an answer: a refusal, if there is one.
-fn answered(number: u32, offset: u64, lacking: u64) -> Result<(), Refusal> {
+pub(crate) fn answered(number: u32, offset: u64, lacking: u64) -> Result<(), Refusal> {
     match number {
         0 => Ok(()),
         _ => Err(Refusal {
@@ -65,6 +59,16 @@ fn answered(number: u32, offset: u64, lacking: u64) -> Result<(), Refusal> {
             lacking,
             needed: 0,
         }),
+    }
+}
+
+/// There is no memory for a text of so many bytes.
+pub(crate) fn no_room(needed: u64) -> Refusal {
+    Refusal {
+        number: 11,
+        offset: 0,
+        lacking: 0,
+        needed,
     }
 }
 
@@ -80,13 +84,13 @@ const ABSENT: Refusal = Refusal {
 /// refused before any byte is read, and needs none.
 fn largest_table(content: &[u8]) -> usize {
     match content.len() {
-        length if length <= LENGTH_LIMIT => length / SHORTEST_PROTOTYPE * WORDS,
+        length if length <= LENGTH_LIMIT => calls::enough_words(length),
         _ => 0,
     }
 }
 
 /// So many words, all 0; none if there is no memory for them.
-fn table_of(words: usize) -> Vec<u32> {
+pub(crate) fn table_of(words: usize) -> Vec<u32> {
     let mut table = Vec::new();
     if table.try_reserve_exact(words).is_ok() {
         table.resize(words, 0);
@@ -97,12 +101,12 @@ fn table_of(words: usize) -> Vec<u32> {
 /// Asks with a first table, and if that has too few rows with the largest, which the answer keeps:
 /// every further question about the save needs the same. Without memory for it the library's 10
 /// stands.
-fn with_table<T>(
+pub(crate) fn with_table<T>(
     content: &[u8],
     mut ask: impl FnMut(&mut Vec<u32>) -> Result<T, Refusal>,
 ) -> Result<(T, Vec<u32>), Refusal> {
     let largest = largest_table(content);
-    let mut table = table_of(largest.min(ROWS * WORDS));
+    let mut table = table_of(largest.min(ROWS * calls::ROW));
     let mut answer = ask(&mut table);
     if matches!(answer, Err(Refusal { number: 10, .. })) && table.len() < largest {
         let larger = table_of(largest);
@@ -114,31 +118,10 @@ fn with_table<T>(
     answer.map(|answer| (answer, table))
 }
 
-/// The text, in a buffer of exactly its length. It is asked for at once, with room that most texts
-/// do not fill; memory that is only reserved takes none. With too little room, or no memory for so
-/// much, the answer is the length that is needed.
+/// The text, with a table and a buffer of just what was foretold: memory is the save, the table and
+/// the text.
 fn text(content: &[u8], table: &mut [u32]) -> Result<Vec<u8>, Refusal> {
-    let mut text = Vec::new();
-    if content.len() <= LENGTH_LIMIT {
-        // What fails here leaves no room, and no text is empty.
-        let _ = text.try_reserve_exact(ROOM * content.len());
-    }
-    let mut answer = library::to_siin_within(content, table, &mut text);
-    if answer.number == 11 {
-        let refusal = Refusal {
-            number: 11,
-            offset: answer.offset,
-            lacking: 0,
-            needed: answer.length,
-        };
-        let length = usize::try_from(answer.length).map_err(|_| refusal)?;
-        text = Vec::new();
-        text.try_reserve_exact(length).map_err(|_| refusal)?;
-        answer = library::to_siin_within(content, table, &mut text);
-    }
-    answered(answer.number, answer.offset, answer.lacking)?;
-    text.shrink_to_fit();
-    Ok(text)
+    Forecast::ask(content, table)?.write(content, table)
 }
 
 /// How many blocks there are, and the index in a buffer of exactly its length, or none without memory
@@ -296,6 +279,11 @@ impl<'a> BsiiFile<'a> {
     fn prototype_answer(&self, id: u32) -> Result<library::Prototype, Refusal> {
         let answer = library::get_prototype(self.content, &mut self.table.borrow_mut(), id);
         answered(answer.number, answer.offset, answer.lacking).map(|()| answer)
+    }
+
+    /// What the save will need. The file is read for it; refused with 8 and 9 as the text is.
+    pub fn forecast(&self) -> Result<Forecast, Refusal> {
+        Forecast::ask(self.content, &mut self.table.borrow_mut())
     }
 
     fn record(&self, number: u64) -> Option<Record> {

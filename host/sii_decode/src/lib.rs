@@ -1,7 +1,7 @@
 //! The proved converter from BSII saves to SiiNunit text, under the names of the Rust that it was
-//! ported from. Whether a save is read, its text, its index, and a field with its elements are the
-//! library's answers: this crate lends it buffers that fit, and puts slices and values in the place
-//! of offsets and numbers. Blocks with their ids, prototypes and definitions are read here, in safe
+//! ported from. Whether a save is read, its text, its index, a field with its elements, and what the
+//! save will need are the library's answers: this crate lends it buffers that fit, and puts slices
+//! and values in the place of offsets and numbers. Blocks with their ids, prototypes and definitions are read here, in safe
 //! Rust, where the index leads; tests compare them with what the library's calls find.
 //!
 //! ```
@@ -44,6 +44,7 @@
 #![deny(missing_docs, unsafe_code)]
 
 mod file;
+mod forecast;
 mod id;
 mod index;
 #[allow(unsafe_code)]
@@ -53,6 +54,7 @@ mod refusal;
 mod value;
 
 pub use file::{to_siin, Blocks, BlocksByPrototypeName, BsiiFile, DataBlock, Prototype};
+pub use forecast::{forecast, Forecast};
 pub use id::Id;
 pub use index::{longest_index, Definition, Definitions, Prototypes, RECORD};
 pub use plain::OtherKind;

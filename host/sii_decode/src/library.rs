@@ -2,7 +2,9 @@
 //! lend table and output themselves. `include/sii_decode.h` says of each what it answers and what
 //! the members of the answers mean. All unsafe code that touches the library is here.
 
-pub use calls::{kind, Block, Checked, Element, Field, Length, Number, Prototype, Reading, Text};
+pub use calls::{
+    kind, Block, Checked, Element, Field, Forecast, Length, Number, Prototype, Reading, Text,
+};
 
 extern "C" {
     fn sii_read(file: *const u8, len: usize, table: *mut u32, words: usize) -> Reading;
@@ -73,6 +75,7 @@ extern "C" {
         name_len: usize,
     ) -> Field;
     fn sii_defines_once(file: *const u8, len: usize, table: *mut u32, words: usize) -> Number;
+    fn sii_forecast(file: *const u8, len: usize, table: *mut u32, words: usize) -> Forecast;
 }
 
 /// `sii_read`: the whole file is read.
@@ -186,6 +189,13 @@ pub fn defines_once(file: &[u8], table: &mut [u32]) -> Number {
     let (words, table) = (table.len(), table.as_mut_ptr());
     // SAFETY: as in `read`.
     unsafe { sii_defines_once(file.as_ptr(), file.len(), table, words) }
+}
+
+/// `sii_forecast`: what the file will need.
+pub fn forecast(file: &[u8], table: &mut [u32]) -> Forecast {
+    let (words, table) = (table.len(), table.as_mut_ptr());
+    // SAFETY: as in `read`.
+    unsafe { sii_forecast(file.as_ptr(), file.len(), table, words) }
 }
 
 /// The index in the place of what `index` held, if its capacity has room for it; otherwise `index` is

@@ -1,7 +1,10 @@
 //! Every call on the worked bytes and on the sample, and every refusal that a caller can meet.
 
 use generate::{worked_bytes, Random};
-use sii_decode::{to_siin, BsiiFile, DataField, DataValue, Id, OtherKind, Refusal, LENGTH_LIMIT};
+use sii_decode::{
+    forecast, to_siin, BsiiFile, DataField, DataValue, Forecast, Id, OtherKind, Refusal,
+    LENGTH_LIMIT,
+};
 use std::error::Error;
 use std::path::Path;
 
@@ -128,6 +131,7 @@ fn refusals_of_a_file() {
     for (bytes, refusal) in cases {
         assert_eq!(BsiiFile::parse(&bytes).err(), Some(refusal));
         assert_eq!(to_siin(&bytes), Err(refusal));
+        assert_eq!(forecast(&bytes), Err(refusal));
     }
 }
 
@@ -154,6 +158,7 @@ fn refusals_of_the_text() {
     let bytes = one_field(0x37, &[6, 0, 0, 0]);
     let file = BsiiFile::parse(&bytes).unwrap();
     assert_eq!(file.to_siin(), Err(refusal(9, bytes.len() as u64 - 9)));
+    assert_eq!(file.forecast().map(|_| ()), file.to_siin().map(|_| ()));
     assert_eq!(
         file.field(0, "x").unwrap().element(0),
         Ok(DataValue::Enum(6))
@@ -165,6 +170,8 @@ fn refusals_of_the_text() {
     bytes.extend([0; 5]);
     let file = BsiiFile::parse(&bytes).unwrap();
     assert_eq!(file.to_siin(), Err(refusal(8, 35)));
+    assert_eq!(file.forecast(), Err(refusal(8, 35)));
+    assert_eq!(forecast(&bytes), Err(refusal(8, 35)));
 }
 
 /// The text of an array of bools under a name of as many bytes is far longer than the file.
@@ -182,6 +189,9 @@ fn a_text_that_no_memory_holds() {
     assert_eq!(to_siin(&bytes), Err(refusal));
     assert_eq!((refusal.number, refusal.offset), (11, 0));
     assert!(refusal.needed > 64_000_000_000_000);
+    let foretold = forecast(&bytes).unwrap();
+    assert_eq!((foretold.text_len, foretold.steps), (refusal.needed, 4));
+    assert_eq!(foretold.to_siin(&bytes), Err(refusal));
     let shown = format!(
         "refused 11 at 0: there is not enough memory for the text or the index, which has {} bytes",
         refusal.needed
@@ -270,10 +280,14 @@ fn the_table_fits() {
         assert_eq!(file.get_prototype(count), Err(refusal(13, 0)));
         assert_eq!(file.to_siin().unwrap(), b"SiiNunit\n{\n}\n");
         assert_eq!(to_siin(&bytes).unwrap(), b"SiiNunit\n{\n}\n");
+        let foretold = forecast(&bytes).unwrap();
+        let counts = (foretold.table_words, foretold.steps);
+        assert_eq!(counts, (3 * u64::from(count), u64::from(count) + 1));
+        assert_eq!(foretold.to_siin(&bytes).unwrap(), b"SiiNunit\n{\n}\n");
     }
 }
 
-/// A text of more than four times the save's bytes is asked for twice, and no byte differs.
+/// Texts much longer than their saves, too: a buffer of just the foretold length holds each.
 #[test]
 fn texts_of_every_length() {
     for count in [1, 10, 100, 10_000] {
@@ -290,7 +304,76 @@ fn texts_of_every_length() {
         let made = to_siin(&bytes).unwrap();
         assert_eq!(made, text.as_bytes());
         assert_eq!(made.capacity(), made.len());
+        let foretold = forecast(&bytes).unwrap();
+        assert_eq!(foretold.text_len, text.len() as u64);
+        let made = foretold.to_siin(&bytes).unwrap();
+        assert_eq!(made, text.as_bytes());
+        assert_eq!(made.capacity(), made.len());
     }
+}
+
+/// What the worked bytes will need, and what becomes of it in another save.
+#[test]
+fn a_forecast() {
+    let bytes = worked_bytes();
+    let file = BsiiFile::parse(&bytes).unwrap();
+    let foretold = Forecast {
+        table_words: 3,
+        text_len: WORKED.len() as u64,
+        index_len: 12,
+        largest_block: 29,
+        steps: 5,
+    };
+    assert_eq!(forecast(&bytes), Ok(foretold));
+    assert_eq!(file.forecast(), Ok(foretold));
+    assert_eq!(foretold.to_siin(&bytes).unwrap(), WORKED.as_bytes());
+    assert_eq!(foretold.to_siin(&prototypes(2)), Err(refusal(10, 25)));
+    let longer = Refusal {
+        needed: to_siin(&sample("depot.bsii")).unwrap().len() as u64,
+        ..refusal(11, 0)
+    };
+    let roomy = Forecast {
+        table_words: 300,
+        ..foretold
+    };
+    assert_eq!(roomy.to_siin(&sample("depot.bsii")), Err(longer));
+    assert_eq!(foretold.to_siin(&bytes[..81]), Err(cut(81, 1)));
+    let endless = Forecast {
+        text_len: u64::MAX,
+        ..foretold
+    };
+    let no_room = Refusal {
+        needed: u64::MAX,
+        ..refusal(11, 0)
+    };
+    assert_eq!(endless.to_siin(&bytes), Err(no_room));
+}
+
+/// Of all kinds of files: it is refused where the text is, and else fits the text and the index.
+#[test]
+fn forecasts_of_random_files() {
+    let (mut answered, mut refused) = (0, 0);
+    for number in 0..3000 {
+        let bytes = generate::file(9, number);
+        let text = to_siin(&bytes);
+        let foretold = match forecast(&bytes) {
+            Ok(foretold) => foretold,
+            Err(refusal) => {
+                assert_eq!(text, Err(refusal));
+                refused += 1;
+                continue;
+            }
+        };
+        let file = BsiiFile::parse(&bytes).unwrap();
+        assert_eq!(text.as_ref().unwrap().len() as u64, foretold.text_len);
+        assert_eq!(file.index().unwrap().len() as u64, foretold.index_len);
+        assert_eq!(3 * file.prototype_count(), foretold.table_words);
+        assert!(foretold.steps <= bytes.len() as u64);
+        assert_eq!(file.forecast(), Ok(foretold));
+        assert_eq!(foretold.to_siin(&bytes), text);
+        answered += 1;
+    }
+    assert!(answered > 1000 && refused > 1000, "{answered} {refused}");
 }
 
 #[test]
@@ -424,8 +507,10 @@ fn the_raw_calls() {
     let element: Element = library::element_of(2, 0x27, &bytes[61..65], 0);
     assert_eq!((element.kind, element.value), (kind::U32, 300));
     let text: Text = library::to_siin(&bytes, &mut table, &mut out);
-    assert_eq!((text.number, text.length), (0, 73));
+    assert_eq!((text.number, text.length, text.steps), (0, 73, 5));
     assert_eq!((&out[..73], out[73]), (WORKED.as_bytes(), 9));
+    let foretold: library::Forecast = library::forecast(&bytes, &mut table);
+    assert_eq!((foretold.number, foretold.text_len), (0, 73));
 
     let mut short = vec![9; 5];
     let text = library::to_siin_within(&bytes, &mut table, &mut short);

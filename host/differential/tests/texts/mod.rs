@@ -2,8 +2,9 @@
 
 use calls::Text;
 
-/// The answer of a text call with this text, in an output that holds what it held before the call.
-pub fn store(text: &[u8], out: &mut [u8]) -> Text {
+/// The answer of a text call with this text and these steps, in an output that holds what it held
+/// before the call.
+pub fn store(text: &[u8], steps: u64, out: &mut [u8]) -> Text {
     let fits = text.len() <= out.len();
     if fits {
         out[..text.len()].copy_from_slice(text);
@@ -11,6 +12,7 @@ pub fn store(text: &[u8], out: &mut [u8]) -> Text {
     Text {
         number: if fits { 0 } else { 11 },
         length: text.len() as u64,
+        steps: if fits { steps } else { 0 },
         ..Text::default()
     }
 }
