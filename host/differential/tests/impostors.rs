@@ -1,8 +1,8 @@
 //! The comparison has to find each of these wrong implementations out.
 
 use calls::{
-    Answer, Block, Call, Checked, Element, Field, Forecast, Implementation, Length, Lent, Number,
-    Prototype, Reading, Text, LENGTH_LIMIT, RECORD,
+    enough_words, Answer, Block, Call, Checked, Element, Field, Forecast, Implementation, Length,
+    Lent, Number, Prototype, Reading, Text, LENGTH_LIMIT, RECORD, ROW,
 };
 use differential::compare::Comparison;
 use differential::report::Tally;
@@ -110,6 +110,14 @@ enum Fault {
     TextWithoutItsFrame,
     ForecastLeavesTheTable,
     LackingNotForetold,
+    StepsAboveTheFile,
+    LargestOfAnExactTable,
+    LengthOfAnExactTable,
+    AnswersInAFullTable,
+    ShortRoomIsAFullTable,
+    TextCutToTheRoom,
+    FullTableAtTheFirstRecord,
+    LargestOfAWideTable,
 }
 
 const FAULTS: [Fault; 47] = [
@@ -235,7 +243,7 @@ const INDEX_FAULTS: [(Fault, &str); 26] = [
 ];
 
 /// About a forecast and steps, each with the check that finds it out first.
-const FORECAST_FAULTS: [(Fault, &str); 20] = [
+const FORECAST_FAULTS: [(Fault, &str); 28] = [
     (Fault::WordsOfEachDefinition, "library and Rust: forecast"),
     (Fault::StepsByElements, "library and model: text"),
     (Fault::StepsWithoutTheEnd, "library and Rust: forecast"),
@@ -263,6 +271,17 @@ const FORECAST_FAULTS: [(Fault, &str); 20] = [
     (Fault::TextWithoutItsFrame, "library and Rust: forecast"),
     (Fault::ForecastLeavesTheTable, "library: table"),
     (Fault::LackingNotForetold, "library: forecast and text"),
+    (Fault::StepsAboveTheFile, "library: limits"),
+    (Fault::LargestOfAnExactTable, "library: words foretold"),
+    (Fault::LengthOfAnExactTable, "library: words foretold"),
+    (Fault::AnswersInAFullTable, "library: fewer words"),
+    (Fault::ShortRoomIsAFullTable, "library: less room"),
+    (Fault::TextCutToTheRoom, "library: less room"),
+    (
+        Fault::FullTableAtTheFirstRecord,
+        "library and model: forecast",
+    ),
+    (Fault::LargestOfAWideTable, "library and model: forecast"),
 ];
 
 struct Impostor {
@@ -347,9 +366,13 @@ impl Implementation for Impostor {
             Answer::Element(answer) => Answer::Element(self.element(answer, call)),
             Answer::Text(answer) => {
                 let answer = self.text(answer, file, out, &before);
+                let answer = self.text_by_words(answer, file, table.len(), out);
                 Answer::Text(self.text_steps(answer, file))
             }
-            Answer::Forecast(answer) => Answer::Forecast(self.forecast(answer, file)),
+            Answer::Forecast(answer) => {
+                let answer = self.forecast(answer, file);
+                Answer::Forecast(self.forecast_by_words(answer, file, table.len()))
+            }
             Answer::Number(_) => self.once(answer, call, file),
             Answer::Length(answer) => Answer::Length(self.written(answer, file, out)),
             Answer::Checked(answer) => Answer::Checked(self.checked(answer, call, file)),
@@ -945,6 +968,14 @@ impl Impostor {
                 let replaced = definitions(parsed) - parsed.prototypes.len();
                 steps - replaced as u64
             }
+            // The Rust says the steps where no id is defined twice.
+            Fault::StepsAboveTheFile => {
+                let parsed = self.read(file);
+                match definitions(parsed) > parsed.prototypes.len() {
+                    true => file.len() as u64 + 1,
+                    false => steps,
+                }
+            }
             _ => steps,
         }
     }
@@ -986,7 +1017,7 @@ impl Impostor {
             | (Fault::PassesOver9, 9)
             | (Fault::ForetellsWithoutAnEnd, 3) => Forecast::default(),
             (Fault::PassesOverAFullTable, 10) => {
-                let mut table = vec![0; calls::enough_words(file.len())];
+                let mut table = vec![0; enough_words(file.len())];
                 let lent = Lent::file(file, &mut table);
                 self.model.answer(Call::Forecast, lent).forecast()
             }
@@ -1021,6 +1052,60 @@ impl Impostor {
             }
             Fault::IndexOfOneMore => answer.index_len += RECORD as u64,
             Fault::TextWithoutItsFrame => answer.text_len -= 13,
+            _ => {}
+        }
+        answer
+    }
+}
+
+/// What depends on the table: the Rust is compared with a table that has words to spare.
+impl Impostor {
+    /// Whether the table has just the words that the file takes.
+    fn is_exact(&mut self, file: &[u8], words: usize) -> bool {
+        words == ROW * self.read(file).prototypes.len()
+    }
+
+    fn forecast_by_words(&mut self, mut answer: Forecast, file: &[u8], words: usize) -> Forecast {
+        match (self.fault, answer.number) {
+            (Fault::LargestOfAnExactTable, 0) if self.is_exact(file, words) => {
+                answer.largest_block = 0
+            }
+            (Fault::LengthOfAnExactTable, 0) if self.is_exact(file, words) => answer.text_len -= 1,
+            // Wider than any that the library is asked with by itself.
+            (Fault::LargestOfAWideTable, 0) if words > enough_words(file.len()) + 9 => {
+                answer.largest_block = 0
+            }
+            (Fault::FullTableAtTheFirstRecord, 10) => answer.offset = 8,
+            _ => {}
+        }
+        answer
+    }
+
+    fn text_by_words(
+        &mut self,
+        mut answer: Text,
+        file: &[u8],
+        words: usize,
+        out: &mut [u8],
+    ) -> Text {
+        match (self.fault, answer.number) {
+            (Fault::LengthOfAnExactTable, 11) if self.is_exact(file, words) => answer.length -= 1,
+            (Fault::FullTableAtTheFirstRecord, 10) => answer.offset = 8,
+            (Fault::AnswersInAFullTable, 10) => match self.model.whole_text(file, usize::MAX) {
+                Ok((text, _, _)) if text.len() <= out.len() => {
+                    answer = store(&text, self.read(file).steps(), out)
+                }
+                _ => {}
+            },
+            // Without room it is 11, as the forecast has it.
+            (Fault::ShortRoomIsAFullTable, 11) if !out.is_empty() && self.is_exact(file, words) => {
+                answer = Text::refused(10, 8)
+            }
+            (Fault::TextCutToTheRoom, 11) if !out.is_empty() && self.is_exact(file, words) => {
+                let text = self.model.whole_text(file, usize::MAX);
+                let (text, _, _) = text.expect("it asked for room");
+                answer = store(&text[..out.len()], self.read(file).steps(), out)
+            }
             _ => {}
         }
         answer
