@@ -1,6 +1,6 @@
 -- Laws about the field call's part: it is "empty exactly where the look-up refuses".
 use mathlib.Core.Path.{◌≡◌, refl, ap, subst}
-use Prim.Native.Nat.{ℕ, zero, suc, ◌≤◌}
+use Prim.Native.Nat.{ℕ, zero, suc, ◌≤◌, ◌+◌}
 use native.Mathlib.Omega.{arith}
 use mathlib.Core.Option.{Option, none, some, map}
 use mathlib.Core.List.{List, [], ◌∷◌}
@@ -75,7 +75,7 @@ placed_is : {A : Type 0} (size : A → ℕ) (at : ℕ) (l : List A) (i : ℕ) (x
 unfolding placed
 placed_is size at [] i x e = none≢some e
 placed_is size at (a ∷ l) zero x e = ap (λ o. map (λ (p : Placed _). p.it) o) e
-placed_is size at (a ∷ l) (suc i) x e = placed_is size _ l i x e
+placed_is size at (a ∷ l) (suc i) x e = placed_is size (at + size a) l i x e
 
 -- ---- the part is empty exactly where the look-up refuses
 

@@ -7,6 +7,8 @@
 //
 // `find` and `enter` require `Rows`, that the rows are in the table and in that order: callers have it from the relation to the
 // definitions so far that they carry anyway.
+#![tactic(auto)]
+
 ghost use Rattle.std.specs.Prelude.{◌<◌, ◌≤◌, ◌≡◌, length, replicate};
 ghost use Rattle.bsii_format.specs.File.{length_limit};
 ghost use Rattle.bsii_table.specs.Rows.{Rows, lookup};
