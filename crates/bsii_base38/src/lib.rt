@@ -1,4 +1,6 @@
 // Digits to base 38, two at a time: a table of the characters of each remainder by 38 * 38.
+#![tactic(auto)]
+
 mod table;
 
 ghost use Rattle.std.specs.Prelude.{◌≡◌, ◌<◌, ◌/◌, ◌%◌};

@@ -5,18 +5,13 @@ use native.Mathlib.Numerals.{add-one}
 use native.Mathlib.Omega.{arith}
 use mathlib.Core.Bool.{false}
 use mathlib.Core.Option.{Option, some}
-use mathlib.Core.List.{List, [], ◌∷◌}
+use mathlib.Core.List.{List, []}
 use lib.ListN.{length, drop, get_or, drop_of_length-le}
 use lib.Seq.{drop-cons}
-use lib.Dec.{ltb}
-use types.Run.{OneOf}
-use denote.Enum.Declared.{tag_of}
 use Rattle.bsii_format.specs.Utf8.{Range, within, table3_7, trail_of, step, steps, complete, utf8}
 use Rattle.bsii_string.specs.States.{to_come}
 use Rattle.bsii_string.specs.declared.utf8.State.{State}
 use Rattle.bsii_string.specs.declared.utf8.State.TheVariants.{Between, One, Two, Three, AfterE0, AfterEd, AfterF0, AfterF4, Broken}
-use Rattle.bsii_string.specs.contracts.utf8.State.{the_type}
-use Rattle.bsii_string.proofs.Keys.{every, keyed}
 use Rattle.bsii_string.proofs.Tables.{tabulate, between}
 
 pub steps_more : (o : Option (List Range)) (s : List ℕ) (i : ℕ) → i < length s → steps o (drop i s) ≡ steps (step o (get_or s i 0)) (drop (i + 1) s)
@@ -35,9 +30,9 @@ ascii_more s i h a =
     ∙ ap complete (sym (steps_more (some []) s i h))
 
 -- only the first state ends where a sequence ends
-pub not_between : (q : State) → OneOf (1 ∷ 2 ∷ 3 ∷ 4 ∷ 5 ∷ 6 ∷ 7 ∷ 8 ∷ []) (tag_of the_type q) → complete (to_come q) ≡ false
-unfolding complete every
-not_between Between h = absurd (keyed (ltb 0) (1 ∷ 2 ∷ 3 ∷ 4 ∷ 5 ∷ 6 ∷ 7 ∷ 8 ∷ []) 0 tt h)
+pub not_between : (q : State) → (q ≡ Between → ⊥) → complete (to_come q) ≡ false
+unfolding complete
+not_between Between h = absurd (h refl)
 not_between One h = refl
 not_between Two h = refl
 not_between Three h = refl

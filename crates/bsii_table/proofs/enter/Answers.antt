@@ -1,7 +1,5 @@
 -- `enter` meets its contract: the law of the arm that was taken.
-use Prim.Native.Nat.{◌+◌, ◌≤◌}
 use native.Mathlib.Omega.{arith}
-use lib.ListN.{length}
 use Rattle.bsii_table.proofs.Laws.{row_ends, row_entered, missing_entered}
 use Rattle.bsii_table.proofs.enter.Goals as goal
 

@@ -1,8 +1,6 @@
 -- `find` meets its contract: the law of the arm that was taken.
-use Prim.Native.Nat.{◌+◌, ◌≤◌}
 use native.Mathlib.Omega.{arith}
 use mathlib.Core.Path.{sym}
-use lib.ListN.{length}
 use Rattle.bsii_table.proofs.Laws.{row_ends, row_found, missing_found}
 use Rattle.bsii_table.proofs.find.Goals as goal
 
