@@ -12,7 +12,7 @@ use crate::list::{bytes_at, number};
 use bsii_string::numbers::size;
 use sii_io::{large_buffer, read_full};
 use std::io;
-use std::io::{Input, Print, Read, Write};
+use std::io::{Print, Read, Write};
 
 fn print(rt: &impl Print, text: &[u8]) -> io::Result<()> {
     io::writer(rt).write_all(text)
@@ -162,5 +162,5 @@ fn main(rt: HostRuntime) -> io::Result<()> {
     let mut buffer = large_buffer();
     let mut table = [0u32; 768];
     let mut output = large_buffer();
-    run(&rt, &mut rt.reader(), &mut buffer, &mut table, &mut output)
+    run(&rt, &mut rt.stdin(), &mut buffer, &mut table, &mut output)
 }
