@@ -1,2 +1,4 @@
 // Copies of names.
+#![tactic(auto)]
+
 pub mod names;

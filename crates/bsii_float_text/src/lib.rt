@@ -1,5 +1,7 @@
 // Floats and the values that are made of several. A float that is a NaN has lost its bits: those beside the floats stand in. Each is stored where there is
 // room for any of its kind: 21 bytes for one, 100 for up to four.
+#![tactic(auto)]
+
 ghost use Rattle.std.specs.Prelude.{◌+◌, ◌≤◌, ◌++◌, ◌≡◌, length};
 ghost use Rattle.bsii_format.specs.Ascii.{ascii};
 ghost use Rattle.bsii_format.specs.Digits.{decimal};

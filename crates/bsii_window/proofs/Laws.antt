@@ -1,15 +1,13 @@
 -- Writes one after the other.
 use Prim.Native.Nat.{ℕ, suc, ◌+◌, ◌-◌, ◌≤◌, ◌<◌, min}
 use mathlib.Core.Path.{◌≡◌, refl, sym, ap, ◌∙◌, subst}
-use mathlib.Core.Logic.{◌⊎◌, inl, inr, ⊎_elim}
-use mathlib.Core.Bool.{Bool, true, false}
+use mathlib.Core.Logic.{⊎_elim}
 use mathlib.Core.List.{List, [], ◌∷◌, ◌++◌}
 use native.Mathlib.Nat.{add-zero, zero-add}
 use native.Mathlib.Omega.{arith}
-use lib.Dec.{ltb}
 use lib.ListN.{set, length, get_or, take, drop, length-append, length-drop, take-append-drop, drop_of_length-le}
 use lib.Seq.{sets, length-take-le, take-suc, take_all, set_out, length-sets, drop-append-le, drop-append-add, drop-nil, sets-eq, take_at}
-use borrow.Author.Tests.{le-leb, lt-leb, ltb-true, ltb-false}
+use borrow.Author.Tests.{le-leb, lt-leb}
 pub use Rattle.bsii_format.proofs.Lists.{bool_cases, lt_or_le, sets_append}
 use Rattle.bsii_window.specs.Window.{capped, written, Wrote}
 use Rattle.bsii_window.specs.Overlaps.{OverlapOf}

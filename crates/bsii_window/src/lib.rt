@@ -2,5 +2,7 @@
 //
 // A position counts the text's bytes from 2^63 on, where the window starts: a text may also start in front of its window. A position that would
 // pass 2^64 - 1 stays there, past every window, so no writer asks anything of its caller for its sums. With an empty window a writer only measures.
+#![tactic(auto)]
+
 pub mod digits;
 pub mod window;

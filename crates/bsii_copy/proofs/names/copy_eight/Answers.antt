@@ -1,0 +1,32 @@
+-- Byte i is stored behind the first i ones, which makes `take (i + 1)` of `take i` (law `eight`). No store changes a length, so every index stays inside.
+use native.Mathlib.Omega.{arith}
+use lib.ListN.{length-set}
+use Rattle.bsii_copy.proofs.Copies.{eight}
+use Rattle.bsii_copy.proofs.names.copy_eight.Goals as goal
+
+pub bounds-out-to-2 : goal.bounds-out-to-2
+bounds-out-to-2 c = simp length-set (omega arith)
+
+pub bounds-out-to-3 : goal.bounds-out-to-3
+bounds-out-to-3 c = simp length-set (omega arith)
+
+pub bounds-out-to-4 : goal.bounds-out-to-4
+bounds-out-to-4 c = simp length-set (omega arith)
+
+pub bounds-out-to-5 : goal.bounds-out-to-5
+bounds-out-to-5 c = simp length-set (omega arith)
+
+pub bounds-out-to-6 : goal.bounds-out-to-6
+bounds-out-to-6 c = simp length-set (omega arith)
+
+pub bounds-out-to-7 : goal.bounds-out-to-7
+bounds-out-to-7 c = simp length-set (omega arith)
+
+pub bounds-out-to-8 : goal.bounds-out-to-8
+bounds-out-to-8 c = simp length-set (omega arith)
+
+pub shape_of-out : goal.shape_of-out
+shape_of-out c = simp length-set
+
+pub returns : goal.returns
+returns c = let a = c.args in eight a.out.now a.to a.text.now a.from c.requires.1
