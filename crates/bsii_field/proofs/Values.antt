@@ -12,7 +12,6 @@ use Rattle.bsii_format.specs.Blocks.{DataValue, data_values_parser}
 use Rattle.bsii_format.specs.Calls.{Placed, placed, field_answer}
 use Rattle.bsii_format.proofs.Records.{value_good}
 use Rattle.bsii_string.specs.Answers.{end_of, unchecked_str}
-use Rattle.bsii_string.specs.declared.answers.Parsed.{Parsed}
 use Rattle.bsii_string.specs.declared.answers.Parsed.TheVariants.{Next, Fault}
 use Rattle.bsii_prototype.specs.Entries.{entry_with}
 use Rattle.bsii_prototype.specs.Answers.{entry_of}

@@ -2,6 +2,8 @@
 //
 // Definitions and values were accepted before, so nothing is checked again. Each function takes the whole file and positions, any
 // positions, and answers for every input; its contract says what the answer means where the format's readers accept.
+#![tactic(auto)]
+
 ghost use Rattle.bsii_field.specs.Answers.{IndexOf, ValueAt};
 
 use bsii_prototype::answers::Entry;

@@ -6,10 +6,10 @@ use mathlib.Core.Option.{Option, none, some}
 use mathlib.Core.List.{List, []}
 use lib.ListN.{length}
 use lib.Dec.{eqb}
-use Rattle.bsii_format.specs.Reader.{Reader, ◌>>=◌, success, ◌<$>◌, with, consumed}
+use Rattle.bsii_format.specs.Reader.{Reader, ◌>>=◌, success, ◌<$>◌, consumed}
 use Rattle.bsii_format.specs.Numbers.{number}
 use Rattle.bsii_format.specs.Strings.{str_parser}
-use Rattle.bsii_format.specs.Prototypes.{EnumValue, ValuePrototype, enum_value_parser, enum_values_parser, value_prototype_parser, Fields, cons_field, fields_then, fields_from, fields_parser}
+use Rattle.bsii_format.specs.Prototypes.{ValuePrototype, enum_value_parser, enum_values_parser, value_prototype_parser, Fields, fields_then, fields_from, fields_parser}
 use Rattle.bsii_format.proofs.Follows.{Follows, Same, itself, bind_same, cond_follows, repeat_same, consumed_same, exhausted_follows}
 use Rattle.bsii_string.specs.Answers.{unchecked_str}
 use Rattle.bsii_string.proofs.Unchecked.{str_follows}

@@ -3,6 +3,8 @@
 // Each function takes the whole file and a position, any position, and answers for every input; its contract gives the answer as the
 // end of an unchecked reader of specs/ on the bytes from there on. Where the format's own reader accepts, that end is the same
 // (proofs/Values).
+#![tactic(auto)]
+
 ghost use Rattle.std.specs.Prelude.{◌≡◌, drop};
 ghost use Rattle.bsii_format.specs.Replies.{unlisted_type};
 ghost use Rattle.bsii_format.specs.Reader.{repeat};

@@ -5,14 +5,14 @@ use native.Mathlib.Decide.{ℕ_discrete}
 use native.Mathlib.Numerals.{add-one}
 use native.Mathlib.Omega.{arith}
 use mathlib.Core.Path.{◌≡◌, sym, ap, ap₂, ◌∙◌, subst}
-use mathlib.Core.Logic.{◌⊎◌, ⊎_elim}
+use mathlib.Core.Logic.{⊎_elim}
 use mathlib.Core.Bool.{cond}
 use mathlib.Core.Option.{none, some, map}
 use mathlib.Core.List.{List}
 use lib.ListN.{length, get_or, set, length-set}
 use lib.Seq.{get_or-set_same, get_or-set_other}
 use lib.Dec.{eqb}
-use Rattle.bsii_table.specs.Rows.{Row, offsets}
+use Rattle.bsii_table.specs.Rows.{offsets}
 use Rattle.bsii_table.proofs.Lookups.{Once, finds, misses, replaced, appended}
 use Rattle.bsii_tree.specs.Tree.{search, Tree, Leaf, Place}
 use Rattle.bsii_tree.specs.Table.{id_of, offset_of, key_of, link_of, row_of, Linked, lookup_tree, Sought, Appended, rows_with, Puts, Named}

@@ -5,6 +5,8 @@
 //
 // `find` and `define` require `Linked`, that the rows are in the table and such a tree: callers have it from the relation to the
 // definitions so far that they carry anyway.
+#![tactic(auto)]
+
 ghost use Rattle.std.specs.Prelude.{◌+◌, ◌*◌, ◌≤◌, ◌<◌, ◌≡◌, length};
 ghost use Rattle.bsii_table.specs.Table.{found_row};
 ghost use Rattle.bsii_tree.specs.Table.{id_of, Linked, lookup_tree, Sought, Appended, Defines, Named};

@@ -4,7 +4,7 @@ ghost use Rattle.bsii_format.specs.Types.{shape_of, width as width_of, arity as 
 ghost use Rattle.bsii_value.specs.Kinds.{numeric_is, shape_is};
 
 // Values that are one or more numbers of one width.
-#[derive(Drop)]
+#[derive(Clone, Copy)]
 pub enum Numeric {
     Float,
     FloatVec2,
@@ -23,7 +23,7 @@ pub enum Numeric {
 }
 
 // What one element is.
-#[derive(Drop)]
+#[derive(Clone, Copy)]
 pub enum Kind {
     Numbers(Numeric),
     String,
@@ -32,7 +32,7 @@ pub enum Kind {
 }
 
 // A single element, or an array of them.
-#[derive(Drop)]
+#[derive(Clone, Copy)]
 pub enum Shape {
     One(Kind),
     Many(Kind),
@@ -41,6 +41,7 @@ pub enum Shape {
 
 // The table of types, row by row. A type that is not there has no length that could be guessed. Version 1 has two rows of its own, ahead of the others: so
 // each row is a constant, and the rows are compiled to a table and not to jumps.
+#[tactic(auto, unfolding(bsii_format::specs::Types::shape_of, bsii_format::specs::Types::shape_in, bsii_format::specs::Types::type_table, bsii_format::specs::Types::placement_in))]
 pub fn shape_of(version: u32, type_id: u32) -> Shape
     ensures { shape_is result ≡ shape_of version type_id }
 {
@@ -91,6 +92,7 @@ pub fn shape_of(version: u32, type_id: u32) -> Shape
 }
 
 // How many bytes each number has.
+#[tactic(auto, unfolding(bsii_format::specs::Types::width))]
 pub fn width(n: Numeric) -> u32
     ensures { result ≡ width_of (numeric_is n) }
 {
@@ -103,6 +105,7 @@ pub fn width(n: Numeric) -> u32
 }
 
 // How many numbers there are.
+#[tactic(auto, unfolding(bsii_format::specs::Types::arity))]
 pub fn arity(n: Numeric) -> u32
     ensures { result ≡ arityOf (numeric_is n) }
 {
@@ -117,6 +120,7 @@ pub fn arity(n: Numeric) -> u32
 }
 
 // How many bytes they have together, as a row of its own: a value is passed by one match.
+#[tactic(auto, unfolding(bsii_format::specs::Types::arity, bsii_format::specs::Types::width))]
 pub fn byte_count(n: Numeric) -> usize
     ensures { result ≡ arityOf (numeric_is n) * width_of (numeric_is n) }
 {

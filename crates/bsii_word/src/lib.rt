@@ -1,2 +1,4 @@
 // Encoded words, and ids, which are made of them.
+#![tactic(auto)]
+
 pub mod words;
