@@ -3,8 +3,8 @@
 --
 -- To try a list, write it down by its bytes (specs/Written.antt; specs/Example.antt has three) and let the checker compute:
 --
---     t : allowed 2 (madeAll 2 (field 7 1 BYTES (BYTES ∷ []) ∷ blockAt 1 BYTES ∷ []) M) M ≡ true
---     unfolding computesAll
+--     t : allowed 2 (made_all 2 (field 7 1 BYTES (BYTES ∷ []) ∷ block_at 1 BYTES ∷ []) M) M ≡ true
+--     unfolding computes_all
 --     t = refl
 --
 -- where 2 is the old save's version and M is `mark_records FILE.records`, FILE the old save's, as `old_file` is the worked one's. A type that no block carries need not be listed.

@@ -1,4 +1,4 @@
--- whole_number keeps the text: what numberText makes of its answer is floatText of the bits, so either arm stores that.
+-- whole_number keeps the text: what number_text makes of its answer is float_text of the bits, so either arm stores that.
 use mathlib.Core.Path.{sym, ap, ◌∙◌}
 use native.Mathlib.Omega.{arith}
 use Rattle.bsii_float.specs.Texts.{number_text}

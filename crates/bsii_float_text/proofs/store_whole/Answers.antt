@@ -1,4 +1,4 @@
--- minusIf puts the sign in front only if the number is negative, which is the branch that stores it; the digits behind it are the same in both.
+-- minus_if puts the sign in front only if the number is negative, which is the branch that stores it; the digits behind it are the same in both.
 use mathlib.Core.Path.{sym, ap}
 use mathlib.Core.Bool.{Bool}
 use native.Mathlib.Omega.{arith}

@@ -1,4 +1,4 @@
--- A pair that enumValueParser accepts has eight bytes and those of its string: with fewer nothing is accepted, and with them its parts are these.
+-- A pair that enum_value_parser accepts has eight bytes and those of its string: with fewer nothing is accepted, and with them its parts are these.
 use mathlib.Core.Path.{refl, ◌∙◌}
 use native.Mathlib.Omega.{arith}
 use Rattle.bsii_definition.proofs.EnumLaws.{pair_short, pair_cut, pair_whole}

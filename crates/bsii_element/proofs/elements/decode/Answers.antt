@@ -1,4 +1,4 @@
--- elementParser goes by the kind alone: the function called in each arm answers for that arm's kind, and the kind here is that one.
+-- element_parser goes by the kind alone: the function called in each arm answers for that arm's kind, and the kind here is that one.
 use mathlib.Core.Path.{sym, ap, ◌∙◌}
 use Prim.Native.Nat.{ℕ}
 use mathlib.Core.List.{List}

@@ -1,5 +1,5 @@
--- shape_of is shape_of, so each arm is the valueParser of its shape. In an array the value was accepted first, which is all that in_array asks;
--- a value that is refused, or a type that is not listed, is refused by ofValue with the same fault.
+-- shape_of is the one of the definitions, so each arm is the value_parser of its shape. In an array the value was accepted first, which is all that in_array asks;
+-- a value that is refused, or a type that is not listed, is refused by of_value with the same fault.
 use mathlib.Core.Path.{sym, ap, ◌∙◌}
 use mathlib.Core.Option.{Option, some}
 use Rattle.bsii_format.specs.Replies.{refuses}

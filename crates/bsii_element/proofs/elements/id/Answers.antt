@@ -1,4 +1,4 @@
--- elementParser of an id is idParser with its value wrapped, which moves no end and no fault; an id ends no earlier than it starts, so the size fits.
+-- element_parser of an id is id_parser with its value wrapped, which moves no end and no fault; an id ends no earlier than it starts, so the size fits.
 use mathlib.Core.Path.{sym, ◌∙◌}
 use lib.ListN.{drop}
 use Rattle.bsii_format.specs.Reader.{◌<$>◌}

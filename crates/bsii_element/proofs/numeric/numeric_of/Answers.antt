@@ -1,4 +1,4 @@
--- With the kind known, arity and width say which numbers numbersAt reads from 0 on: they are those that the arm's reader takes, and numericDatum
+-- With the kind known, arity and width say which numbers numbers_at reads from 0 on: they are those that the arm's reader takes, and numeric_datum
 -- makes of them what the arm's conversion does. A signed number fits its type, so storing it keeps it.
 use mathlib.Core.Path.{sym, ap, ◌∙◌}
 use Prim.Native.Nat.{ℕ}

@@ -1,4 +1,4 @@
--- whole_number keeps the text: what numberText makes of its answer is floatText of the bits, so either arm measures that.
+-- whole_number keeps the text: what number_text makes of its answer is float_text of the bits, so either arm measures that.
 use mathlib.Core.Path.{sym, ap, ◌∙◌}
 use lib.ListN.{length}
 use Rattle.bsii_format.specs.Floats.{bits_text}

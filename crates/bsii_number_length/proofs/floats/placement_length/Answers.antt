@@ -1,4 +1,4 @@
--- The bits that are measured for the position are those that placementText writes there: the sectors and the sums are the definition's.
+-- The bits that are measured for the position are those that placement_text writes there: the sectors and the sums are the definition's.
 use Prim.Native.Nat.{ℕ}
 use mathlib.Core.Path.{ap, ap₂, ◌∙◌}
 use lib.ListN.{length, length-append}

@@ -1,4 +1,4 @@
--- minusIf puts the sign in front only if the number is negative, which is the branch that counts it.
+-- minus_if puts the sign in front only if the number is negative, which is the branch that counts it.
 use mathlib.Core.Path.{ap}
 use mathlib.Core.Bool.{Bool}
 use lib.ListN.{length}

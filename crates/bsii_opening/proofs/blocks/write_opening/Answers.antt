@@ -1,4 +1,4 @@
--- Four pieces one behind the other are their concatenation, and that is blockOpening of the name and of the id that has these bytes; inside the window by
+-- Four pieces one behind the other are their concatenation, and that is block_opening of the name and of the id that has these bytes; inside the window by
 -- stores, with room for the longest, else by writes.
 use native.Mathlib.Omega.{arith}
 use Rattle.bsii_window.proofs.Laws.{starts}
