@@ -3,7 +3,7 @@
 # make uninstall  removes what install made
 # make test       proves everything and runs all tests
 #
-# The library is proved first (rt staticlib sii_decode_c), unless SII_LIBRARY names the folder of an archive. install builds nothing, so it needs neither rt nor cargo.
+# The library is proved first (tools/build sii_decode_c), unless SII_LIBRARY names the folder of an archive. install builds nothing, so it needs neither rt nor cargo.
 
 PREFIX ?= /usr/local
 DESTDIR ?=
@@ -30,7 +30,7 @@ all: $(archive) $(shared) command
 
 ifndef SII_LIBRARY
 $(archive): $(shell find crates -name '*.rt' -o -name '*.antt') crates.txt
-	rt staticlib sii_decode_c
+	tools/build sii_decode_c
 	touch $@
 endif
 

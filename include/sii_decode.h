@@ -1,5 +1,5 @@
 /*
- * The converter from BSII, a truck simulator's binary saves, to SiiNunit text. Link with libsii_decode_c.a, which `rt staticlib sii_decode_c`
+ * The converter from BSII, a truck simulator's binary saves, to SiiNunit text. Link with libsii_decode_c.a, which `tools/build sii_decode_c`
  * puts into target/staticlib, or with what `make install` installs (pkg-config name: sii_decode). docs/FORMAT.md explains the format, the refusals
  * and the calls.
  *

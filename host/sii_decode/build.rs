@@ -1,4 +1,4 @@
-//! Finds the library's archive: in SII_LIBRARY, or where `rt staticlib sii_decode_c` puts it. A
+//! Finds the library's archive: in SII_LIBRARY, or where `tools/build sii_decode_c` puts it. A
 //! relative path counts from the repository's root.
 
 use std::env;
@@ -14,7 +14,7 @@ fn main() {
     let archive = folder.join(format!("lib{NAME}.a"));
     if !archive.is_file() {
         eprintln!(
-            "sii_decode: no {}: run `rt staticlib {NAME}`",
+            "sii_decode: no {}: run `tools/build {NAME}`",
             archive.display()
         );
         exit(1);

@@ -1,5 +1,7 @@
 // Data blocks under a prototype's definitions: where they end, and how many values they have. The definitions were read before: their names are not
 // checked again.
+#![tactic(auto)]
+
 ghost use Rattle.std.specs.Prelude.{drop};
 ghost use Rattle.bsii_base38.specs.Pairs.{CharPairs};
 ghost use Rattle.bsii_block.specs.Blocks.{ValuesEnd, BlockEnd, DefinedEnd, ValuesSkipped, BlockSkipped};

@@ -20,7 +20,6 @@ use Rattle.bsii_format.proofs.Lists.{lt_or_le}
 use Rattle.bsii_format.proofs.Positions.{moved, bind_fault, bind_ok, number_at_law, number_short}
 use Rattle.bsii_string.specs.Answers.{end_of, unchecked_str}
 use Rattle.bsii_string.specs.declared.answers.Refusal.{Refusal}
-use Rattle.bsii_string.specs.declared.answers.Parsed.{Parsed}
 use Rattle.bsii_string.specs.declared.answers.Parsed.TheVariants.{Next, Fault}
 use Rattle.bsii_string.proofs.Ends.{next≢fault, next_same}
 use Rattle.bsii_string.proofs.Texts.{str_past_next, unchecked_cut, unchecked_whole}

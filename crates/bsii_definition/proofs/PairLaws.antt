@@ -2,9 +2,7 @@
 use mathlib.Core.Path.{◌≡◌, refl, sym, ap₂, ◌∙◌}
 use Prim.Native.Nat.{ℕ, ◌+◌, ◌-◌}
 use mathlib.Core.Bool.{true, false}
-use mathlib.Core.List.{List, [], ◌∷◌}
-use types.Run.{OneOf}
-use denote.Enum.Declared.{tag_of}
+use mathlib.Core.List.{List, []}
 use lib.Dec.{eqb, eqb-suc-zero, eqb-zero-suc, eqb-suc-suc}
 use lib.ListN.{length, take, drop}
 use Rattle.bsii_format.specs.Reader.{ok, Consumed, with}
@@ -14,7 +12,6 @@ use Rattle.bsii_prototype.specs.Entries.{entry_with}
 use Rattle.bsii_prototype.specs.Answers.{entry_of}
 use Rattle.bsii_prototype.specs.declared.answers.Entry.{Entry}
 use Rattle.bsii_prototype.specs.declared.answers.Entry.TheVariants.{Field}
-use Rattle.bsii_prototype.specs.contracts.answers.Entry.{the_type}
 use Rattle.bsii_prototype.proofs.Turns.{turn_field, turn_last, turn_none, turn_bad}
 use Rattle.bsii_prototype.proofs.Inside.{field_inside}
 use Rattle.bsii_field.proofs.Entries.{unfielded}
@@ -26,7 +23,7 @@ use Rattle.bsii_definition.specs.declared.pairs.Pair.TheVariants.{Both, Ends, Un
 
 -- an answer that is no field, where a list is read: its end
 pub at_end : (s : List ℕ) (at : ℕ) {l : Fields} {n : ℕ} {t : List ℕ} → fields_parser at (drop at s) ≡ ok l n t
-    → (x : Entry) → OneOf (1 ∷ 2 ∷ []) (tag_of the_type x) → x ≡ entry_of (at + 8) (entry_with unchecked_str at (drop at s)) → l.fields ≡ []
+    → (x : Entry) → ((type a b next : ℕ) → x ≡ Field type a b next → ⊥) → x ≡ entry_of (at + 8) (entry_with unchecked_str at (drop at s)) → l.fields ≡ []
 at_end s at e x h f = unfielded x h (λ n z. (turn_last s at e (sym z ∙ f)).0) (λ g z. turn_bad s at e (sym z ∙ f))
 
 module _ (s : List ℕ) (at : ℕ) {type a b next : ℕ} (f : Field type a b next ≡ entry_of (at + 8) (entry_with unchecked_str at (drop at s)))
@@ -68,7 +65,7 @@ module _ (s : List ℕ) (field : ℕ) where
   }
 
 module _ (s : List ℕ) (type next lastField : ℕ) where
-  pub last_shorter_here : (x : Entry) → OneOf (1 ∷ 2 ∷ []) (tag_of the_type x) → x ≡ entry_of (lastField + 8) (entry_with unchecked_str lastField (drop lastField s)) → WithLast s type next lastField Uneven
+  pub last_shorter_here : (x : Entry) → ((type a b next : ℕ) → x ≡ Field type a b next → ⊥) → x ≡ entry_of (lastField + 8) (entry_with unchecked_str lastField (drop lastField s)) → WithLast s type next lastField Uneven
   last_shorter_here x h f = record { is = λ l n t d e b m o u g. last_shorter b.fields (at_end s lastField g x h f); inside = λ field k j. tt }
 
   pub last_too : {lastType a b lastNext : ℕ} → Field lastType a b lastNext ≡ entry_of (lastField + 8) (entry_with unchecked_str lastField (drop lastField s))
@@ -86,14 +83,14 @@ module _ (s : List ℕ) (type next lastField : ℕ) where
   }
 
 module _ (s : List ℕ) (lastField : ℕ) where
-  pub both_end : (x : Entry) → OneOf (1 ∷ 2 ∷ []) (tag_of the_type x) → x ≡ entry_of (lastField + 8) (entry_with unchecked_str lastField (drop lastField s)) → WithoutLast s lastField Ends
+  pub both_end : (x : Entry) → ((type a b next : ℕ) → x ≡ Field type a b next → ⊥) → x ≡ entry_of (lastField + 8) (entry_with unchecked_str lastField (drop lastField s)) → WithoutLast s lastField Ends
   both_end x h f = record { is = λ l n t e m o u g. ends e (at_end s lastField g x h f); inside = λ field. tt }
 
   pub last_longer_here : {type a b next : ℕ} → Field type a b next ≡ entry_of (lastField + 8) (entry_with unchecked_str lastField (drop lastField s)) → WithoutLast s lastField Uneven
   last_longer_here f = record { is = λ l n t e m o u g. last_longer e (begins s lastField f g).fields; inside = λ field. tt }
 
 module _ (s : List ℕ) (field lastField : ℕ) where
-  pub in_force_ends : (x : Entry) → OneOf (1 ∷ 2 ∷ []) (tag_of the_type x) → x ≡ entry_of (field + 8) (entry_with unchecked_str field (drop field s)) → {r : Pair} → WithoutLast s lastField r
+  pub in_force_ends : (x : Entry) → ((type a b next : ℕ) → x ≡ Field type a b next → ⊥) → x ≡ entry_of (field + 8) (entry_with unchecked_str field (drop field s)) → {r : Pair} → WithoutLast s lastField r
       → PairOf s field lastField r
   in_force_ends x h f w = record { is = λ l n t e. w.is l n t (at_end s field e x h f); inside = w.inside field }
 

@@ -1,6 +1,6 @@
 -- An index in bytes: a number of w bytes is read as it was written if it is below 256 ^ w; a record has 4 · w bytes, so record k starts at k of them.
 use mathlib.Core.Path.{◌≡◌, refl, sym, ap, ◌∙◌, subst}
-use Prim.Native.Nat.{ℕ, zero, suc, ◌+◌, ◌*◌, ◌/◌, ◌%◌, ◌^◌, ◌≤◌, ◌<◌}
+use Prim.Native.Nat.{ℕ, zero, suc, ◌+◌, ◌*◌, ◌/◌, ◌%◌, ◌^◌, ◌<◌}
 use native.Mathlib.Nat.{pow-suc, div-add-mod', zero-mul, suc-mul}
 use native.Mathlib.Omega.{arith}
 use mathlib.Core.Option.{Option, none, some}
@@ -8,7 +8,7 @@ use mathlib.Core.List.{List, [], ◌∷◌, ◌++◌}
 use lib.ListN.{length, drop, get_elem?, length-append}
 use lib.Seq.{drop-append-add}
 use lib.Dec.{leb, leb→le}
-use Rattle.bsii_format.specs.Reader.{ok, ◌>>=◌, success, after, bytes, ◌<$>◌}
+use Rattle.bsii_format.specs.Reader.{◌>>=◌, after, bytes, ◌<$>◌}
 use Rattle.bsii_format.specs.Numbers.{little_endian, number, le}
 use Rattle.bsii_format.proofs.Readers.{Fits, is_false, bind_fits, map_fits, bytes_fits}
 use Rattle.bsii_derived.specs.Index.{IndexRecord, index_record_bytes, index_bytes, index_record_parser, whole, record_at}

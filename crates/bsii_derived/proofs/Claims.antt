@@ -1,6 +1,5 @@
 -- The promises: the file's parts stand at the index's offsets, so the look-up reads there what the walk has read.
 use mathlib.Core.Path.{◌≡◌, refl, sym, ap, ◌∙◌, subst}
-use mathlib.Core.Logic.{◌↔◌}
 use Prim.Native.Nat.{ℕ, zero, suc, ◌+◌, ◌*◌, ◌/◌, ◌^◌, ◌≤◌, ◌<◌}
 use native.Mathlib.Nat.{le-div_iff_mul-le}
 use native.Mathlib.Omega.{arith}
@@ -11,25 +10,25 @@ use lib.ListN.{length, take, drop, get_elem?, length-append}
 use lib.Seq.{drop-append_seam}
 use lib.Dec.{T, leb, le→leb, lit≤}
 use Rattle.bsii_format.specs.Ascii.{ascii}
-use Rattle.bsii_format.specs.Replies.{Reply, gives, refused, refuses, refusal, invalid_header, absent, misfit}
-use Rattle.bsii_format.specs.Reader.{Result, ok, fault, ◌>>=◌, after, ◌<$>◌, bytes, same, tag}
-use Rattle.bsii_format.specs.Numbers.{number, le_u32}
+use Rattle.bsii_format.specs.Replies.{Reply, gives, refused, refusal, invalid_header, misfit}
+use Rattle.bsii_format.specs.Reader.{Result, ok, fault, ◌>>=◌, after, same, tag}
+use Rattle.bsii_format.specs.Numbers.{le_u32}
 use Rattle.bsii_format.specs.Prototypes.{Prototype}
-use Rattle.bsii_format.specs.Blocks.{DataBlock, find_by, get_prototype}
-use Rattle.bsii_format.specs.File.{Record, block, record_bytes, records_bytes, header_parser, BsiiFile, length_limit, parse, file_bytes, define_all, distinct_ids, prototypes_of}
+use Rattle.bsii_format.specs.Blocks.{DataBlock, find_by}
+use Rattle.bsii_format.specs.File.{block, record_bytes, records_bytes, header_parser, BsiiFile, length_limit, parse, file_bytes, distinct_ids, prototypes_of}
 use Rattle.bsii_format.specs.BlockText.{or_refuse}
-use Rattle.bsii_format.specs.Calls.{of_file, or_absent, Placed, placed, placed_records, blocks_of, Reading, reading_of, reading_call, field_under, field_in, field_answer, field_of, field_call}
-use Rattle.bsii_format.proofs.Readers.{Fits, ok_val, ok_move, after_ok, cond_ok, is_true, takes, same→eq, same_refl}
-use Rattle.bsii_format.proofs.File.{GoodFile, FileTaken, file_good, parse_ok, parse_fits}
+use Rattle.bsii_format.specs.Calls.{of_file, or_absent, Placed, placed_records, blocks_of, Reading, reading_of, reading_call, field_under, field_in, field_answer, field_of, field_call}
+use Rattle.bsii_format.proofs.Readers.{ok_val, ok_move, after_ok, cond_ok, is_true, takes, same→eq, same_refl}
+use Rattle.bsii_format.proofs.File.{FileTaken, file_good, parse_ok, parse_fits}
 use Rattle.bsii_format.proofs.Records.{head_takes}
 use Rattle.bsii_format.proofs.ReplyLaws.{refuses≢gives, gives_inj}
-use Rattle.bsii_derived.specs.Index.{index_width, IndexRecord, index_record, index_of, index_bytes, index_bytes_of, record_at, agreeing}
+use Rattle.bsii_derived.specs.Index.{index_width, IndexRecord, index_record, index_of, index_bytes_of, record_at}
 use Rattle.bsii_derived.specs.IndexCalls.{checked, check_index_call, prototype_at, block_at, answering, field_by, index_field_call, once, defines_once_call}
 use Rattle.bsii_derived.specs.IndexClaims.{OnePerBlock, ChecksExactly, Held, NumbersHeld, AnswersAsWalk, AtOwnWidth}
 use Rattle.bsii_derived.proofs.Bytes.{none≢some, some_is, index_length_law, record_there, record_missing}
 use Rattle.bsii_derived.proofs.Defined.{prototype_fits, block_fits}
 use Rattle.bsii_derived.proofs.Once.{found_id}
-use Rattle.bsii_derived.proofs.Entries.{size_of, Stands, PrototypeIn, BlockIn, Entry, neither, both, entry_at, entry_held}
+use Rattle.bsii_derived.proofs.Entries.{Stands, BlockIn, Entry, neither, both, entry_at, entry_held}
 
 -- ---- a file that is read
 

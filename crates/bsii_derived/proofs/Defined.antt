@@ -1,19 +1,18 @@
 -- What the walk has read, the look-up by an index reads too: a prototype at its offset, and a block under it.
 use mathlib.Core.Path.{◌≡◌, refl, sym, ap, ◌∙◌, subst}
-use Prim.Native.Nat.{ℕ, zero, suc, ◌+◌, ◌≤◌}
+use Prim.Native.Nat.{ℕ, zero, suc}
 use native.Mathlib.Omega.{arith}
-use mathlib.Core.Bool.{Bool, true, false, not, cond, ◌&&◌}
-use mathlib.Core.Option.{some}
+use mathlib.Core.Bool.{Bool, true, false, not, cond}
 use mathlib.Core.List.{List, []}
 use lib.Dec.{T, leb, eqb, eqb→eq, eqb_refl, leb→le}
 use Rattle.bsii_format.specs.Replies.{bad_mark, undefined_prototype}
-use Rattle.bsii_format.specs.Reader.{Result, ok, fault, Reader, after, success, verify, Consumed, with, consumed, ◌>>=◌, ◌<$>◌}
+use Rattle.bsii_format.specs.Reader.{Result, ok, Reader, after, success, verify, with, ◌>>=◌, ◌<$>◌}
 use Rattle.bsii_format.specs.Numbers.{le_u8, le_u32}
-use Rattle.bsii_format.specs.Strings.{str_parser, id_parser}
+use Rattle.bsii_format.specs.Strings.{str_parser}
 use Rattle.bsii_format.specs.Prototypes.{Prototype, fields_parser}
-use Rattle.bsii_format.specs.Blocks.{DataValue, DataBlock, data_values_parser}
+use Rattle.bsii_format.specs.Blocks.{DataValue, DataBlock}
 use Rattle.bsii_format.specs.File.{prototype, block, Head, ending, defining, carrying, mark_parser, head_parser, record_bytes}
-use Rattle.bsii_format.proofs.Readers.{Fits, fault≢ok, ok_val, ok_move, after_ok, cond_ok, is_true, bind_fits, map_fits, verify_fits, consumed_fits, and_both}
+use Rattle.bsii_format.proofs.Readers.{Fits, ok_val, ok_move, after_ok, cond_ok, is_true, bind_fits, map_fits, verify_fits, consumed_fits, and_both}
 use Rattle.bsii_format.proofs.Positions.{bind_ok}
 use Rattle.bsii_format.proofs.Records.{GoodPrototype, GoodBlock, fields_fits, values_fits}
 use Rattle.bsii_derived.specs.IndexCalls.{demand, PrototypeHead, prototype_head, prototype_with, prototype_at, is_of, block_at}

@@ -1,15 +1,14 @@
 -- Record k of a file's index is block k with the prototype in force, and both stand in the file. Where no id is defined twice, that prototype is also the
 -- last definition of its id.
 use mathlib.Core.Path.{◌≡◌, refl, sym, ap, ◌∙◌, subst}
-use Prim.Native.Nat.{ℕ, zero, suc, ◌+◌, ◌-◌, ◌^◌, ◌≤◌, ◌<◌}
+use Prim.Native.Nat.{ℕ, zero, suc, ◌+◌, ◌-◌, ◌^◌, ◌≤◌}
 use native.Mathlib.Omega.{arith}
 use mathlib.Core.Bool.{Bool, true, false, cond}
 use mathlib.Core.Option.{Option, none, some}
 use mathlib.Core.List.{List, [], ◌∷◌, ◌++◌, map, append_assoc}
 use lib.ListN.{length, drop, get_elem?, length-append, length-drop}
 use lib.Seq.{drop-drop, drop-append_seam}
-use lib.Dec.{T, eqb, eqb→eq}
-use Rattle.bsii_format.specs.Strings.{is_some}
+use lib.Dec.{eqb}
 use Rattle.bsii_format.specs.Prototypes.{Prototype}
 use Rattle.bsii_format.specs.Blocks.{DataBlock, find_by, get_prototype}
 use Rattle.bsii_format.specs.File.{Record, prototype, block, fields_bytes, values_bytes, record_bytes, records_bytes, define, define_all}
@@ -88,19 +87,19 @@ pub data Entry (version : ℕ) (s : List ℕ) (last : List Prototype) : Option I
   both : (b : Placed DataBlock) (p : Placed Prototype) → BlockIn version s last b p → Entry version s last (some (index_record b.offset b.it p)) (some b)
 
 module _ {version : ℕ} {s : List ℕ} {last : List Prototype} where
-  pub entry_at : {l : List Record} (at : ℕ) (env : List (Placed Prototype)) → GoodRecords version (bare env) l → Stands s at (records_bytes l) → 1 ≤ at → AllIn s env
-      → last ≡ define_all l (bare env) → (k : ℕ) → Entry version s last (get_elem? (index_from env (placed size_of at l)) k) (get_elem? (blocks_in (placed size_of at l)) k)
+  entry_over : {l : List Record} (at : ℕ) (env : List (Placed Prototype)) {v : List Prototype} → GoodRecords version v l → v ≡ bare env → Stands s at (records_bytes l) → 1 ≤ at → AllIn s env
+      → last ≡ define_all l v → (k : ℕ) → Entry version s last (get_elem? (index_from env (placed size_of at l)) k) (get_elem? (blocks_in (placed size_of at l)) k)
   unfolding index_from cons_index cons_under placed blocks_in cons_block cons_prototype records_bytes define define_all
-  entry_at at env nil h i a e k = neither
-  entry_at at env (cons {i = prototype p} {l = l} g gs) h i a e k =
-      entry_at {l = l} (at + size_of (prototype p)) (record { offset = at; it = p } ∷ env) gs (stands_behind s at (record_bytes (prototype p)) (records_bytes l) h) (omega (arith, i))
+  entry_over at env nil q h i a e k = neither
+  entry_over at env (cons {i = prototype p} {l = l} g gs) q h i a e k =
+      entry_over {l = l} (at + size_of (prototype p)) (record { offset = at; it = p } ∷ env) gs (ap (λ (y : List Prototype). p ∷ y) q) (stands_behind s at (record_bytes (prototype p)) (records_bytes l) h) (omega (arith, i))
       (all_in s (record { offset = at; it = p }) env (record { good = g; bytes = stands_front s at (record_bytes (prototype p)) (records_bytes l) h }) a) e k
-  entry_at at env (cons {i = block b} {l = l} g gs) h i a e k =
-      let x = find_bare b.prototype_id env g.found in
+  entry_over at env {v} (cons {i = block b} {l = l} g gs) q h i a e k =
+      let x = find_bare b.prototype_id env (ap (get_prototype b.prototype_id) (sym q) ∙ g.found) in
       subst (λ o. Entry version s last (get_elem? (cons_under at b o (index_from env (placed size_of (at + size_of (block b)) l))) k) (get_elem? (record { offset = at; it = b } ∷ blocks_in (placed size_of (at + size_of (block b)) l)) k))
       (sym x.1)
       (go x.0 x.1 x.2 k
-      (λ k. entry_at {l = l} (at + size_of (block b)) env gs (stands_behind s at (record_bytes (block b)) (records_bytes l) h) (omega (arith, i)) a e k))
+      (λ k. entry_over {l = l} (at + size_of (block b)) env gs q (stands_behind s at (record_bytes (block b)) (records_bytes l) h) (omega (arith, i)) a e k))
     where
       go : (p : Placed Prototype) → in_force b.prototype_id env ≡ some p → p.it ≡ g.by → (k : ℕ)
           → ((k : ℕ) → Entry version s last (get_elem? (index_from env (placed size_of (at + size_of (block b)) l)) k) (get_elem? (blocks_in (placed size_of (at + size_of (block b)) l)) k))
@@ -108,15 +107,19 @@ module _ {version : ℕ} {s : List ℕ} {last : List Prototype} where
       go p z y zero f =
           both (record { offset = at; it = b }) p
           (record {
-            env = bare env;
+            env = v;
             good = g;
             under = sym y;
             bytes = stands_front s at (record_bytes (block b)) (records_bytes l) h;
             behind = i;
             defined = a b.prototype_id p z;
-            lasting = λ o. ap (get_prototype b.prototype_id) e ∙ known_once b.prototype_id l (bare env) (ap once (sym e) ∙ o) (g.found ∙ ap some (sym y));
+            lasting = λ o. ap (get_prototype b.prototype_id) e ∙ known_once b.prototype_id l v (ap once (sym e) ∙ o) (g.found ∙ ap some (sym y));
           })
       go p z y (suc k) f = f k
+
+  pub entry_at : {l : List Record} (at : ℕ) (env : List (Placed Prototype)) → GoodRecords version (bare env) l → Stands s at (records_bytes l) → 1 ≤ at → AllIn s env
+      → last ≡ define_all l (bare env) → (k : ℕ) → Entry version s last (get_elem? (index_from env (placed size_of at l)) k) (get_elem? (blocks_in (placed size_of at l)) k)
+  entry_at at env g = entry_over at env g refl
 
   -- the four numbers of a record are below the file's length
   pub entry_held : (w : ℕ) → length s ≤ 256 ^ w → (b : Placed DataBlock) (p : Placed Prototype) → BlockIn version s last b p → Held w (index_record b.offset b.it p)

@@ -2,25 +2,25 @@
 use Prim.Native.Nat.{ℕ, ◌*◌, ◌<◌}
 use native.Mathlib.Omega.{arith}
 use mathlib.Core.Path.{◌≡◌, refl, ap}
-use mathlib.Core.Bool.{Bool, true, false, cond, ◌&&◌}
+use mathlib.Core.Bool.{Bool, true, false, cond}
 use mathlib.Core.Option.{Option, none, some, map}
-use mathlib.Core.List.{List, [], ◌∷◌, ◌++◌}
-use lib.ListN.{length, take, drop, set}
-use lib.Dec.{T, leb, eqb, leb→le}
+use mathlib.Core.List.{List, [], ◌∷◌}
+use lib.ListN.{length, drop, set}
+use lib.Dec.{leb, eqb, leb→le}
 use Rattle.bsii_format.specs.Ascii.{ascii}
-use Rattle.bsii_format.specs.Replies.{Fault, refused, short, Reply, gives, refuses, refusal, not_utf8, zero_digit, undefined_prototype, unlisted_type, output_short, input_long, absent, misfit}
-use Rattle.bsii_format.specs.Reader.{Result, ok, fault, fault_at, Reader, after, success, Consumed, consumed, same, ◌>>=◌, ◌<$>◌}
+use Rattle.bsii_format.specs.Replies.{refused, short, Reply, gives, refusal, not_utf8, zero_digit, undefined_prototype, unlisted_type, output_short, input_long, absent, misfit}
+use Rattle.bsii_format.specs.Reader.{Result, ok, fault, fault_at, Reader, same}
 use Rattle.bsii_format.specs.Numbers.{le_u32}
 use Rattle.bsii_format.specs.Prototypes.{Prototype}
 use Rattle.bsii_format.specs.Blocks.{DataBlock}
-use Rattle.bsii_format.specs.File.{BsiiFile, prototypes_of, length_limit, parse}
-use Rattle.bsii_format.specs.Calls.{of_file, or_absent, write_answer, FieldAnswer, field_answer, field_under}
-use Rattle.bsii_format.specs.Refusals.{file_numbers, value_numbers, among, counted, Each, none as nothing, ◌also◌, Within, GivesExactly}
+use Rattle.bsii_format.specs.File.{prototypes_of, length_limit, parse}
+use Rattle.bsii_format.specs.Calls.{of_file, write_answer, field_answer, field_under}
+use Rattle.bsii_format.specs.Refusals.{value_numbers, none as nothing, ◌also◌, Within, GivesExactly}
 use Rattle.bsii_format.proofs.Readers.{is_false}
 use Rattle.bsii_format.proofs.Refusals.{Told, cond_told, Only, more_only, success_only, after_only, bind_only, map_only, verify_only, consumed_only, number_only, str_only, id_only, fields_only, values_only}
 use Rattle.bsii_format.proofs.CallRefusals.{more_within, or_within, call_within, written_within, given, handed, long}
 use Rattle.bsii_derived.specs.Index.{IndexRecord, index_of, index_bytes, index_bytes_of, record_at, agreeing}
-use Rattle.bsii_derived.specs.IndexCalls.{write_index_call, checked, check_index_call, demand, PrototypeHead, prototype_head, prototype_with, prototype_at, is_of, block_at, answering, field_by, index_field_call, once, defines_once_call}
+use Rattle.bsii_derived.specs.IndexCalls.{write_index_call, checked, check_index_call, demand, prototype_head, prototype_with, prototype_at, is_of, block_at, answering, field_by, index_field_call, once, defines_once_call}
 use Rattle.bsii_derived.specs.IndexRefusals.{write_numbers, check_numbers, index_field_numbers, once_numbers}
 use Rattle.bsii_derived.specs.WorkedIndex.{save_a, bad_string, index_a, offsets}
 use Rattle.bsii_derived.proofs.Computes.{computes_index}
@@ -78,7 +78,7 @@ in_look h = more_only index_field_numbers value_numbers tt h
 demand_only : (n b : ℕ) {R : Reader ℕ} → Only index_field_numbers ℕ R → Only index_field_numbers ℕ (demand n b R)
 unfolding demand
 demand_only n b {R} h = record {
-  only = λ at s. after_only (R at s) _ (h.only at s) (λ a. record { only = λ i t. cond_told index_field_numbers (eqb a n) (ok a i t) (fault_at undefined_prototype b) tt tt });
+  only = λ at s. after_only {l = index_field_numbers} (R at s) _ (h.only at s) (λ a. record { only = λ i t. cond_told index_field_numbers (eqb a n) (ok a i t) (fault_at undefined_prototype b) tt tt });
 }
 
 prototype_only : (b : ℕ) → Only index_field_numbers Prototype (prototype_at b)
@@ -102,7 +102,7 @@ look_within : (s name : List ℕ) (o : Option IndexRecord) → Within index_fiel
 unfolding field_by
 look_within s name none = tt
 look_within s name (some r) =
-    answering_within (le_u32 4 (drop 4 s)) _ ((number_only 4 tt).only 4 (drop 4 s)) (λ version.
+    answering_within (le_u32 4 (drop 4 s)) _ ((number_only {l = index_field_numbers} 4 tt).only 4 (drop 4 s)) (λ version.
     answering_within (prototype_at r.offset r.prototype (drop r.prototype s)) _ ((prototype_only r.offset).only r.prototype (drop r.prototype s)) (λ p.
     answering_within (block_at version p r.offset (drop r.offset s)) _ ((block_only version p).only r.offset (drop r.offset s)) (λ b.
     or_within index_field_numbers absent 0 tt (map field_answer (field_under name (record { offset = r.offset; it = b }) (some p))))))

@@ -164,7 +164,7 @@ module _ (version rooms : ℕ) where
   then_roomy env at s h rest k (ok (more z) i r) e t =
       let x = record_good env at s (more z) i r e in
       let left : Ample (define z env) r = omega (arith, h, record_room version env z x.good, simp length-append at (ap length x.front)) in
-      rw (is_true (has_room rooms env z) (room_for rooms z env (omega (arith, left)))) (after_only (rest (define z env) i r) (λ l. success (cons_record z l)) (k (define z env) i r left) (λ l. success_only (cons_record z l)))
+      rw (is_true (has_room rooms env z) (room_for rooms z env (omega (arith, left)))) (after_only {l = record_numbers} (rest (define z env) i r) (λ l. success (cons_record z l)) (k (define z env) i r left) (λ l. success_only (cons_record z l)))
 
   records_roomy : (n : ℕ) (env : List Prototype) (at : ℕ) (s : List ℕ) → Ample env s → Told record_numbers (records_from version rooms n env at s)
   unfolding records_from exhausted

@@ -1,5 +1,5 @@
 -- An index beside a save: document 02, E1; FORMAT.md, "The index". Its numbers have w bytes: "A record is four three-byte little-endian numbers".
-use Rattle.std.specs.Prelude.{ℕ, suc, ◌*◌, Bool, cond, List, [], ◌∷◌, ◌++◌, length, take, drop}
+use Rattle.std.specs.Prelude.{ℕ, suc, ◌*◌, cond, List, [], ◌∷◌, ◌++◌, length, take, drop}
 use Rattle.std.proofs.Math.Option.{Option, none, some}
 use Rattle.bsii_format.specs.Reader.{Result, ok, fault, Reader, success, same, ◌>>=◌}
 use Rattle.bsii_format.specs.Numbers.{number, le}

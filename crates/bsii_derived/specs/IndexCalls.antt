@@ -1,5 +1,5 @@
 -- What the calls about an index answer: document 02, E1 and E12; FORMAT.md, "The index". w is the number of bytes of its numbers.
-use Rattle.std.specs.Prelude.{ℕ, ◌+◌, ◌*◌, Bool, true, false, not, cond, ◌&&◌, List, [], ◌∷◌, length, drop, leb, eqb}
+use Rattle.std.specs.Prelude.{ℕ, ◌*◌, Bool, true, false, not, cond, ◌&&◌, List, [], ◌∷◌, length, drop, leb, eqb}
 use Rattle.std.proofs.Math.Option.{Option, none, some, map}
 use Rattle.bsii_format.specs.Replies.{Reply, gives, refuses, refusal, undefined_prototype, input_long, absent, misfit}
 use Rattle.bsii_format.specs.Reader.{Result, ok, fault, fault_at, Reader, after, success, verify, same, Consumed, consumed, ◌>>=◌, ◌<$>◌}
@@ -7,7 +7,7 @@ use Rattle.bsii_format.specs.Numbers.{le_u8, le_u32}
 use Rattle.bsii_format.specs.Strings.{is_some, str_parser, id_parser}
 use Rattle.bsii_format.specs.Prototypes.{Prototype, Fields, fields_parser}
 use Rattle.bsii_format.specs.Blocks.{DataBlock, get_prototype, data_values_parser}
-use Rattle.bsii_format.specs.File.{BsiiFile, prototypes_of, length_limit, parse}
+use Rattle.bsii_format.specs.File.{prototypes_of, length_limit, parse}
 use Rattle.bsii_format.specs.Calls.{of_file, or_absent, field_under, FieldAnswer, field_answer, WriteAnswer, write_answer}
 use Rattle.bsii_derived.specs.Index.{IndexRecord, index_of, index_bytes, index_bytes_of, record_at, agreeing}
 

@@ -2,8 +2,8 @@
 use Rattle.std.specs.Prelude.{ℕ, List, [], ◌∷◌, ◌++◌, length, take, drop, set, replicate}
 use Rattle.bsii_format.specs.Ascii.{ascii}
 use Rattle.bsii_format.specs.Replies.{Reply, gives, refusal, not_utf8, zero_digit, undefined_prototype, unlisted_type, table_full, output_short, absent, misfit, bad_mark}
-use Rattle.bsii_format.specs.Worked.{le, u32, u64, worked_file, Fact, ◌says◌}
-use Rattle.bsii_format.specs.WorkedCalls.{string, definition, prototype_record, file_of, file_with, redefined_file, recounted_file, twin_file, seven_part, seven_file, twice_file, lacks, carries, unwritten}
+use Rattle.bsii_format.specs.Worked.{le, u32, u64, Fact, ◌says◌}
+use Rattle.bsii_format.specs.WorkedCalls.{string, definition, prototype_record, file_with, redefined_file, recounted_file, twin_file, seven_part, seven_file, twice_file, lacks, carries, unwritten}
 use Rattle.bsii_format.specs.Calls.{FieldAnswer, part_of, WriteAnswer}
 use Rattle.bsii_derived.specs.Index.{index_width}
 use Rattle.bsii_derived.specs.IndexCalls.{write_index_call, check_index_call, index_field_call, defines_once_call}

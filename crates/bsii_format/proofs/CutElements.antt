@@ -4,8 +4,8 @@ use Prim.Native.Nat.{ℕ, suc}
 use native.Mathlib.Omega.{arith}
 use mathlib.Core.Option.{Option, none, some, map}
 use mathlib.Core.List.{List, ◌++◌}
-use lib.ListN.{get_elem?}
-use Rattle.bsii_format.specs.Replies.{Fault, short, refuses}
+use lib.ListN.{length, get_elem?}
+use Rattle.bsii_format.specs.Replies.{Fault, short, gives, refuses}
 use Rattle.bsii_format.specs.Reader.{Result, ok, fault}
 use Rattle.bsii_format.specs.Values.{Value, value_parser}
 use Rattle.bsii_format.specs.BlockText.{or_refuse}

@@ -1,7 +1,7 @@
 -- Bytes appended to a file of four bytes or more, by the law of proofs/Extends.antt for every reader of the layout. The header alone has no such law: what
 -- is shorter than `BSII` is refused by 1, and more bytes may cure that.
-use mathlib.Core.Path.{refl}
-use Prim.Native.Nat.{ℕ, zero, suc, ◌+◌, ◌≤◌}
+use mathlib.Core.Path.{refl, ap}
+use Prim.Native.Nat.{ℕ, zero, suc, ◌+◌, ◌≤◌, ◌<◌}
 use native.Mathlib.Omega.{arith}
 use mathlib.Core.Bool.{Bool, true, false, cond}
 use mathlib.Core.Option.{Option, none, some}
@@ -11,8 +11,8 @@ use lib.Seq.{take-append-le, drop-append-le}
 use lib.Dec.{leb, eqb}
 use Rattle.bsii_format.specs.Ascii.{ascii}
 use Rattle.bsii_format.specs.Replies.{invalid_header, not_utf8, zero_digit, undefined_prototype, unlisted_type, table_full, bad_mark}
-use Rattle.bsii_format.specs.Reader.{fault_at, Reader, after, ◌>>=◌, exhausted, ◌<$>◌, bytes, Consumed, with, consumed, same, tag}
-use Rattle.bsii_format.specs.Numbers.{little_endian, number}
+use Rattle.bsii_format.specs.Reader.{fault, fault_at, Reader, after, ◌>>=◌, success, fail, exhausted, ◌<$>◌, bytes, Consumed, with, consumed, same, tag}
+use Rattle.bsii_format.specs.Numbers.{little_endian, number, le_u32}
 use Rattle.bsii_format.specs.Utf8.{utf8}
 use Rattle.bsii_format.specs.Strings.{str_parser, low63, spelled, encoded_str_parser, Id, nameless, named, id_parser}
 use Rattle.bsii_format.specs.Types.{width, arity, Kind, numbers, string, encoded_string, id, Shape, one, many, shape_of}

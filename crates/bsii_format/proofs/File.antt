@@ -1,16 +1,19 @@
 -- Laws A and B for a whole file: what is read is well-formed and its bytes are the file's; what is well-formed is read.
-use mathlib.Core.Path.{◌≡◌, ap, ◌∙◌, subst}
-use Prim.Native.Nat.{ℕ, ◌/◌, ◌≤◌}
+use mathlib.Core.Path.{◌≡◌, refl, sym, ap, ◌∙◌, subst}
+use Prim.Native.Nat.{ℕ, ◌+◌, ◌/◌, ◌≤◌}
 use native.Mathlib.Nat.{zero-add}
 use native.Mathlib.Omega.{arith}
+use mathlib.Core.Bool.{cond}
 use mathlib.Core.List.{List, [], ◌++◌, append_assoc}
 use lib.ListN.{length, length-append}
-use lib.Dec.{leb, leb→le, le→leb}
-use Rattle.bsii_format.specs.Reader.{ok, ◌>>=◌, ◌<$>◌, consumed}
-use Rattle.bsii_format.specs.File.{Head, ending, head_parser, distinct_ids, records_parser, header_parser, BsiiFile, bsii_file, bsii_parser, length_limit, parse, file_bytes, define_all}
-use Rattle.bsii_format.proofs.Readers.{Fits, after_ok, cond_ok, is_true, bind_fits, map_fits, map_ok, consumed_fits, consumed_took}
+use lib.Dec.{T, leb, leb→le, le→leb}
+use Rattle.bsii_format.specs.Replies.{Fault, input_long}
+use Rattle.bsii_format.specs.Reader.{Result, ok, fault, ◌>>=◌, ◌<$>◌, after, Consumed, consumed}
+use Rattle.bsii_format.specs.Prototypes.{Prototype}
+use Rattle.bsii_format.specs.File.{Head, ending, head_parser, distinct_ids, Records, records_from, records_parser, header_parser, BsiiFile, bsii_file, bsii_parser, length_limit, parse, records_bytes, file_bytes, define_all}
+use Rattle.bsii_format.proofs.Readers.{Fits, after_ok, cond_ok, is_true, is_false, bind_fits, map_fits, map_ok, ok_at, consumed_fits, consumed_took, well_formed_fits}
 use Rattle.bsii_format.proofs.Parsers.{header_exact}
-use Rattle.bsii_format.proofs.Records.{GoodRecords, records_fits, records_good}
+use Rattle.bsii_format.proofs.Records.{GoodRecords, records_fits, records_good, GoodWhole}
 
 pub record GoodFile (rooms : ℕ) (f : BsiiFile) : Type 0 where
   pub header : Fits ℕ header_parser f.header.value f.header.raw

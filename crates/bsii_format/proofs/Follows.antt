@@ -6,7 +6,7 @@ use mathlib.Core.Bool.{Bool, true, false, cond}
 use mathlib.Core.List.{List, [], ◌∷◌}
 use lib.ListN.{take}
 use Rattle.bsii_format.specs.Replies.{refused}
-use Rattle.bsii_format.specs.Reader.{ok, fault_at, Reader, ◌>>=◌, success, fail, exhausted, ◌<$>◌, verify, with, consumed, repeat}
+use Rattle.bsii_format.specs.Reader.{ok, fault_at, Reader, ◌>>=◌, success, fail, exhausted, ◌<$>◌, verify, Consumed, with, consumed, repeat}
 use Rattle.bsii_format.proofs.Readers.{after_ok, cond_ok, map_ok, fault≢ok, ok_val, at_value}
 use Rattle.bsii_format.proofs.Positions.{ended, bind_ok, map_value, consumed_ok}
 

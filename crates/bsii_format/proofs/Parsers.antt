@@ -1,8 +1,9 @@
 -- Every reader of the layout is exact, from numbers up to the head of a record.
 use Prim.Native.Nat.{ℕ, zero, suc}
 use mathlib.Core.Option.{Option, none, some}
-use mathlib.Core.List.{List, []}
+use mathlib.Core.List.{List, [], ◌∷◌}
 use lib.Dec.{leb, eqb}
+use Rattle.bsii_format.specs.Reader.{Reader, bytes, Consumed}
 use Rattle.bsii_format.specs.Replies.{not_utf8, zero_digit, unlisted_type, bad_mark, invalid_header}
 use Rattle.bsii_format.specs.Ascii.{ascii}
 use Rattle.bsii_format.specs.Numbers.{little_endian, number}

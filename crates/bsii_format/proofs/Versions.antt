@@ -1,5 +1,5 @@
 -- Where versions differ: "Version 1 differs in 0x19 and 0x1a only", so all other types are read alike in every version, and all types in every version but 1.
-use mathlib.Core.Path.{◌≡◌, ap}
+use mathlib.Core.Path.{◌≡◌, refl, ap}
 use Prim.Native.Nat.{ℕ}
 use mathlib.Core.List.{List}
 use borrow.Author.Tests.{ne_eqb}

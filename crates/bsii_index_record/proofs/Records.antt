@@ -1,16 +1,15 @@
 -- A record is read, compared and stored number by number.
 use Prim.Native.Nat.{ℕ, suc, ◌+◌, ◌-◌, ◌*◌, ◌/◌, ◌≤◌, ◌<◌}
 use mathlib.Core.Path.{◌≡◌, refl, sym, ap, ◌∙◌}
-use mathlib.Core.Logic.{◌⊎◌, inl, inr, ⊎_elim}
-use mathlib.Core.Bool.{Bool, true, false, not, ◌&&◌}
+use mathlib.Core.Logic.{⊎_elim}
+use mathlib.Core.Bool.{Bool, true, false, ◌&&◌}
 use mathlib.Core.Option.{none, some}
 use mathlib.Core.List.{List, [], ◌∷◌, ◌++◌, append_assoc}
 use native.Mathlib.Nat.{suc-mul, suc-add, zero-add, le-div_iff_mul-le, div-lt_iff_lt-mul}
 use native.Mathlib.Omega.{arith}
 use lib.ListN.{length, take, drop, length-append, length-take, length-drop}
 use lib.Seq.{sets, sets-eq, drop-drop}
-use lib.Dec.{eqb, ltb}
-use borrow.Author.Tests.{ltb-true, ltb-false, not-true, not-false}
+use lib.Dec.{eqb}
 use Rattle.bsii_format.specs.Reader.{Reader, same, after, success, ◌>>=◌}
 use Rattle.bsii_format.specs.Numbers.{little_endian, number, le}
 use Rattle.bsii_format.proofs.Positions.{number_at_law, number_short}
@@ -122,11 +121,11 @@ same_record w at s r =
     )
 
 -- an answer r about the next number
-pub agrees : {r a b : Bool} → r ≡ a → not r ≡ false → a && b ≡ b
-agrees {r} {a} {b} e h = ap (λ (x : Bool). x && b) (sym e ∙ not-false r h)
+pub agrees : {r a b : Bool} → r ≡ a → r ≡ true → a && b ≡ b
+agrees {r} {a} {b} e h = ap (λ (x : Bool). x && b) (sym e ∙ h)
 
-pub differs : {r a : Bool} (b : Bool) → r ≡ a → not r ≡ true → a && b ≡ false
-differs {r} b e h = ap (λ (x : Bool). x && b) (sym e ∙ not-true r h)
+pub differs : {r a : Bool} (b : Bool) → r ≡ a → r ≡ false → a && b ≡ false
+differs {r} b e h = ap (λ (x : Bool). x && b) (sym e ∙ h)
 
 -- ---- stored
 

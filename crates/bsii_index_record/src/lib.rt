@@ -1,4 +1,6 @@
 // The records of an index: read, compared and written. A number has `width` bytes, the low one first; a record has four numbers.
+#![tactic(auto)]
+
 ghost use Rattle.std.specs.Prelude.{◌≡◌, ◌+◌, ◌*◌, ◌≤◌, ◌++◌, length, take, drop};
 ghost use Rattle.std.proofs.lemmas.List.Edits.{sets};
 ghost use Rattle.bsii_format.specs.Reader.{same};
@@ -60,7 +62,7 @@ pub fn record_at(index: &[u8], width: usize, k: usize) -> RecordAt
 }
 
 // Whether the bytes at `at` are those of the number.
-fn number_is_law(s: &[u8], at: usize, width: usize, n: usize) -> bool
+fn number_is(s: &[u8], at: usize, width: usize, n: usize) -> bool
     ensures { result ≡ same (le width n) (take width (drop at s.now)) }
 {
     if left(s, at) < width {
@@ -79,7 +81,7 @@ fn number_is_law(s: &[u8], at: usize, width: usize, n: usize) -> bool
 }
 
 // Whether the bytes at `at` are those of the record.
-pub fn record_is_law(index: &[u8], at: usize, width: usize, entry: IndexRecord) -> bool
+pub fn record_is(index: &[u8], at: usize, width: usize, entry: IndexRecord) -> bool
     requires { Width width }
     ensures { result ≡ same (index_record_bytes width (record_is entry)) (take (4 * width) (drop at index.now)) }
 {
@@ -95,7 +97,7 @@ pub fn record_is_law(index: &[u8], at: usize, width: usize, entry: IndexRecord) 
     if !number_is(index, at + 2 * width, width, entry.prototype) {
         return false;
     }
-    number_is_law(index, at + 3 * width, width, entry.fields)
+    number_is(index, at + 3 * width, width, entry.fields)
 }
 
 // One record more of a file. Of the `number` records in front of it, the first `agreed` stand at the front of the index.
@@ -106,7 +108,7 @@ pub fn agree(index: &[u8], width: usize, agreed: usize, number: usize, entry: In
     if agreed != number {
         return agreed;
     }
-    if record_is_law(index, agreed * (4 * width), width, entry) {
+    if record_is(index, agreed * (4 * width), width, entry) {
         return agreed + 1;
     }
     agreed

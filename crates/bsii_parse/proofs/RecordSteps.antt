@@ -1,20 +1,17 @@
 -- A record by its head: what the record reader gives where the head, the definitions, the id and the values are known.
-use mathlib.Core.Path.{◌≡◌, refl, sym, ap, ◌∙◌, subst}
-use Prim.Native.Nat.{ℕ, ◌+◌, ◌-◌, ◌≤◌, ◌<◌}
-use native.Mathlib.Omega.{arith}
-use mathlib.Core.Option.{Option, none, some}
-use mathlib.Core.List.{List, []}
-use lib.ListN.{length, take, drop}
+use mathlib.Core.Path.{◌≡◌, refl, sym, ap, ◌∙◌}
+use Prim.Native.Nat.{ℕ, ◌-◌}
+use mathlib.Core.Option.{none, some}
+use mathlib.Core.List.{List}
+use lib.ListN.{take}
 use Rattle.bsii_format.specs.Replies.{Fault, undefined_prototype}
-use Rattle.bsii_format.specs.Reader.{Result, ok, fault, fault_at, Reader, after, ◌>>=◌, success, ◌<$>◌, Consumed, with, consumed}
+use Rattle.bsii_format.specs.Reader.{Result, ok, fault, fault_at, after, ◌>>=◌, success, ◌<$>◌, Consumed, with, consumed}
 use Rattle.bsii_format.specs.Strings.{Id, id_parser}
 use Rattle.bsii_format.specs.Prototypes.{Prototype, Fields, fields_parser}
 use Rattle.bsii_format.specs.Blocks.{DataValue, DataBlock, get_prototype, data_values_parser}
-use Rattle.bsii_format.specs.File.{Record, prototype, block, Head, ending, defining, carrying, head_parser, Step, end, more, prototype_step, block_step, data_block_parser, step_parser, record_parser}
-use Rattle.bsii_format.proofs.Readers.{Exact, fault≢ok}
-use Rattle.bsii_format.proofs.Parsers.{head_exact}
-use Rattle.bsii_format.proofs.Positions.{Moved, moved, ended, ended_after, ended_consumed, ended_map}
-use Rattle.bsii_block.specs.Blocks.{DefinedAt}
+use Rattle.bsii_format.specs.File.{prototype, block, Head, ending, defining, carrying, head_parser, Step, end, more, prototype_step, block_step, data_block_parser, step_parser, record_parser}
+use Rattle.bsii_format.proofs.Readers.{fault≢ok}
+use Rattle.bsii_format.proofs.Positions.{ended, ended_after, ended_consumed, ended_map}
 
 -- a prototype, as the head and the definitions say
 unfoldable pub prototype_of : (at : ℕ) (s : List ℕ) → ℕ → List ℕ → ℕ → Fields → Prototype

@@ -1,17 +1,17 @@
 -- The table against the definitions so far, with their offsets.
-use mathlib.Core.Path.{◌≡◌, refl, sym, ap, ◌∙◌, subst}
-use Prim.Native.Nat.{ℕ, ◌+◌, ◌≤◌}
+use mathlib.Core.Path.{◌≡◌, refl, sym, ap, ◌∙◌}
+use Prim.Native.Nat.{ℕ, ◌+◌}
 use native.Mathlib.Omega.{arith}
 use mathlib.Core.Bool.{Bool, true, false, cond}
 use mathlib.Core.Option
 use mathlib.Core.Option.{Option, none, some}
-use mathlib.Core.List.{List, [], ◌∷◌, ◌++◌, map}
-use lib.ListN.{length, drop}
+use mathlib.Core.List.{List, [], ◌∷◌}
+use lib.ListN.{drop}
 use lib.Dec.{eqb}
 use Rattle.bsii_format.specs.Prototypes.{Prototype}
 use Rattle.bsii_format.specs.Blocks.{find_by, get_prototype}
 use Rattle.bsii_format.specs.Reader.{ok}
-use Rattle.bsii_format.specs.File.{Record, prototype, block, record_bytes, define, define_all, defining, head_parser}
+use Rattle.bsii_format.specs.File.{Record, prototype, block, define, define_all, defining, head_parser}
 use Rattle.bsii_format.specs.Calls.{Placed, placed, cons_prototype, prototypes_in}
 use Rattle.bsii_table.specs.Rows.{Row, offsets, lookup_from}
 use Rattle.bsii_table.specs.Table.{found_row}

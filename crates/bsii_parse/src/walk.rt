@@ -18,7 +18,7 @@ use bsii_table::{FoundRow, word};
 use bsii_tree::{Defined, define, find};
 
 // How far the walk is: the next record's offset, the table's rows, and the blocks and the prototypes so far.
-#[derive(Drop)]
+#[derive(Clone, Copy)]
 pub struct Progress {
     pub at: usize,
     pub rows: usize,

@@ -2,23 +2,22 @@
 use mathlib.Core.Path.{◌≡◌, refl}
 use Prim.Native.Nat.{ℕ}
 use mathlib.Core.List.{List, [], ◌∷◌}
-use lib.ListN.{length, replicate}
+use lib.ListN.{replicate}
 use lib.Dec.{lit≤}
 use Rattle.bsii_format.specs.Ascii.{ascii}
-use Rattle.bsii_format.specs.Replies.{gives, refusal, unlisted_type, enum_value}
+use Rattle.bsii_format.specs.Replies.{refusal, unlisted_type, enum_value}
 use Rattle.bsii_format.specs.File.{length_limit}
 use Rattle.bsii_format.specs.Calls.{text_call}
 use Rattle.bsii_format.specs.Worked.{u32, worked_file}
 use Rattle.bsii_format.specs.WorkedCalls.{unlisted_enum_file, carries, unwritten}
-use Rattle.bsii_derived.specs.IndexCalls.{write_index_call, check_index_call, index_field_call}
+use Rattle.bsii_derived.specs.IndexCalls.{write_index_call, index_field_call}
 use Rattle.bsii_derived.specs.WorkedIndex.{indexed}
 use Rattle.bsii_derived.proofs.Computes.{computes_index}
-use Rattle.bsii_widening.specs.Marks.{mark_records}
 use Rattle.bsii_widening.specs.Parts.{renumber}
 use Rattle.bsii_widening.specs.Claim.{Room, widened, new_file}
 use Rattle.bsii_widening.specs.Observers.{Old}
 use Rattle.bsii_widening.specs.Example.{old_file, additions, unlisted_field, any_bytes, after_unlisted}
-use Rattle.bsii_widening.specs.Indexed.{StillIndexed, IndexAfterLast}
+use Rattle.bsii_widening.specs.Indexed.{StillIndexed}
 use Rattle.bsii_widening.specs.IndexExample.{old_index, new_index, textless}
 use Rattle.bsii_widening.proofs.Computes.{computes_all}
 use Rattle.bsii_widening.proofs.Example.{additions_allowed, room, last_allowed, last_room, carried}

@@ -1,32 +1,30 @@
 -- The index survives every allowed list: by a checked index a file answers as by the walk (bsii_derived, `looks_as_walk`), for the old file and for the new
 -- one, so what was found is found by `field_survives`; write and check read the whole file first and stop where every such call does.
 use mathlib.Core.Path.{◌≡◌, refl, sym, ap, ◌∙◌, subst}
-use mathlib.Core.Logic.{◌↔◌}
 use Prim.Native.Nat.{ℕ, ◌*◌, ◌^◌, ◌≤◌}
 use native.Mathlib.Omega.{arith}
-use mathlib.Core.Bool.{Bool, true, false, not, cond, ◌||◌}
+use mathlib.Core.Bool.{Bool, true, false, cond}
 use mathlib.Core.Option.{Option, none, some}
 use mathlib.Core.List.{List, [], ◌∷◌, ◌++◌}
 use lib.ListN.{length}
-use lib.Dec.{T, eqb, eqb_refl, lit≤}
-use Rattle.bsii_format.specs.Replies.{Fault, Reply, gives, refuses, refusal, unlisted_type, output_short, misfit}
-use Rattle.bsii_format.specs.Reader.{ok, same, Consumed}
-use Rattle.bsii_format.specs.Types.{shape_of}
+use lib.Dec.{eqb, eqb_refl, lit≤}
+use Rattle.bsii_format.specs.Replies.{Reply, gives, refusal, unlisted_type, misfit}
+use Rattle.bsii_format.specs.Reader.{ok, same}
 use Rattle.bsii_format.specs.Strings.{is_some}
-use Rattle.bsii_format.specs.Prototypes.{ValuePrototype, Prototype}
-use Rattle.bsii_format.specs.Blocks.{DataValue, find_by, get_prototype}
+use Rattle.bsii_format.specs.Prototypes.{Prototype}
+use Rattle.bsii_format.specs.Blocks.{find_by, get_prototype}
 use Rattle.bsii_format.specs.File.{BsiiFile, Record, prototype, block, define, define_all, prototypes_of, file_bytes, length_limit, parse}
-use Rattle.bsii_format.specs.Calls.{of_file, or_absent, FieldAnswer, field_of, WriteAnswer, write_answer}
+use Rattle.bsii_format.specs.Calls.{or_absent, field_of, WriteAnswer, write_answer}
 use Rattle.bsii_format.proofs.ReplyLaws.{refuses≢gives, of_read, write_fits}
 use Rattle.bsii_derived.specs.Index.{index_width, IndexRecord, index_of, index_bytes, index_bytes_of, agreeing}
 use Rattle.bsii_derived.specs.IndexCalls.{write_index_call, checked, check_index_call, index_field_call, once, defines_once_call}
 use Rattle.bsii_derived.proofs.Claims.{was_read, checks_exactly, looks_as_walk, fits_file}
 use Rattle.bsii_widening.specs.Marks.{MarkedRecords, new_records, mark_records}
-use Rattle.bsii_widening.specs.Insertions.{Insertion, a_field, insert, DefinitionAllowed, AllAllowed, defines_id, NoIdTwice}
+use Rattle.bsii_widening.specs.Insertions.{Insertion, a_field, insert, AllAllowed, defines_id, NoIdTwice}
 use Rattle.bsii_widening.specs.Parts.{renumber}
 use Rattle.bsii_widening.specs.Claim.{widened, new_save, new_file, Room, first_carried}
-use Rattle.bsii_widening.specs.Observers.{Observer, Old}
-use Rattle.bsii_widening.specs.Indexed.{StillIndexed, IndexAfterLast, IndexLastUnlisted, IndexSurvives, OwnIndexSurvives}
+use Rattle.bsii_widening.specs.Observers.{Old}
+use Rattle.bsii_widening.specs.Indexed.{StillIndexed, IndexLastUnlisted, IndexSurvives, OwnIndexSurvives}
 use Rattle.bsii_widening.proofs.Environments.{none≢some}
 use Rattle.bsii_widening.proofs.Once.{Apart, apart_prototype, not_both, nor_left}
 use Rattle.bsii_widening.proofs.Unlisted.{no_values}

@@ -143,7 +143,7 @@ module _ (version : ℕ) (text : ValuePrototype → Value → Option (List ℕ))
         distinct = distinct_insert p d o.by.fields (a (old o.by) (ap (λ z. get_marked z last) (this_id n b.prototype_id q) ∙ o.found)) o.distinct;
       }
 
-  inv_into : HasText text → (n p : ℕ) (d : Consumed ValuePrototype) (v : ℕ → DataValue) (k : ℕ) {last last' env env' : List (Mark MarkedPrototype)} {M : MarkedRecords}
+  inv_into : HasText text → (n p : ℕ) (d : Consumed ValuePrototype) (v : ℕ → DataValue) {last last' env env' : List (Mark MarkedPrototype)} (k : ℕ) {M : MarkedRecords}
       → GoodField d → NewName n d last → Widens n p d last last' → Widens n p d env env' → ValuesAllowed version n d v k M → Inv last env M → Inv last' env' (insert_field n p d v k M)
   unfolding insert_field map_mark unmark
   inv_into has n p d v k g a wl we x done = done

@@ -6,7 +6,6 @@ use mathlib.Core.List.{[]}
 use lib.ListN.{replicate}
 use lib.Dec.{lit≤}
 use Rattle.bsii_format.specs.Ascii.{ascii}
-use Rattle.bsii_format.specs.Replies.{gives}
 use Rattle.bsii_format.specs.File.{length_limit}
 use Rattle.bsii_format.specs.Text.{value_text}
 use Rattle.bsii_format.specs.Calls.{field_call, Converted}

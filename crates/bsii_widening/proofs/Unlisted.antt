@@ -138,7 +138,7 @@ module _ (version : ℕ) (text : ValuePrototype → Value → Option (List ℕ))
   stops k (suc m) {env} {env'} we (block_new {b = b} {l = z} h i) l at t x e r = at_block k m env env' b z we h (stops (suc k) m we i (omega arith)) at t x e r
 
   -- each record takes a byte at least, whatever the values
-  insert_long : (k : ℕ) {lst env : List (Mark MarkedPrototype)} {M : MarkedRecords} → Inv version text lst env M → length M ≤ length (records_bytes (new_records (insert_field n p d v k M)))
+  insert_long : {lst env : List (Mark MarkedPrototype)} (k : ℕ) {M : MarkedRecords} → Inv version text lst env M → length M ≤ length (records_bytes (new_records (insert_field n p d v k M)))
   unfolding new_records insert_field map_mark unmark records_bytes record_bytes
   insert_long k done = omega arith
   insert_long k (prototype_old h i) = rw (length-append, length-append) (omega (arith, head_takes h.head, insert_long k i))

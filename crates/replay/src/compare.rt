@@ -147,7 +147,7 @@ fn same_bytes(output: &[u8], n: usize, text: &[u8]) -> bool
     if output.len() < n {
         return false;
     }
-    check::same(&output[..n], text)
+    &output[..n] == text
 }
 
 // Whether the text call answers the Rust's text, or refuses under the Rust's number, which is 0 if it refuses nothing.

@@ -1,60 +1,68 @@
 // Runs the files of a list through the calls, and says which answers differ from the Rust's. The list is read from standard input.
+#![tactic(auto)]
+
 mod compare;
 mod list;
 
-ghost use Rattle.std.specs.Prelude.{◌≤◌, ◌≡◌, true, length};
+ghost use Rattle.std.specs.Prelude.{◌≤◌, ◌≡◌, true, length, IfOk};
 ghost use Rattle.replay.specs.Parts.{AtMostOne};
 
 use crate::compare::{Outcome, replay};
 use crate::list::{bytes_at, number};
 use bsii_string::numbers::size;
-use libc::{STDIN_FILENO, STDOUT_FILENO};
+use sii_io::{large_buffer, read_full};
+use std::io;
+use std::io::{Input, Print, Read, Write};
 
-fn print(text: &[u8]) {
-    io::write_all(STDOUT_FILENO, text);
+fn print(rt: &impl Print, text: &[u8]) -> io::Result<()> {
+    io::writer(rt).write_all(text)
 }
 
-fn differs(s: &[u8], index: u32, what: &[u8]) {
-    print(b"file ");
-    io::print_decimal(STDOUT_FILENO, index as u64);
-    print(b", ");
-    print(bytes_at(s, 16));
-    print(b": ");
-    print(what);
-    print(b"\n");
+fn differs(rt: &impl Print, s: &[u8], index: u32, what: &[u8]) -> io::Result<()> {
+    print!(rt; "file {index}, ")?;
+    print(rt, bytes_at(s, 16))?;
+    print(rt, b": ")?;
+    print(rt, what)?;
+    print(rt, b"\n")
 }
 
 // A record against the calls; whether all is equal.
-fn is_equal(s: &[u8], table: &mut [u32], output: &mut [u8], index: u32) -> bool {
+fn is_equal(
+    rt: &impl Print,
+    s: &[u8],
+    table: &mut [u32],
+    output: &mut [u8],
+    index: u32,
+) -> io::Result<bool> {
     let outcome = replay(s, table, output);
     match outcome {
-        Outcome::Equal => return true,
-        Outcome::Reading => differs(s, index, b"reading"),
-        Outcome::LookUp => differs(s, index, b"look-up"),
-        Outcome::Text => differs(s, index, b"text"),
-        Outcome::Broken => differs(s, index, b"broken record"),
+        Outcome::Equal => return Ok(true),
+        Outcome::Reading => differs(rt, s, index, b"reading")?,
+        Outcome::LookUp => differs(rt, s, index, b"look-up")?,
+        Outcome::Text => differs(rt, s, index, b"text")?,
+        Outcome::Broken => differs(rt, s, index, b"broken record")?,
     }
-    false
+    Ok(false)
 }
 
 // The list's next n bytes, at the buffer's start; whether there are n, and room for them.
-fn fill(buffer: &mut [u8], n: usize) -> bool
-    ensures { result ≡ true → n ≤ length buffer.new }
+fn fill<R: Read>(input: &mut R, buffer: &mut [u8], n: usize) -> io::Result<bool>
+    ensures { IfOk result (λ r. r ≡ true → n ≤ length buffer.new) }
 {
     if buffer.len() < n {
-        return false;
+        return Ok(false);
     }
-    let got = io::read_full(STDIN_FILENO, &mut buffer[..n]);
-    got == n
+    let got = read_full(input, &mut buffer[..n])?;
+    Ok(got == n)
 }
 
 // Whether the list goes on with these bytes.
-fn goes_on(buffer: &mut [u8], expected: &[u8]) -> bool {
+fn goes_on<R: Read>(input: &mut R, buffer: &mut [u8], expected: &[u8]) -> io::Result<bool> {
     let n = expected.len();
-    if !fill(buffer, n) {
-        return false;
+    if !fill(input, buffer, n)? {
+        return Ok(false);
     }
-    check::same(&buffer[..n], expected)
+    Ok(&buffer[..n] == expected)
 }
 
 #[derive(Drop)]
@@ -64,11 +72,11 @@ enum Next {
 }
 
 // The list's next four bytes as a number.
-fn next_number(buffer: &mut [u8]) -> Next {
-    if !fill(buffer, 4) {
-        return Next::Missing;
+fn next_number<R: Read>(input: &mut R, buffer: &mut [u8]) -> io::Result<Next> {
+    if !fill(input, buffer, 4)? {
+        return Ok(Next::Missing);
     }
-    Next::Number(number(buffer, 0))
+    Ok(Next::Number(number(buffer, 0)))
 }
 
 // One for a record whose answers are equal, else zero.
@@ -79,66 +87,80 @@ enum Compared {
 }
 
 // The list's next record against the calls.
-fn turn(buffer: &mut [u8], table: &mut [u32], output: &mut [u8], index: u32) -> Compared
-    ensures { AtMostOne result }
+fn turn<R: Read>(
+    rt: &impl Print,
+    input: &mut R,
+    buffer: &mut [u8],
+    table: &mut [u32],
+    output: &mut [u8],
+    index: u32,
+) -> io::Result<Compared>
+    ensures { IfOk result AtMostOne }
 {
-    let next = next_number(buffer);
+    let next = next_number(input, buffer)?;
     let Next::Number(length) = next else {
-        return Compared::Missing;
+        return Ok(Compared::Missing);
     };
     let n = size(length);
-    if !fill(buffer, n) {
-        return Compared::Missing;
+    if !fill(input, buffer, n)? {
+        return Ok(Compared::Missing);
     }
-    if is_equal(&buffer[..n], table, output, index) {
-        return Compared::Equal(1);
+    if is_equal(rt, &buffer[..n], table, output, index)? {
+        return Ok(Compared::Equal(1));
     }
-    Compared::Equal(0)
+    Ok(Compared::Equal(0))
 }
 
-fn print_counts(files: u32, equal: u32) {
-    print(b"replayed ");
-    io::print_decimal(STDOUT_FILENO, files as u64);
-    print(b" files: ");
-    io::print_decimal(STDOUT_FILENO, equal as u64);
-    print(b" equal\n");
+fn print_counts(rt: &impl Print, files: u32, equal: u32) -> io::Result<()> {
+    println!(rt; "replayed {files} files: {equal} equal")
 }
 
 // `count` records.
-fn replay_list(buffer: &mut [u8], table: &mut [u32], output: &mut [u8], count: u32) {
+fn replay_list<R: Read>(
+    rt: &impl Print,
+    input: &mut R,
+    buffer: &mut [u8],
+    table: &mut [u32],
+    output: &mut [u8],
+    count: u32,
+) -> io::Result<()> {
     let mut index: u32 = 0;
     let mut equal: u32 = 0;
     while index < count {
-        let one = turn(buffer, table, output, index);
+        let one = turn(rt, input, buffer, table, output, index)?;
         let Compared::Equal(n) = one else {
-            print_counts(index, equal);
-            return;
+            return print_counts(rt, index, equal);
         };
         equal += n;
         index += 1;
     }
-    print_counts(index, equal);
+    print_counts(rt, index, equal)
 }
 
-fn run(buffer: &mut [u8], table: &mut [u32], output: &mut [u8]) {
-    if !goes_on(buffer, b"BSII answers, 1\n") {
-        print(b"this is no list of answers\n");
-        return;
+fn run<R: Read>(
+    rt: &impl Print,
+    input: &mut R,
+    buffer: &mut [u8],
+    table: &mut [u32],
+    output: &mut [u8],
+) -> io::Result<()> {
+    if !goes_on(input, buffer, b"BSII answers, 1\n")? {
+        return print(rt, b"this is no list of answers\n");
     }
-    let next = next_number(buffer);
+    let next = next_number(input, buffer)?;
     let Next::Number(count) = next else {
-        print(b"the list ends early\n");
-        return;
+        return print(rt, b"the list ends early\n");
     };
-    replay_list(buffer, table, output, count);
-    if !goes_on(buffer, b"end\n") {
-        print(b"the list ends early\n");
+    replay_list(rt, input, buffer, table, output, count)?;
+    if !goes_on(input, buffer, b"end\n")? {
+        return print(rt, b"the list ends early\n");
     }
+    Ok(())
 }
 
-fn main() {
-    let mut buffer = io::large_buffer();
+fn main(rt: HostRuntime) -> io::Result<()> {
+    let mut buffer = large_buffer();
     let mut table = [0u32; 768];
-    let mut output = io::large_buffer();
-    run(&mut buffer, &mut table, &mut output);
+    let mut output = large_buffer();
+    run(&rt, &mut rt.reader(), &mut buffer, &mut table, &mut output)
 }

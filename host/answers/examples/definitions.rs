@@ -10,16 +10,16 @@ use std::io::Write;
 
 const HEADER: &str = "\
 -- The Rust's answers to small files: its texts, and the numbers of its refusals. 768 table words are more than any of these files needs.
-use mathlib.Core.Path.{_≡_, refl}
+use mathlib.Core.Path.{◌≡◌, refl}
 use Prim.Native.Nat.{ℕ}
-use mathlib.Core.List.{List, [], _∷_}
-use Rattle·bsii_format·specs.specs.Replies.{Reply, gives, refuses}
-use Rattle·bsii_format·specs.specs.Calls.{textOf}
-use Rattle·bsii_format·proofs.proofs.Worked.{computes}
+use mathlib.Core.List.{List, [], ◌∷◌}
+use Rattle.bsii_format.specs.Replies.{Reply, gives, refuses}
+use Rattle.bsii_format.specs.Calls.{text_of}
+use Rattle.bsii_format.proofs.Worked.{computes}
 
-unfoldable numberOf : Reply (List ℕ) → ℕ
-numberOf (gives t) = 0
-numberOf (refuses f) = f .number
+unfoldable number_of : Reply (List ℕ) → ℕ
+number_of (gives t) = 0
+number_of (refuses f) = f.number
 ";
 
 fn main() -> std::io::Result<()> {
@@ -87,11 +87,11 @@ fn equation(entry: &Entry, name: &str) -> String {
     let (statement, unfolding) = match number(entry) {
         0 => {
             let text = numerals(&entry.answer.text);
-            (format!("textOf 768 {file} ≡ gives {text}"), "computes")
+            (format!("text_of 768 {file} ≡ gives {text}"), "computes")
         }
         number => {
-            let statement = format!("numberOf (textOf 768 {file}) ≡ {number}");
-            (statement, "computes numberOf")
+            let statement = format!("number_of (text_of 768 {file}) ≡ {number}");
+            (statement, "computes number_of")
         }
     };
     let label = &entry.label;

@@ -9,25 +9,25 @@ use generate::widening::{lists, Stored, Written};
 
 const HEADER: &str = "\
 -- Lists of insertions, and whether document 01 allows them. 768 table words are more than any of these saves needs.
-use mathlib.Core.Path.{_≡_, refl}
+use mathlib.Core.Path.{◌≡◌, refl}
 use Prim.Native.Nat.{ℕ}
 use mathlib.Core.Bool.{Bool, true, false}
-use mathlib.Core.List.{List, [], _∷_}
-use Rattle·bsii_format.specs.File.{BsiiFile, parse}
-use Rattle·bsii_widening·specs.specs.Marks.{MarkedRecords, markRecords}
-use Rattle·bsii_widening·specs.specs.Written.{Written, field, prototypeAt, blockAt, madeAll}
-use Rattle·bsii_widening·specs.specs.Example.{fileOf}
-use Rattle·bsii_widening·proofs.proofs.Computes.{computesAll}
-use Rattle·bsii_widening·proofs.proofs.Decided.{allowed}
+use mathlib.Core.List.{List, [], ◌∷◌}
+use Rattle.bsii_format.specs.File.{BsiiFile, parse}
+use Rattle.bsii_widening.specs.Marks.{MarkedRecords, mark_records}
+use Rattle.bsii_widening.specs.Written.{Written, field, prototype_at, block_at, made_all}
+use Rattle.bsii_widening.specs.Example.{file_of}
+use Rattle.bsii_widening.proofs.Computes.{computes_all}
+use Rattle.bsii_widening.proofs.Decided.{allowed}
 
-unfoldable onRecords : ℕ → List Written → MarkedRecords → Bool
-onRecords version l M = allowed version (madeAll version l M) M
+unfoldable on_records : ℕ → List Written → MarkedRecords → Bool
+on_records version l M = allowed version (made_all version l M) M
 
-unfoldable onFile : List Written → BsiiFile → Bool
-onFile l f = onRecords (f .header .value) l (markRecords (f .records))
+unfoldable on_file : List Written → BsiiFile → Bool
+on_file l f = on_records (f.header.value) l (mark_records (f.records))
 
 unfoldable on : List Written → List ℕ → Bool
-on l s = onFile l (fileOf (parse 768 s))
+on l s = on_file l (file_of (parse 768 s))
 ";
 
 fn main() {
@@ -76,7 +76,7 @@ fn equation(stored: &Stored, name: &str) -> String {
     let save = numerals(&stored.save);
     let (label, is_allowed) = (&stored.label, stored.is_allowed);
     format!(
-        "-- {label}\n{name} : on ({items}[]) {save} ≡ {is_allowed}\nunfolding computesAll on onFile onRecords\n{name} = refl\n"
+        "-- {label}\n{name} : on ({items}[]) {save} ≡ {is_allowed}\nunfolding computes_all on on_file on_records\n{name} = refl\n"
     )
 }
 
@@ -92,8 +92,8 @@ fn written(item: &Written) -> String {
             let definition = numerals(definition);
             format!("field {id} {position} {definition} ({values}[])")
         }
-        Written::Prototype { record, bytes } => format!("prototypeAt {record} {}", numerals(bytes)),
-        Written::Block { record, bytes } => format!("blockAt {record} {}", numerals(bytes)),
+        Written::Prototype { record, bytes } => format!("prototype_at {record} {}", numerals(bytes)),
+        Written::Block { record, bytes } => format!("block_at {record} {}", numerals(bytes)),
     }
 }
 
