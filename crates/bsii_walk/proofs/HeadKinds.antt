@@ -1,17 +1,16 @@
 -- How a record begins, for a head that was accepted.
-use mathlib.Core.Path.{◌≡◌, refl, sym, ap, ap₂, ◌∙◌, subst}
-use Prim.Native.Nat.{ℕ, zero, suc, ◌+◌}
-use native.Mathlib.Omega.{arith}
-use mathlib.Core.Bool.{Bool, true, false, cond}
+use mathlib.Core.Path.{◌≡◌, refl, sym, ap, ap₂, ◌∙◌}
+use Prim.Native.Nat.{ℕ, zero, suc}
+use mathlib.Core.Bool.{cond}
 use mathlib.Core.List.{List}
 use lib.ListN.{drop}
-use lib.Dec.{T, leb, eqb}
+use lib.Dec.{leb, eqb}
 use borrow.Author.Tests.{eq-eqb, ne_eqb}
 use Rattle.bsii_format.specs.Replies.{bad_mark}
-use Rattle.bsii_format.specs.Reader.{Result, ok, fault, fault_at, Reader, after, ◌>>=◌, success, verify}
-use Rattle.bsii_format.specs.Numbers.{number, le_u8, le_u32}
+use Rattle.bsii_format.specs.Reader.{ok, fault, after, ◌>>=◌, success, verify}
+use Rattle.bsii_format.specs.Numbers.{number, le_u8}
 use Rattle.bsii_format.specs.Strings.{str_parser}
-use Rattle.bsii_format.specs.File.{Head, ending, defining, carrying, mark_parser, head_parser}
+use Rattle.bsii_format.specs.File.{Head, defining, carrying, mark_parser, head_parser}
 use Rattle.bsii_format.proofs.Readers.{fault≢ok, ok_val, ok_at, ok_rest, after_ok, cond_ok}
 use Rattle.bsii_format.proofs.Parsers.{number_exact}
 use Rattle.bsii_format.proofs.Positions.{moved}

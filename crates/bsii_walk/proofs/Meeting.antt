@@ -3,13 +3,13 @@ use mathlib.Core.Path.{◌≡◌, refl, sym, ap, ◌∙◌, subst}
 use Prim.Native.Nat.{ℕ, ◌+◌}
 use native.Mathlib.Omega.{arith}
 use mathlib.Core.Option.{Option, none, some}
-use mathlib.Core.List.{List, [], ◌∷◌}
+use mathlib.Core.List.{List}
 use lib.ListN.{length, drop}
-use Rattle.bsii_format.specs.Reader.{Result, ok, fault, ◌>>=◌}
+use Rattle.bsii_format.specs.Reader.{ok, ◌>>=◌}
 use Rattle.bsii_format.specs.Strings.{id_parser}
-use Rattle.bsii_format.specs.Prototypes.{Prototype, Fields, fields_parser}
-use Rattle.bsii_format.specs.Blocks.{DataValue, DataBlock, get_prototype, data_values_parser}
-use Rattle.bsii_format.specs.File.{Record, prototype, block, Head, ending, defining, carrying, head_parser, end, more, record_parser}
+use Rattle.bsii_format.specs.Prototypes.{Prototype, fields_parser}
+use Rattle.bsii_format.specs.Blocks.{DataBlock, get_prototype, data_values_parser}
+use Rattle.bsii_format.specs.File.{Record, prototype, block, end, more, record_parser}
 use Rattle.bsii_string.specs.Answers.{end_of, unchecked_str}
 use Rattle.bsii_string.specs.declared.answers.Parsed.{Parsed}
 use Rattle.bsii_string.specs.declared.answers.Refusal.{Refusal}
@@ -28,12 +28,12 @@ use Rattle.bsii_table.specs.declared.FoundRow.{FoundRow}
 use Rattle.bsii_table.specs.declared.FoundRow.TheVariants.{At, Nothing as NotFound}
 use Rattle.bsii_table.proofs.Relation.{enter_entered, entered_at, entered_nothing}
 use Rattle.bsii_block.specs.Blocks.{DefinedAt, BlockSkipped}
-use Rattle.bsii_walk.specs.Again.{kind_of, KindAt, PrototypeMet, PrototypeAgain, BlockMet, BlockAgain, Meets, a_prototype_law, a_block_law, RecordAgain}
+use Rattle.bsii_walk.specs.Again.{KindAt, PrototypeMet, PrototypeAgain, BlockMet, BlockAgain, Meets, a_prototype_law, a_block_law, RecordAgain}
 use Rattle.bsii_walk.specs.declared.records.RecordKind.{RecordKind}
 use Rattle.bsii_walk.specs.declared.records.RecordKind.TheVariants.{Ends, Defines, Carries}
 use Rattle.bsii_walk.specs.declared.records.Met.{Met}
 use Rattle.bsii_walk.specs.declared.records.Met.TheVariants.{Prototype as MetPrototype, Block as MetBlock, Nothing}
-use Rattle.bsii_walk.proofs.Parts.{stands, BlockParts, block_parts_law, block_body, end_head}
+use Rattle.bsii_walk.proofs.Parts.{stands, block_parts_law, block_body, end_head}
 
 none≢some : {A P : Type 0} {a : A} → ◌≡◌ {A = Option A} none (some a) → P
 none≢some e = let z : ◌≡◌ {A = ℕ} 0 1 = cc in let f : ⊥ = omega arith in absurd f

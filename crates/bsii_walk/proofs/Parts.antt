@@ -1,18 +1,18 @@
 -- The parts of a record that was accepted, at their positions in the file.
-use mathlib.Core.Path.{◌≡◌, refl, sym, ap, ◌∙◌, subst}
-use Prim.Native.Nat.{ℕ, ◌+◌, ◌≤◌}
+use mathlib.Core.Path.{◌≡◌, sym, ap, ◌∙◌}
+use Prim.Native.Nat.{ℕ, ◌+◌}
 use native.Mathlib.Omega.{arith}
-use mathlib.Core.Option.{Option, some}
-use mathlib.Core.List.{List, [], ◌∷◌, ◌++◌, append_assoc}
+use mathlib.Core.Option.{some}
+use mathlib.Core.List.{List, ◌++◌, append_assoc}
 use lib.ListN.{length, drop, length-append}
-use Rattle.bsii_format.specs.Reader.{Result, ok, Reader, after, ◌>>=◌, Consumed, with}
-use Rattle.bsii_format.specs.Strings.{Id, id_parser}
-use Rattle.bsii_format.specs.Prototypes.{Prototype, Fields, fields_parser}
+use Rattle.bsii_format.specs.Reader.{ok, Reader, after, ◌>>=◌, Consumed}
+use Rattle.bsii_format.specs.Strings.{id_parser}
+use Rattle.bsii_format.specs.Prototypes.{Prototype}
 use Rattle.bsii_format.specs.Blocks.{DataValue, DataBlock, get_prototype, data_values_parser}
-use Rattle.bsii_format.specs.File.{Record, prototype, block, Head, ending, defining, carrying, head_parser, Step, end, more, record_parser, fields_bytes, values_bytes, record_bytes}
-use Rattle.bsii_format.proofs.Readers.{Fits, Exact, bind_exact}
+use Rattle.bsii_format.specs.File.{prototype, block, ending, carrying, head_parser, end, more, record_parser, fields_bytes, values_bytes, record_bytes}
+use Rattle.bsii_format.proofs.Readers.{Fits, Exact}
 use Rattle.bsii_format.proofs.Parsers.{head_exact, id_exact}
-use Rattle.bsii_format.proofs.Records.{GoodTaken, GoodPrototype, GoodBlock, GoodStep, step_bytes, record_good, fields_fits, values_fits, values_good}
+use Rattle.bsii_format.proofs.Records.{step_bytes, record_good, fields_fits, values_fits, values_good}
 use Rattle.bsii_format.proofs.Positions.{moved}
 use Rattle.bsii_block.specs.Blocks.{DefinedAt}
 use Rattle.bsii_parse.proofs.Passing.{fields_exact}

@@ -1,8 +1,8 @@
 -- The search, from its start to its answer.
-use mathlib.Core.Path.{◌≡◌, refl, sym, ap, ◌∙◌}
+use mathlib.Core.Path.{◌≡◌, refl, sym, ap, ap₂, ◌∙◌}
 use Prim.Native.Nat.{ℕ, zero, suc, ◌+◌, ◌-◌}
 use native.Mathlib.Omega.{arith}
-use mathlib.Core.Bool.{Bool, true, false, not, cond, ◌||◌}
+use mathlib.Core.Bool.{Bool, true, false, cond, ◌||◌}
 use mathlib.Core.Option.{Option, some}
 use mathlib.Core.List.{List, [], ◌∷◌}
 use Rattle.bsii_format.specs.Reader.{same}
@@ -33,27 +33,18 @@ module _ {s : List ℕ} {o : ℕ} {any : Bool} {name : List ℕ} {w : Bool} (h :
   counts : {r : Count} → r ≡ count_of w left → Counts s o any name left r
   counts e = record { is = λ q x. e ∙ ap (λ b. count_of b left) (h.is q x) }
 
-  pub counts_unwanted : not w ≡ true → Counts s o any name left (Left left)
-  counts_unwanted z = counts (go w z)
-    where
-      go : (w : Bool) → not w ≡ true → Left left ≡ count_of w left
-      go true z = ap (λ b. count_of b left) z
-      go false z = refl
+  pub counts_unwanted : w ≡ false → Counts s o any name left (Left left)
+  counts_unwanted z = counts (sym (ap (λ b. count_of b left) z))
 
-  pub counts_found : not w ≡ false → left ≡ 0 → Counts s o any name left Found
-  counts_found z e = counts (go w z left e)
-    where
-      go : (w : Bool) → not w ≡ false → (left : ℕ) → left ≡ 0 → Found ≡ count_of w left
-      go true z left e = sym (ap (count_of true) e)
-      go false z left e = sym (ap (count_of true) e) ∙ ap (λ b. count_of b left) z
+  pub counts_found : w ≡ true → left ≡ 0 → Counts s o any name left Found
+  counts_found z e = counts (sym (ap₂ count_of z e))
 
-  pub counts_passed : not w ≡ false → (left ≡ 0 → ⊥) → Counts s o any name left (Left (left - 1))
-  counts_passed z e = counts (go w z left e)
+  pub counts_passed : w ≡ true → (left ≡ 0 → ⊥) → Counts s o any name left (Left (left - 1))
+  counts_passed z e = counts (go left e ∙ sym (ap (λ b. count_of b left) z))
     where
-      go : (w : Bool) → not w ≡ false → (left : ℕ) → (left ≡ 0 → ⊥) → Left (left - 1) ≡ count_of w left
-      go w z zero e = absurd (e refl)
-      go true z (suc m) e = ap Left (omega arith)
-      go false z (suc m) e = ap Left (omega arith) ∙ ap (λ b. count_of b (suc m)) z
+      go : (left : ℕ) → (left ≡ 0 → ⊥) → Left (left - 1) ≡ count_of true left
+      go zero e = absurd (e refl)
+      go (suc m) e = ap Left (omega arith)
 
 -- ---- the search goes by the count
 
