@@ -4,7 +4,6 @@ use Prim.Native.Nat.{ℕ}
 use mathlib.Core.List.{List}
 use Rattle.bsii_format.specs.Reader.{Result, ok, fault}
 use Rattle.bsii_string.specs.Answers.{end_of}
-use Rattle.bsii_string.specs.declared.answers.Parsed.{Parsed}
 use Rattle.bsii_string.specs.declared.answers.Parsed.TheVariants.{Next}
 use Rattle.bsii_string.proofs.Ends.{next≢fault}
 

@@ -2,14 +2,14 @@
 use mathlib.Core.Path.{◌≡◌, refl, sym, ap, ◌∙◌}
 use Prim.Native.Nat.{ℕ, zero, suc, ◌+◌, ◌-◌, ◌*◌, ◌^◌, ◌≤◌, ◌<◌}
 use native.Mathlib.Omega.{arith}
-use mathlib.Core.Bool.{Bool, true, false}
-use lib.Dec.{T, ltb}
+use mathlib.Core.Bool.{true, false}
+use lib.Dec.{T}
 use lib.IntN.{ℤ, pos, negsuc, ◌-ℤ◌, nat_abs}
-use lib.Signed.{mag, le_z, non_neg}
+use lib.Signed.{le_z, non_neg}
 use borrow.Author.Tests.{lt-ltb, le-ltb, le-leb}
 use mir.Syntax.{Width, w8, w16, w32, w64, w128}
 use mir.Val.{bits, hbits, Fits, SFits, to_z, of_z}
-use mir.Facts.{to_z_pos, to_z-neg, to_z-of_z}
+use mir.Facts.{to_z_pos, to_z-of_z}
 use Rattle.bsii_format.specs.Numbers.{signed}
 use Rattle.bsii_element.specs.Twos.{twos}
 

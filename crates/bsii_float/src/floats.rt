@@ -51,20 +51,20 @@ pub struct Placement {
     pub h: f32,
 }
 
-#[derive(Drop)]
+#[derive(Clone, Copy)]
 pub struct Bits2 {
     pub a: u32,
     pub b: u32,
 }
 
-#[derive(Drop)]
+#[derive(Clone, Copy)]
 pub struct Bits3 {
     pub a: u32,
     pub b: u32,
     pub c: u32,
 }
 
-#[derive(Drop)]
+#[derive(Clone, Copy)]
 pub struct Bits4 {
     pub a: u32,
     pub b: u32,
@@ -72,7 +72,7 @@ pub struct Bits4 {
     pub d: u32,
 }
 
-#[derive(Drop)]
+#[derive(Clone, Copy)]
 pub struct Bits7 {
     pub a: u32,
     pub b: u32,
@@ -83,7 +83,7 @@ pub struct Bits7 {
     pub g: u32,
 }
 
-#[derive(Drop)]
+#[derive(Clone, Copy)]
 pub struct PlacementBits {
     pub a: u32,
     pub b: u32,

@@ -4,10 +4,8 @@ use Prim.Native.Nat.{ℕ, ◌-◌}
 use native.Mathlib.Omega.{arith}
 use mathlib.Core.Bool.{Bool, true, false}
 use mathlib.Core.Option.{some}
-use mathlib.Core.List.{List, [], ◌∷◌}
-use types.Run.{OneOf}
-use denote.Enum.Declared.{tag_of}
-use lib.Dec.{T, ltb}
+use mathlib.Core.List.{List, []}
+use lib.Dec.{T}
 use lib.ListN.{length, take, drop}
 use lib.Seq.{take_at}
 use Rattle.bsii_format.specs.Reader.{ok, Reader, WellFormed}
@@ -18,8 +16,6 @@ use Rattle.bsii_format.proofs.Readers.{Exact, fits_well_formed}
 use Rattle.bsii_value.specs.Kinds.{numeric_is}
 use Rattle.bsii_value.specs.declared.types.Numeric.{Numeric as Number}
 use Rattle.bsii_value.specs.declared.types.Numeric.TheVariants.{Float, FloatVec2, FloatVec3, FloatVec4, FloatVec7, FloatVec8, Int32, Int32Vec3, UInt32, UInt16, Int64, UInt64, Bool as Truth, Enum}
-use Rattle.bsii_value.specs.contracts.types.Numeric.{the_type}
-use Rattle.bsii_string.proofs.Keys.{every, keyed}
 
 pub own_bytes : {A : Type 0} {R : Reader A} → Exact A R → (s : List ℕ) (at : ℕ) {v : A} {n : ℕ} → R at (drop at s) ≡ ok v n (drop n s) → WellFormed R v (take (n - at) (drop at s))
 own_bytes {A} {R} x s at {v} {n} e =
@@ -68,9 +64,8 @@ any_list bool h enums l = (_, refl, refl)
 any_list enum h enums l = absurd h
 
 -- every case but the enum's
-pub other : (n : Number) → OneOf (0 ∷ 1 ∷ 2 ∷ 3 ∷ 4 ∷ 5 ∷ 6 ∷ 7 ∷ 8 ∷ 9 ∷ 10 ∷ 11 ∷ 12 ∷ []) (tag_of the_type n) → NoEnum (numeric_is n)
-unfolding every
-other Enum h = keyed (λ x. ltb x 13) (0 ∷ 1 ∷ 2 ∷ 3 ∷ 4 ∷ 5 ∷ 6 ∷ 7 ∷ 8 ∷ 9 ∷ 10 ∷ 11 ∷ 12 ∷ []) 13 tt h
+pub other : (n : Number) → (n ≡ Enum → ⊥) → NoEnum (numeric_is n)
+other Enum h = absurd (h refl)
 other Float h = tt
 other FloatVec2 h = tt
 other FloatVec3 h = tt

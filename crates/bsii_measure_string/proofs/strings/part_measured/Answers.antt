@@ -1,0 +1,23 @@
+use Prim.Native.Nat.{◌-◌}
+use mathlib.Core.Bool.{true}
+use lib.ListN.{take, drop}
+use Rattle.bsii_format.specs.Utf8.{utf8}
+use mathlib.Core.Path.{◌≡◌, sym, ◌∙◌}
+use native.Mathlib.Omega.{arith}
+use Rattle.bsii_text_length.proofs.ClassLaws.{worst_ascii}
+use Rattle.bsii_measure_string.proofs.StringMeasures.{part_refused, part_next}
+use Rattle.bsii_measure_string.proofs.strings.part_measured.Goals as goal
+use Rattle.bsii_measure_string.proofs.strings.part_measured.Goals.{then-all-gt2+else-not-is_utf8, else-all-gt2}
+
+pub returns-then-not-is_utf8 : goal.returns-then-not-is_utf8
+returns-then-not-is_utf8 c =
+    let a = c.args in
+    part_refused a.s.now a.start a.next (omega arith) (omega arith) (sym c.is_utf8.ensures ∙ c.if-not-is_utf8.true) c.refused.ensures
+
+pub returns : goal.returns
+returns c =
+    let a = c.args in
+    let w = c.worst-all in
+    let u : utf8 (take (a.next - a.start) (drop a.start a.s.now)) ≡ true =
+    elim c.if-all-gt2.branch [ then-all-gt2+else-not-is_utf8 t ↦ sym t.is_utf8.ensures ∙ t.if-not-is_utf8.false | else-all-gt2 t ↦ worst_ascii _ (omega (arith, w.ensures, t.if-all-gt2.false)) ] in
+    part_next a.s.now a.start a.next (omega arith) (omega arith) u c.length_by.ensures
