@@ -3,7 +3,7 @@ use mathlib.Core.Path.{◌≡◌, refl, sym, ap, ◌∙◌, subst}
 use Prim.Native.Nat.{ℕ, ◌+◌, ◌-◌, ◌*◌, ◌≤◌, ◌<◌}
 use native.Mathlib.Omega.{arith}
 use mathlib.Core.Option.{Option, none, some, get_or}
-use mathlib.Core.List.{List, [], ◌∷◌}
+use mathlib.Core.List.{List, []}
 use lib.ListN.{length, take, drop, length-drop}
 use lib.Seq.{get_or-drop}
 use Rattle.bsii_format.specs.Reader.{ok, after, with, consumed, repeat}
@@ -19,19 +19,15 @@ use Rattle.bsii_length.specs.Bounds.{element_bound, line_bound}
 use Rattle.bsii_length.proofs.Taken.{Bytes, Input, nil}
 use Rattle.bsii_length.proofs.Elements.{size, element_takes}
 use Rattle.bsii_string.specs.declared.answers.Refusal.{Refusal}
-use Rattle.bsii_string.proofs.Keys.{every, keyed}
 use Rattle.bsii_value.specs.Kinds.{kind_is}
 use Rattle.bsii_value.specs.declared.types.Kind.{Kind as Code}
+use Rattle.bsii_value.specs.declared.types.Numeric.{Numeric as Number}
 use Rattle.bsii_value.specs.declared.types.Kind.TheVariants.{Numbers, String, EncodedString, Id}
-use Rattle.bsii_value.specs.contracts.types.Kind.{the_type}
 use Rattle.bsii_measure_string.specs.Measured.{measured, element_size, line_size, row_size}
 use Rattle.bsii_measure_string.specs.declared.answers.Measured.{Measured}
 use Rattle.bsii_measure_string.specs.declared.answers.Measured.TheVariants.{Next, Fault}
 use Rattle.bsii_measure_string.proofs.Measures.{measured_ok, measured_fault, measured_map, sum_start, sum_next, sum_fault, sum_done}
 use Rattle.bsii_measure_value.specs.Rows.{NoNumbers, RowMeasured}
-use types.Run.{OneOf}
-use denote.Enum.Declared.{tag_of}
-use lib.Dec.{ltb}
 
 -- ---- by kind
 
@@ -48,9 +44,8 @@ unfolding element_parser element_size element_text
 id_element at s = sym (measured_map element_size ident id_parser at s)
 
 -- every case but that of numbers
-pub others : (k : Code) → OneOf (1 ∷ 2 ∷ 3 ∷ []) (tag_of the_type k) → NoNumbers (kind_is k)
-unfolding every
-others (Numbers n) h = keyed (ltb 0) (1 ∷ 2 ∷ 3 ∷ []) 0 tt h
+pub others : (k : Code) → ((n : Number) → k ≡ Numbers n → ⊥) → NoNumbers (kind_is k)
+others (Numbers n) h = absurd (h n refl)
 others String h = tt
 others EncodedString h = tt
 others Id h = tt
