@@ -1,13 +1,12 @@
 -- What the walk beside an index has found, as the check's answer.
 use mathlib.Core.Path.{◌≡◌, refl, sym, ap, ◌∙◌}
-use Prim.Native.Nat.{ℕ, ◌+◌, ◌*◌, ◌≤◌}
+use Prim.Native.Nat.{ℕ, ◌*◌, ◌≤◌}
 use native.Mathlib.Omega.{arith}
 use mathlib.Core.List.{List}
-use lib.ListN.{length, drop}
+use lib.ListN.{length}
 use Rattle.bsii_format.specs.Replies.{refuses, misfit}
-use Rattle.bsii_format.specs.Reader.{ok}
-use Rattle.bsii_format.specs.File.{Record, record_bytes, BsiiFile, length_limit, parse}
-use Rattle.bsii_format.specs.Calls.{placed_records, blocks_of, of_file}
+use Rattle.bsii_format.specs.File.{length_limit}
+use Rattle.bsii_format.specs.Calls.{of_file}
 use Rattle.bsii_string.specs.Answers.{fault_is, refused_at}
 use Rattle.bsii_string.specs.declared.answers.Refusal.{Refusal}
 use Rattle.bsii_derived.specs.Index.{index_of, agreeing}

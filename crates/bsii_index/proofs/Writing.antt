@@ -9,7 +9,7 @@ use lib.ListN.{length, take, drop, length-append, length-drop}
 use lib.Seq.{take_at, drop-append-add, drop-drop}
 use lib.Dec.{leb, leb→le, le→leb}
 use Rattle.bsii_format.specs.Replies.{gives, output_short}
-use Rattle.bsii_format.specs.Reader.{ok, fault}
+use Rattle.bsii_format.specs.Reader.{ok}
 use Rattle.bsii_format.specs.File.{Records, BsiiFile, parse}
 use Rattle.bsii_format.specs.Calls.{placed, placed_records, of_file, write_answer}
 use Rattle.bsii_format.proofs.Readers.{fault≢ok, ok_val, is_true, is_false}
