@@ -1,2 +1,4 @@
 // A line of a value: of numbers or an id by the bytes that were accepted for them, of a word, of a string.
+#![tactic(auto)]
+
 pub mod lines;
