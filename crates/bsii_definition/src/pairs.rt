@@ -6,7 +6,7 @@ use bsii_prototype::answers::Entry;
 use bsii_prototype::skip::skip_value_prototype;
 
 // Where a definition stands: its type, and its name's bytes from name to name_end, behind which an enum list follows.
-#[derive(Drop)]
+#[derive(Clone, Copy)]
 pub struct Definition {
     pub type_id: u32,
     pub name: usize,
