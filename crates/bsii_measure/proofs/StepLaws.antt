@@ -13,7 +13,7 @@ use Rattle.bsii_format.specs.Reader.{Result, ok, fault, after, ◌>>=◌}
 use Rattle.bsii_format.specs.Strings.{Id, id_parser}
 use Rattle.bsii_format.specs.Prototypes.{Prototype}
 use Rattle.bsii_format.specs.Blocks.{DataValue, DataBlock, get_prototype, data_values_parser}
-use Rattle.bsii_format.specs.File.{prototype, block, carrying, head_parser, more, record_parser, has_room, record_bytes}
+use Rattle.bsii_format.specs.File.{Record, prototype, block, carrying, head_parser, more, record_parser, has_room, record_bytes}
 use Rattle.bsii_format.specs.Calls.{Placed, cons_prototype, record_steps}
 use Rattle.bsii_format.specs.Text.{value_text}
 use Rattle.bsii_format.specs.BlockText.{block_opening, closing, block_text}
@@ -32,7 +32,7 @@ use Rattle.bsii_table.specs.declared.FoundRow.{FoundRow}
 use Rattle.bsii_table.specs.declared.FoundRow.TheVariants.{At}
 use Rattle.bsii_table.proofs.Relation.{found_at}
 use Rattle.bsii_tree.specs.Table.{lookup_tree}
-use Rattle.bsii_parse.specs.Walks.{block_count, prototype_count, bare, past, behind_prototype, behind_block, StepMeets, passed as overRecord, ended as atEnd, refused as unread, Stepped, Defining, Carrying}
+use Rattle.bsii_parse.specs.Walks.{block_count, prototype_count, bare, past, Goes, behind_prototype, behind_block, StepMeets, passed as overRecord, ended as atEnd, refused as unread, Stepped, Defining, Carrying}
 use Rattle.bsii_parse.specs.declared.walk.Progress.{Progress}
 use Rattle.bsii_parse.specs.declared.walk.ReadStep.{ReadStep}
 use Rattle.bsii_parse.specs.declared.walk.ReadStep.TheVariants.{Prototype as WentPrototype, End as AtEnd, Refused as Unread}
@@ -85,12 +85,17 @@ block_adds version before env s at n b w found {o} head e =
 abbrev pub with_prototype : Tally → Tally
 with_prototype m = record { text = m.text; steps = m.steps + 1; largest = m.largest }
 
+-- behind which record a step went on, where it went over a prototype
+went_over : {env : List (Placed Prototype)} {a q : Progress} {i : Record} {r : ReadStep} → Goes env a i r → r ≡ WentPrototype q → (x : Prototype) × (i ≡ prototype x) × (a ≡ q)
+went_over (behind_prototype {p = x}) z = (x, refl, cc)
+went_over (behind_block y f) z = let x : ◌≡◌ {A = ℕ} 0 1 = cc in absurd (omega arith)
+
 module _ {version : ℕ} {s : List ℕ} {p : Progress} (m : Tally) {t : List ℕ} {env : List (Placed Prototype)} where
   over_prototype_law : {r : ReadStep} {t' : List ℕ} → StepMeets version s p t env r t' → {q : Progress} → r ≡ WentPrototype q → Standing s p m t
       → SumMeets version s p m t env (Go q (with_prototype m)) t'
   unfolding record_steps largest_in
-  over_prototype_law {t' = t'} (overRecord (prototype x) {n = n} {rows = rows} w behind_prototype) {q} z h =
-      let here : past p (prototype x) n rows ≡ q = cc in
+  over_prototype_law {t' = t'} (overRecord (prototype x) {n = n} {rows = rows} w g) {q} z h =
+      let here : past p (prototype x) n rows ≡ q = (went_over g z).2 in
       subst (λ q. SumMeets version s p m t env (Go q (with_prototype m)) t') here
       (passed (prototype x) w (record {
         text = prototype_adds (text_sum m) (bare env) p.at x;
@@ -99,7 +104,7 @@ module _ {version : ℕ} {s : List ℕ} {p : Progress} (m : Tally) {t : List ℕ
         few = omega (arith, h.few, w.on);
         largest = sym (max-zero m.largest);
       }))
-  over_prototype_law (overRecord (block b) w (behind_block y f)) z h = let x : ◌≡◌ {A = ℕ} 0 1 = cc in absurd (omega arith)
+  over_prototype_law (overRecord (block b) w g) z h = let x : block b ≡ prototype _ = (went_over g z).1 in let y : ◌≡◌ {A = ℕ} 0 1 = cc in absurd (omega arith)
   over_prototype_law (atEnd e) z h = let x : ◌≡◌ {A = ℕ} 0 1 = cc in absurd (omega arith)
   over_prototype_law (unread e l) z h = let x : ◌≡◌ {A = ℕ} 0 1 = cc in absurd (omega arith)
 

@@ -18,7 +18,7 @@ use bsii_table::{FoundRow, word};
 use bsii_tree::{Defined, define, find};
 
 // What the walk has added up: the text, the steps, one for each record and one for each value, and the bytes of the largest block.
-#[derive(Drop)]
+#[derive(Clone, Copy)]
 pub struct Tally {
     pub text: Sum,
     pub steps: usize,

@@ -5,7 +5,7 @@ ghost use Rattle.bsii_measure_block.specs.Sums.{first_missing};
 use bsii_string::answers::Refusal;
 
 // The length of the text so far, and the offset of its first enum value that is not in its list, or 0: no value stands there.
-#[derive(Drop)]
+#[derive(Clone, Copy)]
 pub struct Sum {
     pub to: usize,
     pub missing: usize,
