@@ -1,4 +1,4 @@
--- Texts stored one behind the other are their concatenation, and vec3-parts says that these pieces, put together, are vec3Text.
+-- Texts stored one behind the other are their concatenation, and vec3-parts says that these pieces, put together, are vec3_text.
 use native.Mathlib.Omega.{arith}
 use Rattle.bsii_window.proofs.Stores.{stored_then, stored_being}
 use Rattle.bsii_float_text.proofs.TextLaws.{vec3_parts}

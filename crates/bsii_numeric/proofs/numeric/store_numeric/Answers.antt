@@ -1,4 +1,4 @@
--- With the kind known, numericText is the text of the numbers that the arm reads, and accepted bytes have no other numbers. An enum has no text with
+-- With the kind known, numeric_text is the text of the numbers that the arm reads, and accepted bytes have no other numbers. An enum has no text with
 -- the empty list, so nothing is asked of it.
 use mathlib.Core.Path.{refl}
 use Prim.Native.Nat.{ℕ}

@@ -1,4 +1,4 @@
--- A head that markedParser accepts has a mark, and with a mark other than 0 an id: mark 0 is the end, any other one a definition of that id, and bytes
+-- A head that marked_parser accepts has a mark, and with a mark other than 0 an id: mark 0 is the end, any other one a definition of that id, and bytes
 -- that run out earlier belong to no accepted head.
 use Rattle.bsii_walk.proofs.HeadKinds.{mark_cut, mark_zero, mark_id_cut, mark_id}
 use Rattle.bsii_walk.proofs.records.mark_at.Goals as goal
