@@ -9,8 +9,8 @@ use Rattle.bsii_number_length.proofs.floats.float_length.Goals as goal
 pub returns-in-Whole : goal.returns-in-Whole
 returns-in-Whole c =
     let n = c.args.n in
-    let whole-number = c.whole_number-number in
-    (c.whole_length.ensures.0 ∙ ap length (sym (ap (number_text n) c.in-Whole.is) ∙ whole-number.ensures), omega arith)
+    let whole_number = c.whole_number-number in
+    (c.whole_length.ensures.0 ∙ ap length (sym (ap (number_text n) c.in-Whole.is) ∙ whole_number.ensures), omega arith)
 
 pub returns-in-Other : goal.returns-in-Other
 unfolding bits_text

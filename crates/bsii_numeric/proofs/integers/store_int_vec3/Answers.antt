@@ -7,7 +7,7 @@ use Rattle.bsii_numeric.proofs.integers.store_int_vec3.Goals as goal
 pub returns : goal.returns
 returns c =
     let first = c.store_byte-open in
-    let store-i32 = c.store_i32-a in
-    let store-further-int = c.store_further_int-b in
-    let store-further-int2 = c.store_further_int-c in
-    (stored_being (vec3_parts _ _ _) (stored_then (stored_then (stored_then (stored_then first.ensures store-i32.ensures.0) store-further-int.ensures.0) store-further-int2.ensures.0) c.store_byte.ensures), omega arith)
+    let store_i32 = c.store_i32-a in
+    let store_further_int = c.store_further_int-b in
+    let store_further_int2 = c.store_further_int-c in
+    (stored_being (vec3_parts _ _ _) (stored_then (stored_then (stored_then (stored_then first.ensures store_i32.ensures.0) store_further_int.ensures.0) store_further_int2.ensures.0) c.store_byte.ensures), omega arith)

@@ -8,11 +8,11 @@ use Rattle.bsii_numeric.proofs.numeric.put_numeric.Goals as goal
 
 pub slice_bounds-put_all-end : goal.slice_bounds-put_all-end
 slice_bounds-put_all-end c =
-    let store-numeric = c.store_numeric-count in
-    sym (length-take-le store-numeric.result store-numeric.new.out (omega (arith, store-numeric.ensures)))
+    let store_numeric = c.store_numeric-count in
+    sym (length-take-le store_numeric.result store_numeric.new.out (omega (arith, store_numeric.ensures)))
 
 pub returns : goal.returns
 returns c =
-    let store-numeric = c.store_numeric-count in
+    let store_numeric = c.store_numeric-count in
     let put = c.put_all.ensures in
-    record { writes = λ e n t h x g. being (stored_back (store-numeric.ensures.stores e n t h x g) (omega (arith, store-numeric.ensures))) put; size = same put }
+    record { writes = λ e n t h x g. being (stored_back (store_numeric.ensures.stores e n t h x g) (omega (arith, store_numeric.ensures))) put; size = same put }

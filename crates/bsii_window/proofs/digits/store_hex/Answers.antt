@@ -14,11 +14,11 @@ pub returns-then-n-gt268435455 : goal.returns-then-n-gt268435455
 unfolding hex_padded
 returns-then-n-gt268435455 c =
     let a = c.args in
-    let fill-four = c.fill_four in (
+    let fill_four = c.fill_four in (
       stored_being (sym (eight a.n (omega arith) (omega arith)))
           (record {
             next = refl;
-            output = c.fill_four-then-n-gt268435455.ensures ∙ rw fill-four.ensures (sets_append a.out.now a.to (hex_padded 4 (a.n / 0x1_0000)) (hex_padded 4 a.n));
+            output = c.fill_four-then-n-gt268435455.ensures ∙ rw fill_four.ensures (sets_append a.out.now a.to (hex_padded 4 (a.n / 0x1_0000)) (hex_padded 4 a.n));
           }),
       omega arith,
     )

@@ -17,22 +17,22 @@ pub overflow_add-i : goal.overflow_add-i
 overflow_add-i c =
     let a = c.args in
     let loop = c.loop-i in
-    let run-end = c.run_end-end in
-    omega (arith, run_inside a.bytes.now loop.i (omega arith), run-end.ensures)
+    let run_end = c.run_end-end in
+    omega (arith, run_inside a.bytes.now loop.i (omega arith), run_end.ensures)
 
 pub loop-i-smaller : goal.loop-i-smaller
 loop-i-smaller c =
     let a = c.args in
     let loop = c.loop-i in
-    let run-end = c.run_end-end in
-    omega (arith, run_after a.bytes.now loop.i, run-end.ensures)
+    let run_end = c.run_end-end in
+    omega (arith, run_after a.bytes.now loop.i, run_end.ensures)
 
 pub loop-i-preserved : goal.loop-i-preserved
 loop-i-preserved c =
     let a = c.args in
     let loop = c.loop-i in
-    let run-end = c.run_end-end in
-    turn loop.invariant c.write_run-to.ensures (run_then a.bytes.now loop.i run-end.result run-end.ensures)
+    let run_end = c.run_end-end in
+    turn loop.invariant c.write_run-to.ensures (run_then a.bytes.now loop.i run_end.result run_end.ensures)
 
 pub shape_of-out : goal.shape_of-out
 shape_of-out c = kept c.loop-i.invariant
