@@ -1,13 +1,10 @@
 -- One record of the writing walk.
 use mathlib.Core.Path.{◌≡◌, refl, sym, ap, ap₂, ◌∙◌, subst}
-use Prim.Native.Nat.{ℕ, ◌+◌, ◌-◌, ◌≤◌, ◌<◌}
+use Prim.Native.Nat.{ℕ, ◌+◌, ◌≤◌, ◌<◌}
 use native.Mathlib.Omega.{arith}
 use mathlib.Core.Bool.{Bool, true, cond}
 use mathlib.Core.Option.{Option, none, some}
 use mathlib.Core.List.{List, [], ◌∷◌}
-use mathlib.Core.Logic.{⊎_elim}
-use types.Run.{OneOf}
-use denote.Enum.Declared.{tag_of}
 use lib.ListN.{length, drop}
 use Rattle.bsii_format.specs.Replies.{Reply, gives, refuses}
 use Rattle.bsii_format.specs.Reader.{ok}
@@ -15,7 +12,7 @@ use Rattle.bsii_format.specs.Strings.{id_parser}
 use Rattle.bsii_format.specs.Values.{Value}
 use Rattle.bsii_format.specs.Prototypes.{ValuePrototype, Prototype}
 use Rattle.bsii_format.specs.Blocks.{DataBlock, get_prototype, data_values_parser}
-use Rattle.bsii_format.specs.File.{Record, prototype, block, end, record_bytes, define, define_all}
+use Rattle.bsii_format.specs.File.{Record, prototype, block, record_bytes, define, define_all}
 use Rattle.bsii_format.specs.BlockText.{joined, block_text, records_text}
 use Rattle.bsii_table.specs.Rows.{lookup}
 use Rattle.bsii_table.specs.Table.{found_row}
@@ -28,12 +25,10 @@ use Rattle.bsii_walk.specs.Seek.{WalkAt}
 use Rattle.bsii_walk.specs.declared.records.RecordKind.{RecordKind}
 use Rattle.bsii_walk.specs.declared.records.RecordKind.TheVariants.{Ends, Defines, Carries}
 use Rattle.bsii_walk.specs.declared.records.Met.{Met}
-use Rattle.bsii_walk.specs.declared.records.Met.TheVariants.{Prototype as MetPrototype, Block as MetBlock, Nothing}
-use Rattle.bsii_walk.specs.contracts.records.Met.{the_type}
+use Rattle.bsii_walk.specs.declared.records.Met.TheVariants.{Prototype as MetPrototype}
 use Rattle.bsii_walk.proofs.Parts.{stands, block_parts_law}
 use Rattle.bsii_walk.proofs.Meeting.{ends≢defines, ends≢carries, defines≢carries, defines_is, carries_id, carries_next, is_prototype_law, is_block_law, is_end}
 use Rattle.bsii_walk.proofs.Seeking.{Accepted, the_end, a_record, accepted}
-use Rattle.bsii_window.proofs.Laws.{same}
 use Rattle.bsii_window.proofs.Loops.{begin}
 use Rattle.bsii_window.proofs.Loops as loops
 use Rattle.bsii_write_block.specs.Blocks.{WrittenIs, BlockWritten}
@@ -73,16 +68,11 @@ module _ (s : List ℕ) (at : ℕ) (t : List ℕ) (rows id to : ℕ) where
       met_is : {a b : ℕ} → ◌≡◌ {A = Met} (MetPrototype a) (MetPrototype b) → a ≡ b
       met_is e = cc
 
-  pub prototype_not : {m : Met} {t' : List ℕ} → PrototypeAgain s at t rows id m t' → OneOf (1 ∷ 2 ∷ []) (tag_of the_type m) → PrototypeStep s at t rows id to End t'
-  prototype_not {m} {t'} w h = record {
-    steps = λ env last k p x i. other m h (w.meets env last k p x i).met;
+  pub prototype_not : {m : Met} {t' : List ℕ} → PrototypeAgain s at t rows id m t' → ((n : ℕ) → m ≡ MetPrototype n → ⊥) → PrototypeStep s at t rows id to End t'
+  prototype_not w h = record {
+    steps = λ env last k p x i. absurd (h _ (w.meets env last k p x i).met);
     size = w.size;
   }
-    where
-      other : {P : Type 0} (m : Met) → OneOf (1 ∷ 2 ∷ []) (tag_of the_type m) → {n : ℕ} → m ≡ MetPrototype n → P
-      other (MetPrototype n) h e = ⊎_elim (λ z. absurd (omega arith)) (λ z. absurd (omega arith)) h
-      other (MetBlock a b c d) h e = let z : ◌≡◌ {A = ℕ} 0 1 = cc in let f : ⊥ = omega arith in absurd f
-      other Nothing h e = let z : ◌≡◌ {A = ℕ} 0 1 = cc in let f : ⊥ = omega arith in absurd f
 
 -- `text` gives the lines of a value
 module _ (text : ValuePrototype → Value → Option (List ℕ)) where

@@ -24,7 +24,7 @@ pub enum Written {
 }
 
 // Where the walk along a block's fields is: at these definitions, in force and last, at this value, with its text behind this position.
-#[derive(Drop)]
+#[derive(Clone, Copy)]
 pub struct FieldPlace {
     pub field: usize,
     pub last_field: usize,
