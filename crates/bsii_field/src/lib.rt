@@ -12,7 +12,7 @@ use bsii_skip::skip_value;
 use bsii_string::answers::Parsed;
 
 // The position of a definition, from 0.
-#[derive(Drop)]
+#[derive(Clone, Copy)]
 pub enum Index {
     At(usize),
     Absent,

@@ -1,7 +1,7 @@
 -- The file's figures: what the walk has found and added up, and the length of its text. A file that is refused has its own fault, and one without a text the
 -- text's.
 use mathlib.Core.Path.{◌≡◌, refl, sym, ap, ◌∙◌, subst}
-use Prim.Native.Nat.{ℕ, ◌+◌, ◌*◌, ◌/◌, ◌≤◌, ◌<◌}
+use Prim.Native.Nat.{ℕ, ◌*◌, ◌/◌, ◌≤◌, ◌<◌}
 use native.Mathlib.Omega.{arith}
 use mathlib.Core.List.{List, [], ◌∷◌}
 use lib.ListN.{length, get_or, drop}
@@ -30,7 +30,7 @@ use Rattle.bsii_measure.specs.Files.{reading_of, FileTally, FileSum, MeasuresFil
 use Rattle.bsii_measure.specs.declared.walk.Tally.{Tally}
 use Rattle.bsii_measure.specs.declared.walk.Measuring.{Measuring}
 use Rattle.bsii_measure.specs.declared.walk.Measuring.TheVariants.{Done, Fault}
-use Rattle.bsii_forecast.specs.Lengths.{length_is, framed_text, Bounded, LengthIs, LengthTold}
+use Rattle.bsii_forecast.specs.Lengths.{length_is, framed_text, LengthIs, LengthTold}
 use Rattle.bsii_forecast.specs.Foresees.{figures_of, Foresees, foreseen, unforeseen}
 use Rattle.bsii_forecast.specs.declared.length.TextLength.{TextLength}
 use Rattle.bsii_forecast.specs.declared.length.TextLength.TheVariants.{Length, Refused as NoText}

@@ -1,6 +1,6 @@
 -- The text's length by the sum, and by a walk that is lent an empty window: its refusal is the text's, and its end is exact, since the text is too short for a
 -- position to reach the cap.
-use mathlib.Core.Path.{◌≡◌, refl, sym, ap, ◌∙◌, subst}
+use mathlib.Core.Path.{◌≡◌, refl, ap, ◌∙◌, subst}
 use Prim.Native.Nat.{ℕ, zero, suc, ◌-◌, ◌<◌}
 use native.Mathlib.Omega.{arith}
 use mathlib.Core.Bool.{Bool}
@@ -9,23 +9,19 @@ use mathlib.Core.List.{List, []}
 use lib.ListN.{length}
 use Rattle.bsii_format.specs.Replies.{Reply, gives, refuses, enum_value}
 use Rattle.bsii_format.specs.Values.{Value}
-use Rattle.bsii_format.specs.Prototypes.{ValuePrototype, Prototype}
+use Rattle.bsii_format.specs.Prototypes.{ValuePrototype}
 use Rattle.bsii_format.specs.Blocks.{DataBlock}
 use Rattle.bsii_format.specs.File.{Record}
 use Rattle.bsii_string.specs.Answers.{refused_at}
 use Rattle.bsii_string.specs.declared.answers.Refusal.{Refusal}
-use Rattle.bsii_table.specs.Relation.{Entered}
-use Rattle.bsii_block.specs.Blocks.{DefinedAt}
 use Rattle.bsii_parse.specs.declared.walk.Totals.{Totals}
-use Rattle.bsii_walk.specs.Seek.{WalkAt}
-use Rattle.bsii_window.specs.Window.{Wrote}
 use Rattle.bsii_window.proofs.Laws.{capped_less}
 use Rattle.bsii_measure_block.specs.Sums.{measure_of, sum_is}
 use Rattle.bsii_measure_block.specs.declared.sums.Sum.{Sum}
 use Rattle.bsii_text.specs.Records.{TextsAre, BsiiWritten}
 use Rattle.bsii_text.specs.declared.records.Texts.{Texts}
 use Rattle.bsii_text.specs.declared.records.Texts.TheVariants.{To, Refused as Not}
-use Rattle.bsii_forecast.specs.Lengths.{length_is, framed_text, Bounded, LengthIs, LengthRead, LengthTold}
+use Rattle.bsii_forecast.specs.Lengths.{length_is, framed_text, LengthRead, LengthTold}
 use Rattle.bsii_forecast.specs.declared.length.TextLength.{TextLength}
 use Rattle.bsii_forecast.specs.declared.length.TextLength.TheVariants.{Length, Refused}
 

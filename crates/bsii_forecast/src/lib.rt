@@ -2,6 +2,8 @@
 //
 // One walk reads the file and measures its text. Where an id is defined again, the last definitions are known only once the file is read: then the writing
 // walk is made as well, with an empty window, to measure and to meet refusals 8 and 9.
+#![tactic(auto)]
+
 pub mod answers;
 pub mod forecast;
 pub mod length;

@@ -35,7 +35,6 @@ use Rattle.bsii_field.specs.declared.Index.TheVariants.{At, Absent}
 use Rattle.bsii_field.specs.declared.FoundValue.{FoundValue}
 use Rattle.bsii_field.specs.declared.FoundValue.TheVariants.{Value, NoValue}
 use Rattle.bsii_field.proofs.Values.{Going, go_start, go_last, go_here, go_on}
-use Rattle.bsii_file_field.specs.declared.fields.FieldReply.{FieldReply}
 use Rattle.bsii_file_field.specs.declared.fields.FieldReply.TheVariants.{Field, Refused}
 use Rattle.bsii_file_field.proofs.FieldCalls.{refused≢field}
 use Rattle.bsii_derived.specs.IndexCalls.{answering}

@@ -1,5 +1,7 @@
 // A field by an index. Only the record, the version, the prototype and the block are read, so a look-up costs the same in a file of any length; nothing is
 // known of the index, so everything that is read is checked.
+#![tactic(auto)]
+
 mod blocks;
 mod prototypes;
 

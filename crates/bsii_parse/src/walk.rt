@@ -43,7 +43,7 @@ pub enum ReadStep {
 
 // What the whole walk has found: the version it was made in, the table's rows, the blocks and the prototypes, those of an id defined again counted
 // again, and the offset behind the end record.
-#[derive(Drop)]
+#[derive(Clone, Copy)]
 pub struct Totals {
     pub version: u32,
     pub rows: usize,
