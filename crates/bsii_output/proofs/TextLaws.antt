@@ -5,29 +5,27 @@ use native.Mathlib.Nat.{zero-add}
 use native.Mathlib.Omega.{arith}
 use mathlib.Core.Bool.{Bool}
 use mathlib.Core.Option.{Option}
-use mathlib.Core.List.{List, [], ◌++◌}
+use mathlib.Core.List.{List, ◌++◌}
 use lib.ListN.{length, drop}
 use lib.Seq.{sets-eq}
-use Rattle.bsii_format.specs.Replies.{Reply, gives, refuses, output_short}
-use Rattle.bsii_format.specs.Reader.{ok}
+use Rattle.bsii_format.specs.Replies.{Reply, gives, output_short}
 use Rattle.bsii_format.specs.Values.{Value}
 use Rattle.bsii_format.specs.Prototypes.{ValuePrototype}
 use Rattle.bsii_format.specs.Blocks.{DataBlock}
-use Rattle.bsii_format.specs.File.{Record, BsiiFile, prototypes_of, parse}
+use Rattle.bsii_format.specs.File.{Record, prototypes_of, parse}
 use Rattle.bsii_format.specs.Text.{value_text}
-use Rattle.bsii_format.specs.BlockText.{every_block, file_text}
+use Rattle.bsii_format.specs.BlockText.{every_block}
 use Rattle.bsii_format.specs.Calls.{of_file, steps_in, write_answer, converted, text_answer, text_of, text_call}
 use Rattle.bsii_format.proofs.ReplyLaws.{write_fits, write_short}
 use Rattle.bsii_string.specs.Answers.{refused_at}
 use Rattle.bsii_string.specs.declared.answers.Refusal.{Refusal}
 use Rattle.bsii_parse.proofs.Whole.{file_parts}
-use Rattle.bsii_walk.specs.Seek.{WalkAt, Readable}
+use Rattle.bsii_walk.specs.Seek.{Readable}
 use Rattle.bsii_window.specs.Window.{Wrote}
 use Rattle.bsii_window.proofs.Laws.{written_in}
 use Rattle.bsii_text.specs.Records.{TextsAre, BsiiWritten}
 use Rattle.bsii_text.specs.declared.records.Texts.{Texts}
 use Rattle.bsii_text.specs.declared.records.Texts.TheVariants.{To, Refused as Not}
-use Rattle.bsii_forecast.specs.Lengths.{framed_text}
 use Rattle.bsii_forecast.specs.Foresees.{figures_of, Foresees, foreseen, unforeseen}
 use Rattle.bsii_forecast.specs.declared.answers.Figures.{Figures}
 use Rattle.bsii_forecast.specs.declared.answers.Foreseen.{Foreseen}

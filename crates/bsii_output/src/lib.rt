@@ -1,2 +1,4 @@
 // The text call: what the forecast foresees, and one walk that writes.
+#![tactic(auto)]
+
 pub mod text;
