@@ -1,4 +1,4 @@
--- The shape of the type says which value valueParser accepts: a single one has the line of its kind; an array is write_array's; a type without a shape
+-- The shape of the type says which value value_parser accepts: a single one has the line of its kind; an array is write_array's; a type without a shape
 -- has no value.
 use mathlib.Core.Path.{sym, ap, ◌∙◌}
 use mathlib.Core.Option.{some}

@@ -1,4 +1,4 @@
--- The number is read as the value reader reads it, and enum_string finds the string that enum_string does: with one the field has its line, with none the
+-- The number is read as the value reader reads it, and enum_string finds the string that the definition finds: with one the field has its line, with none the
 -- first offset stays. A string's text is at most four times as long as the string, and the value has four bytes, so the sum fits.
 use mathlib.Core.Path.{sym, ap, ◌∙◌}
 use native.Mathlib.Omega.{arith}
