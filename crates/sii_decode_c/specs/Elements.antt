@@ -1,7 +1,7 @@
 -- The C struct of an element: its kind, and a place, a number or words; or a refusal's number, offset and lacking bytes and nothing else.
 use Rattle.std.specs.Prelude.{ℕ, cond, ℤ, Float}
 use Rattle.bsii_format.specs.Replies.{Fault, Reply, gives, refuses}
-use Rattle.bsii_format.specs.Calls.{Place, Datum, d_string, d_encoded_string, d_float, d_float_vec2, d_float_vec3, d_float_vec4, d_float_vec7, d_float_vec8, d_int32, d_int32_vec3, d_uint32, d_uint16, d_int64, d_uint64, d_bool, d_enum, d_id}
+use Rattle.bsii_format.specs.Calls.{Datum, d_string, d_encoded_string, d_float, d_float_vec2, d_float_vec3, d_float_vec4, d_float_vec7, d_float_vec8, d_int32, d_int32_vec3, d_uint32, d_uint16, d_int64, d_uint64, d_bool, d_enum, d_id}
 use Rattle.bsii_float.specs.Bits.{bits_of}
 use Rattle.bsii_element.specs.Twos.{twos}
 use Rattle.sii_decode_c.specs.declared.elements.SiiElement.{SiiElement}

@@ -1,0 +1,10 @@
+-- The reply is `named_block_call`'s, by the contract of the call inside, whose table is left alone; `number_out` of the arm's reply is the struct, value or fault.
+use mathlib.Core.Path.{ap}
+use Rattle.sii_decode_c.specs.Exports.{number_out}
+use Rattle.sii_decode_c.proofs.calls.sii_blocks_by_prototype_name.Goals as goal
+
+pub returns-in-Number : goal.returns-in-Number
+returns-in-Number c = record { reply = ap number_out c.in-Number.ensures.reply; zeros = c.in-Number.ensures.zeros }
+
+pub returns-in-Refused : goal.returns-in-Refused
+returns-in-Refused c = record { reply = ap number_out c.in-Refused.ensures.reply; zeros = c.in-Refused.ensures.zeros }
