@@ -151,7 +151,7 @@ fn same_bytes(output: &[u8], n: usize, text: &[u8]) -> bool
 }
 
 // Whether the text call answers the Rust's text, or refuses under the Rust's number, which is 0 if it refuses nothing.
-fn same_text_law(file: &[u8], table: &mut [u32], output: &mut [u8], reply: u32, text: &[u8]) -> bool
+fn same_text(file: &[u8], table: &mut [u32], output: &mut [u8], reply: u32, text: &[u8]) -> bool
     ensures { result ≡ same_text reply text.now (text_call (length table.old) file.now output.old) }
 {
     let answer = to_siin(file, table, output);

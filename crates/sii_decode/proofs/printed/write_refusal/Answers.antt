@@ -1,0 +1,8 @@
+-- The five pieces are written one behind the other, so they are one write of all in a row (`then`), which is how `printed` spells a refusal.
+use Rattle.bsii_format.specs.Calls.{printed}
+use Rattle.bsii_window.proofs.Laws.{then}
+use Rattle.sii_decode.proofs.printed.write_refusal.Goals as goal
+
+pub returns : goal.returns
+unfolding printed
+returns c = then (then (then (then c.put_all-a.ensures c.write_decimal-b.ensures) c.put_all-c.ensures) c.write_decimal-d.ensures) c.put_all.ensures
