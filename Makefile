@@ -29,7 +29,7 @@ command := $(if $(filter /%,$(cargo_target)),,host/)$(cargo_target)/release/sii-
 all: $(archive) $(shared) command
 
 ifndef SII_LIBRARY
-$(archive): $(shell find crates -name '*.rt' -o -name '*.antt') crates.txt
+$(archive): $(shell find crates -name out -prune -o '(' -name '*.rt' -o -name '*.antt' ')' -print) crates.txt
 	tools/build sii_decode_c
 	touch $@
 endif
