@@ -47,7 +47,8 @@ fn is_equal(
 
 // The list's next n bytes, at the buffer's start; whether there are n, and room for them.
 fn fill<R: Read>(input: &mut R, buffer: &mut [u8], n: usize) -> io::Result<bool>
-    ensures { IfOk result (λ r. r ≡ true → n ≤ length buffer.new) }
+    ensures room { IfOk result (λ r. r ≡ true → n ≤ length buffer.new) }
+    ensures same_length { length buffer.new ≡ length buffer.old }
 {
     if buffer.len() < n {
         return Ok(false);

@@ -13,9 +13,11 @@ pub fn large_buffer() -> [u8; 65536]
     [0; 65536]
 }
 
-// Reads until the buffer is full or the input ends; how many bytes now stand at its start. The first read that fails ends it with its error.
+// Reads until the buffer is full or the input ends; how many bytes now stand at its start. The first read that fails ends it with
+// that read's error, and no other one comes.
 pub fn read_full<R: Read>(input: &mut R, buffer: &mut [u8]) -> io::Result<usize>
-    ensures { IfOk result (λ n. n ≤ length buffer.new) }
+    ensures count { IfOk result (λ n. n ≤ length buffer.new) }
+    ensures same_length { length buffer.new ≡ length buffer.old }
 {
     let mut done = 0;
     while done < buffer.len() {
