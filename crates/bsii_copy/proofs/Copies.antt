@@ -1,47 +1,32 @@
 -- A text that is copied piece by piece, from its front on.
-use Prim.Native.Nat.{ℕ, suc, ◌+◌, ◌-◌, ◌≤◌}
+use Prim.Native.Nat.{ℕ, suc, ◌+◌, ◌-◌, ◌≤◌, ◌<◌}
 use mathlib.Core.Path.{◌≡◌, refl, sym, ap, ◌∙◌}
 use mathlib.Core.List.{List, [], ◌∷◌, ◌++◌}
 use native.Mathlib.Omega.{arith}
 use lib.ListN.{set, length, get_or, take, drop, length-drop, take-append-drop}
-use lib.Seq.{sets, set-set, length-take-le, take_all, drop-cons, get_or-drop, take-add}
-use Rattle.bsii_window.proofs.Laws.{more}
+use lib.Seq.{sets, take-suc, take-suc-set, set-set, length-take-le, take_all, drop-cons, get_or-drop, take-add}
 use Rattle.bsii_digits.proofs.Fills.{sets_before}
 use Rattle.bsii_copy.proofs.Stores.{stored_more}
 
 -- ---- byte by byte, from an index of the text on
 
-module _ (l : List ℕ) (to : ℕ) (text : List ℕ) (from : ℕ) where
-  one : from + 1 ≤ length text → set l to (get_or text from 0) ≡ sets l to (take 1 (drop from text))
-  one h = sym (ap (λ (t : List ℕ). sets l to (take 1 t)) (drop-cons text from 0 (omega arith)))
+-- one byte more of a piece
+pub read_more : (piece text : List ℕ) (from i : ℕ) → i < length piece → from + i < length text → take i piece ≡ take i (drop from text)
+    → take (i + 1) (set piece i (get_or text (from + i) 0)) ≡ take (i + 1) (drop from text)
+read_more piece text from i h k e =
+    let z : i + 1 ≡ suc i = omega arith in
+    let d = length-drop from text in
+    rw z
+    (take-suc-set piece i (get_or text (from + i) 0) h
+    ∙ ap (λ (l : List ℕ). l ++ (get_or text (from + i) 0 ∷ [])) e
+    ∙ ap (λ (x : ℕ). take i (drop from text) ++ (x ∷ [])) (sym (get_or-drop from text i 0))
+    ∙ sym (take-suc (drop from text) i 0 (omega arith)))
 
-  byte : {m : List ℕ} (i : ℕ) → from + (i + 1) ≤ length text → m ≡ sets l to (take i (drop from text))
-      → set m (to + i) (get_or text (from + i) 0) ≡ sets l to (take (i + 1) (drop from text))
-  byte i h e =
-      let z = length-drop from text in
-      ap (λ (n : List ℕ). set n (to + i) (get_or text (from + i) 0)) e
-      ∙ ap (set (sets l to (take i (drop from text))) (to + i)) (sym (get_or-drop from text i 0))
-      ∙ more l to (drop from text) i (omega arith)
-
-  pub two : from + 2 ≤ length text → set (set l to (get_or text from 0)) (to + 1) (get_or text (from + 1) 0) ≡ sets l to (take 2 (drop from text))
-  two h = byte 1 h (one (omega arith))
-
-  pub four : from + 4 ≤ length text
-      → set (set (set (set l to (get_or text from 0)) (to + 1) (get_or text (from + 1) 0)) (to + 2) (get_or text (from + 2) 0)) (to + 3) (get_or text (from + 3) 0)
-      ≡ sets l to (take 4 (drop from text))
-  four h = byte 3 h (byte 2 (omega arith) (two (omega arith)))
-
-  pub eight : from + 8 ≤ length text
-      → set (set (set (set (set (set (set (set l to (get_or text from 0)) (to + 1) (get_or text (from + 1) 0)) (to + 2) (get_or text (from + 2) 0)) (to + 3) (get_or text (from + 3) 0))
-      (to + 4) (get_or text (from + 4) 0)) (to + 5) (get_or text (from + 5) 0)) (to + 6) (get_or text (from + 6) 0)) (to + 7) (get_or text (from + 7) 0)
-      ≡ sets l to (take 8 (drop from text))
-  eight h = byte 7 h (byte 6 (omega arith) (byte 5 (omega arith) (byte 4 (omega arith) (four (omega arith)))))
-
-  -- the text's last one
-  pub last : length text ≡ from + 1 → set l to (get_or text from 0) ≡ sets l to (drop from text)
-  last h =
-      one (omega arith)
-      ∙ ap (sets l to) (let z = length-drop from text in take_all 1 (drop from text) (omega arith))
+-- the text's last one
+pub last : (l : List ℕ) (to : ℕ) (text : List ℕ) (from : ℕ) → length text ≡ from + 1 → set l to (get_or text from 0) ≡ sets l to (drop from text)
+last l to text from h =
+    let z = length-drop from text in
+    sym (ap (λ (t : List ℕ). sets l to (take 1 t)) (drop-cons text from 0 (omega arith))) ∙ ap (sets l to) (take_all 1 (drop from text) (omega arith))
 
 -- ---- piece by piece
 

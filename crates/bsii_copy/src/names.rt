@@ -5,51 +5,18 @@ ghost use Rattle.bsii_window.specs.Stored.{Stored};
 
 use bsii_window::window::store;
 
-// All loads stand in front of the stores, so that the compiler makes one of them.
-fn copy_eight(out: &mut [u8], to: usize, text: &[u8], from: usize)
-    requires { (to + 8 ≤ length out.old) × (from + 8 ≤ length text.now) }
-    ensures { out.new ≡ sets out.old to (take 8 (drop from text.now)) }
+// N bytes of the text, through an array: all loads stand in front of the stores, so that the compiler makes one of them.
+fn copy_piece<const N: usize>(out: &mut [u8], to: usize, text: &[u8], from: usize)
+    requires { (to + N ≤ length out.old) × (from + N ≤ length text.now) }
+    ensures { out.new ≡ sets out.old to (take N (drop from text.now)) }
 {
-    let a = text[from];
-    let b = text[from + 1];
-    let c = text[from + 2];
-    let d = text[from + 3];
-    let e = text[from + 4];
-    let f = text[from + 5];
-    let g = text[from + 6];
-    let h = text[from + 7];
-    out[to] = a;
-    out[to + 1] = b;
-    out[to + 2] = c;
-    out[to + 3] = d;
-    out[to + 4] = e;
-    out[to + 5] = f;
-    out[to + 6] = g;
-    out[to + 7] = h;
-}
-
-fn copy_four(out: &mut [u8], to: usize, text: &[u8], from: usize)
-    requires { (to + 4 ≤ length out.old) × (from + 4 ≤ length text.now) }
-    ensures { out.new ≡ sets out.old to (take 4 (drop from text.now)) }
-{
-    let a = text[from];
-    let b = text[from + 1];
-    let c = text[from + 2];
-    let d = text[from + 3];
-    out[to] = a;
-    out[to + 1] = b;
-    out[to + 2] = c;
-    out[to + 3] = d;
-}
-
-fn copy_two(out: &mut [u8], to: usize, text: &[u8], from: usize)
-    requires { (to + 2 ≤ length out.old) × (from + 2 ≤ length text.now) }
-    ensures { out.new ≡ sets out.old to (take 2 (drop from text.now)) }
-{
-    let a = text[from];
-    let b = text[from + 1];
-    out[to] = a;
-    out[to + 1] = b;
+    let mut piece = [0u8; N];
+    for i in 0..N {
+        piece[i] = text[from + i];
+    }
+    for i in 0..N {
+        out[to + i] = piece[i];
+    }
 }
 
 // What is left of a text, without a loop: the compiler would make a call of one.
@@ -70,7 +37,7 @@ fn copy_below_four(out: &mut [u8], start: usize, name: &[u8])
         copy_last(out, start, name, 0);
         return;
     }
-    copy_two(out, start, name, 0);
+    copy_piece::<2>(out, start, name, 0);
     copy_last(out, start + 2, name, 2);
 }
 
@@ -84,8 +51,8 @@ fn copy_below_eight(out: &mut [u8], start: usize, name: &[u8])
         return;
     }
     let last = name.len() - 4;
-    copy_four(out, start, name, 0);
-    copy_four(out, start + last, name, last);
+    copy_piece::<4>(out, start, name, 0);
+    copy_piece::<4>(out, start + last, name, last);
 }
 
 // Eights from the front on, until eight bytes or fewer are left; and how many were copied.
@@ -93,15 +60,15 @@ fn copy_front(out: &mut [u8], start: usize, name: &[u8]) -> usize
     requires { (8 ≤ length name.now) × (length name.now ≤ 32) × (start + length name.now ≤ length out.old) }
     ensures { (out.new ≡ sets out.old start (take result name.now)) × (result ≤ length name.now) × (length name.now ≤ result + 8) }
 {
-    copy_eight(out, start, name, 0);
+    copy_piece::<8>(out, start, name, 0);
     if name.len() <= 16 {
         return 8;
     }
-    copy_eight(out, start + 8, name, 8);
+    copy_piece::<8>(out, start + 8, name, 8);
     if name.len() <= 24 {
         return 16;
     }
-    copy_eight(out, start + 16, name, 16);
+    copy_piece::<8>(out, start + 16, name, 16);
     24
 }
 
@@ -112,7 +79,7 @@ fn copy_short(out: &mut [u8], start: usize, name: &[u8])
 {
     copy_front(out, start, name);
     let last = name.len() - 8;
-    copy_eight(out, start + last, name, last);
+    copy_piece::<8>(out, start + last, name, last);
 }
 
 // A long name by one call.

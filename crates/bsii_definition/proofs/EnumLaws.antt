@@ -20,23 +20,28 @@ use Rattle.bsii_format.proofs.Lists.{lt_or_le}
 use Rattle.bsii_format.proofs.Positions.{moved, bind_fault, bind_ok, number_at_law, number_short}
 use Rattle.bsii_string.specs.Answers.{end_of, unchecked_str}
 use Rattle.bsii_string.specs.declared.answers.Refusal.{Refusal}
-use Rattle.bsii_string.specs.declared.answers.Parsed.TheVariants.{Next, Fault}
+use Rattle.bsii_string.specs.declared.answers.Text.{Text}
 use Rattle.bsii_string.proofs.Ends.{next≢fault, next_same}
 use Rattle.bsii_string.proofs.Texts.{str_past_next, unchecked_cut, unchecked_whole}
 use Rattle.bsii_prototype.specs.Entries.{enum_values_with}
 use Rattle.bsii_prototype.proofs.Unchecked.{checked_enum_value, checked_enum_values}
-use Rattle.bsii_prototype.proofs.Names.{checked, unchecked, named}
+use Rattle.bsii_prototype.proofs.Names.{named}
+use Rattle.bsii_prototype.specs.Strings.{checked, unchecked}
 use Rattle.bsii_prototype.proofs.Entries.{next_is, list_none, list_short, list_more}
-use Rattle.bsii_definition.specs.Enums.{string_is, StringInside, PairAt, later, LastPair, StringOf}
-use Rattle.bsii_definition.specs.declared.enums.EnumString.{EnumString}
-use Rattle.bsii_definition.specs.declared.enums.EnumString.TheVariants.{Text, Absent}
-use Rattle.bsii_definition.specs.declared.enums.EnumPair.TheVariants.{Pair, NoPair}
+use Rattle.bsii_definition.specs.Enums.{string_is, StringInside, PairAt, LastPair, StringOf}
+use Rattle.bsii_definition.specs.declared.enums.EnumPair.{EnumPair}
+use Rattle.std.specs.Prelude.{Ok, Err, Some, None, Option as Answer}
+use borrow.Author.Tests.{eq-eqb, ne_eqb}
 
 -- ---- one pair
 
+-- a pair by its parts
+abbrev pub pair : ℕ → ℕ → ℕ → Answer EnumPair
+pair k start next = Some (record { number = k; string = record { start = start; next = next } })
+
 module _ (s : List ℕ) (at : ℕ) where
   module _ {k i : ℕ} (e : number 4 at (drop at s) ≡ ok k i (drop i s)) where
-    pub no_string : {f : Refusal} → Fault f ≡ end_of (unchecked_str i (drop i s)) → PairAt s at NoPair
+    pub no_string : {f : Refusal} → Err f ≡ end_of (unchecked_str i (drop i s)) → PairAt s at None
     unfolding enum_value_parser ◌>>=◌
     no_string g = record {
       is = λ p n t f.
@@ -45,7 +50,7 @@ module _ (s : List ℕ) (at : ℕ) where
       inside = tt;
     }
 
-    pub a_pair : {end : ℕ} → Next end ≡ end_of (unchecked_str i (drop i s)) → PairAt s at (Pair k (i + 4) end)
+    pub a_pair : {end : ℕ} → Ok end ≡ end_of (unchecked_str i (drop i s)) → PairAt s at (pair k (i + 4) end)
     unfolding enum_value_parser ◌>>=◌ success
     a_pair {end} g = record {
       is = λ p n t f.
@@ -62,7 +67,7 @@ module _ (s : List ℕ) (at : ℕ) where
 
 -- by the bytes that are left
 module _ (s : List ℕ) (at : ℕ) where
-  pub pair_short : length s < at + 8 → PairAt s at NoPair
+  pub pair_short : length s < at + 8 → PairAt s at None
   unfolding enum_value_parser ◌>>=◌
   pair_short h = record { is = λ p n t f. ⊎_elim (none p n t f) (some_left p n t f) (lt_or_le (length s) (at + 4)); inside = tt }
     where
@@ -84,15 +89,15 @@ module _ (s : List ℕ) (at : ℕ) where
         let z : at + 4 + 4 ≡ at + 8 = omega arith in
         number_at_law 4 s (at + 4) (omega arith) ∙ ap (λ (m : ℕ). ok m (at + 4 + 4) (drop (at + 4 + 4) s)) (sym q) ∙ ap (λ (i : ℕ). ok n i (drop i s)) z
 
-    pub pair_cut : length s < at + 8 + n → PairAt s at NoPair
+    pub pair_cut : length s < at + 8 + n → PairAt s at None
     unfolding end_of
     pair_cut h = no_string s at numbered (sym (ap end_of (unchecked_cut s (at + 4) n (at + 8) sized (omega arith))))
 
-    pub pair_whole : at + 8 + n ≤ length s → PairAt s at (Pair k (at + 8) (at + 8 + n))
+    pub pair_whole : at + 8 + n ≤ length s → PairAt s at (pair k (at + 8) (at + 8 + n))
     unfolding end_of
     pair_whole h =
         let z : at + 4 + 4 ≡ at + 8 = omega arith in
-        subst (λ (i : ℕ). PairAt s at (Pair k i (at + 8 + n))) z (a_pair s at numbered (sym (ap end_of (unchecked_whole s (at + 4) n (at + 8) sized (omega arith)))))
+        subst (λ (i : ℕ). PairAt s at (pair k i (at + 8 + n))) z (a_pair s at numbered (sym (ap end_of (unchecked_whole s (at + 4) n (at + 8) sized (omega arith)))))
 
 -- ---- the walk along the list
 
@@ -106,33 +111,33 @@ unfolding first_some
 first_none none = refl
 first_none (some a) = refl
 
-first_cond : (s : List ℕ) (b : Bool) (found : EnumString) (start end : ℕ) (v : List ℕ) → take (end - start) (drop start s) ≡ v
-    → string_is s (cond b (Text start end) found) ≡ first_some (cond b (some v) none) (string_is s found)
+first_cond : (s : List ℕ) (b : Bool) (found : Answer Text) (t : Text) (v : List ℕ) → take (t.next - t.start) (drop t.start s) ≡ v
+    → string_is s (cond b (Some t) found) ≡ first_some (cond b (some v) none) (string_is s found)
 unfolding first_some
-first_cond s true found start end v e = ap some e
-first_cond s false found start end v e = refl
+first_cond s true found t v e = ap some e
+first_cond s false found t v e = refl
 
-inside_cond : (s : List ℕ) (b : Bool) (found : EnumString) (start end : ℕ) → (start ≤ end) × (end ≤ length s) → StringInside s found → StringInside s (cond b (Text start end) found)
-inside_cond s true found start end h k = h
-inside_cond s false found start end h k = k
+inside_cond : (s : List ℕ) (b : Bool) (found : Answer Text) (t : Text) → (t.start ≤ t.next) × (t.next ≤ length s) → StringInside s found → StringInside s (cond b (Some t) found)
+inside_cond s true found t h k = h
+inside_cond s false found t h k = k
 
 -- Of the pairs of the whole list, read from `start` on, those from `at` on are left, and the last pair of the number in front of them is found.
-pub record Rest (s : List ℕ) (wanted at left : ℕ) (found : EnumString) (l : List EnumValue) (n : ℕ) (t : List ℕ) : Type 0 where
+pub record Rest (s : List ℕ) (wanted at left : ℕ) (found : Answer Text) (l : List EnumValue) (n : ℕ) (t : List ℕ) : Type 0 where
   pub pairs : List EnumValue
   pub read : repeat left enum_value_parser at (drop at s) ≡ ok pairs n t
   pub same : first_some (enum_string wanted pairs) (string_is s found) ≡ enum_string wanted l
 
-pub record Searching (s : List ℕ) (start count wanted : ℕ) (found : EnumString) (at left : ℕ) : Type 0 where
+pub record Searching (s : List ℕ) (start count wanted : ℕ) (found : Answer Text) (at left : ℕ) : Type 0 where
   pub rest : (l : List EnumValue) (n : ℕ) (t : List ℕ) → repeat count enum_value_parser start (drop start s) ≡ ok l n t → Rest s wanted at left found l n t
   pub inside : StringInside s found
 
-pub search_start : (s : List ℕ) (start count wanted : ℕ) → Searching s start count wanted Absent start count
+pub search_start : (s : List ℕ) (start count wanted : ℕ) → Searching s start count wanted None start count
 search_start s start count wanted = record {
   rest = λ l n t e. record { pairs = l; read = e; same = first_none (enum_string wanted l) };
   inside = tt;
 }
 
-module _ (s : List ℕ) (start count wanted : ℕ) (found : EnumString) (at left : ℕ) (k : Searching s start count wanted found at left) where
+module _ (s : List ℕ) (start count wanted : ℕ) (found : Answer Text) (at left : ℕ) (k : Searching s start count wanted found at left) where
   pub search_done : left ≤ 0 → LastPair s start count wanted found
   unfolding repeat success enum_string first_some
   search_done h = record {
@@ -165,7 +170,7 @@ module _ (s : List ℕ) (start count wanted : ℕ) (found : EnumString) (at left
             sym (ok_val w.4),
           )
 
-  pub search_broken : 0 < left → PairAt s at NoPair → LastPair s start count wanted Absent
+  pub search_broken : 0 < left → PairAt s at None → LastPair s start count wanted None
   search_broken h p = record {
     is = λ l n t e.
         let x = k.rest l n t e in
@@ -174,25 +179,36 @@ module _ (s : List ℕ) (start count wanted : ℕ) (found : EnumString) (at left
     inside = tt;
   }
 
-  pub search_on : 0 < left → {number string next : ℕ} → PairAt s at (Pair number string next) → Searching s start count wanted (later found wanted number string next) next (left - 1)
-  unfolding enum_string
-  search_on h {number} {string} {next} p = record {
-    rest = λ l n t e.
-        let x = k.rest l n t e in
-        let y = turn h x.read in
-        let z = p.is y.0 y.1 (drop y.1 s) y.3 in
-        record {
-          pairs = y.2;
-          read = ap (λ (j : ℕ). repeat (left - 1) enum_value_parser j (drop j s)) z.2 ∙ y.4;
-          same =
-              ap (λ (o : ℕ). first_some (enum_string wanted y.2) (string_is s (cond (eqb wanted o) (Text string next) found))) z.0
-              ∙ ap (first_some (enum_string wanted y.2)) (first_cond s (eqb wanted y.0.number) found string next y.0.string z.1)
-              ∙ sym (first_assoc (enum_string wanted y.2) (cond (eqb wanted y.0.number) (some y.0.string) none) (string_is s found))
-              ∙ ap (λ (q : List EnumValue). first_some (enum_string wanted q) (string_is s found)) (sym y.5)
-              ∙ x.same;
-        };
-    inside = inside_cond s (eqb wanted number) found string next p.inside k.inside;
-  }
+  module _ (h : 0 < left) {r : EnumPair} (p : PairAt s at (Some r)) where
+    -- the last pair of a number wins
+    search_on : Searching s start count wanted (cond (eqb wanted r.number) (Some r.string) found) r.string.next (left - 1)
+    unfolding enum_string
+    search_on = record {
+      rest = λ l n t e.
+          let x = k.rest l n t e in
+          let y = turn h x.read in
+          let z = p.is y.0 y.1 (drop y.1 s) y.3 in
+          record {
+            pairs = y.2;
+            read = ap (λ (j : ℕ). repeat (left - 1) enum_value_parser j (drop j s)) z.2 ∙ y.4;
+            same =
+                ap (λ (o : ℕ). first_some (enum_string wanted y.2) (string_is s (cond (eqb wanted o) (Some r.string) found))) z.0
+                ∙ ap (first_some (enum_string wanted y.2)) (first_cond s (eqb wanted y.0.number) found r.string y.0.string z.1)
+                ∙ sym (first_assoc (enum_string wanted y.2) (cond (eqb wanted y.0.number) (some y.0.string) none) (string_is s found))
+                ∙ ap (λ (q : List EnumValue). first_some (enum_string wanted q) (string_is s found)) (sym y.5)
+                ∙ x.same;
+          };
+      inside = inside_cond s (eqb wanted r.number) found r.string p.inside k.inside;
+    }
+
+    with_number : (b : Bool) → eqb wanted r.number ≡ b → Searching s start count wanted (cond b (Some r.string) found) r.string.next (left - 1)
+    with_number b e = subst (λ (b : Bool). Searching s start count wanted (cond b (Some r.string) found) r.string.next (left - 1)) e search_on
+
+    pub search_here : wanted ≡ r.number → Searching s start count wanted (Some r.string) r.string.next (left - 1)
+    search_here e = with_number true (eq-eqb wanted r.number e)
+
+    pub search_past : (wanted ≡ r.number → ⊥) → Searching s start count wanted found r.string.next (left - 1)
+    search_past e = with_number false (ne_eqb wanted r.number e)
 
 -- ---- the list behind a name
 
@@ -201,7 +217,7 @@ module _ (s : List ℕ) (at type_id wanted : ℕ) where
   list_with : {q : Result (List EnumValue)} → enum_values_parser type_id at (drop at s) ≡ q → enum_values_with str_parser type_id at (drop at s) ≡ q
   list_with e = ap (λ (R : Reader (List EnumValue)). R at (drop at s)) (sym (checked_enum_values type_id)) ∙ e
 
-  pub no_list : (type_id ≡ 0x37 → ⊥) → StringOf s at type_id wanted Absent
+  pub no_list : (type_id ≡ 0x37 → ⊥) → StringOf s at type_id wanted None
   unfolding enum_string
   no_list h = record {
     is = λ l n t e. ap (enum_string wanted) (ok_val (sym (list_none str_parser at (drop at s) type_id h) ∙ list_with e));
@@ -209,10 +225,10 @@ module _ (s : List ℕ) (at type_id wanted : ℕ) where
   }
 
   module _ (h : type_id ≡ 0x37) where
-    pub no_count : {x : Reason} → number 4 at (drop at s) ≡ fault x → StringOf s at type_id wanted Absent
+    pub no_count : {x : Reason} → number 4 at (drop at s) ≡ fault x → StringOf s at type_id wanted None
     no_count e = record { is = λ l n t f. fault≢ok (sym (list_short str_parser at (drop at s) type_id h e) ∙ list_with f); inside = tt }
 
-    pub a_list : {count i : ℕ} {r : EnumString} → number 4 at (drop at s) ≡ ok count i (drop i s) → LastPair s i count wanted r → StringOf s at type_id wanted r
+    pub a_list : {count i : ℕ} {r : Answer Text} → number 4 at (drop at s) ≡ ok count i (drop i s) → LastPair s i count wanted r → StringOf s at type_id wanted r
     a_list {count} {i} e p = record {
       is = λ l n t f. p.is l n t (ap (λ (R : Reader EnumValue). repeat count R i (drop i s)) checked_enum_value ∙ sym (list_more str_parser at (drop at s) type_id h e) ∙ list_with f);
       inside = p.inside;

@@ -38,15 +38,15 @@ pub record Paired (s : List ℕ) (type_id : ℕ) (d : Definition) (next lastNext
   pub describes : Describes s d last.value
 
 pub data PairIs (s : List ℕ) (l : Fields) (n : ℕ) (t : List ℕ) (m : Fields) (o : ℕ) (u : List ℕ) : Pair → Type 0 where
-  both : {type_id lastType name nameEnd next lastNext : ℕ} → Paired s type_id (definition lastType name nameEnd) next lastNext l n t m o u
-      → PairIs s l n t m o u (Both type_id lastType name nameEnd next lastNext)
+  both : {type_id : ℕ} {last : Definition} {next lastNext : ℕ} → Paired s type_id last next lastNext l n t m o u
+      → PairIs s l n t m o u (Both type_id last next lastNext)
   ends : l.fields ≡ [] → m.fields ≡ [] → PairIs s l n t m o u Ends
   last_longer : l.fields ≡ [] → {f : Consumed ValuePrototype} {fs : List (Consumed ValuePrototype)} → m.fields ≡ f ∷ fs → PairIs s l n t m o u Uneven
   last_shorter : {f : Consumed ValuePrototype} {fs : List (Consumed ValuePrototype)} → l.fields ≡ f ∷ fs → m.fields ≡ [] → PairIs s l n t m o u Uneven
 
 -- for every input: the list in force goes on further down, and the name lies in the file
 abbrev pub Inside : List ℕ → ℕ → Pair → Type 0
-Inside s field (Both type_id lastType name nameEnd next lastNext) = (field < next) × (next ≤ length s) × (name ≤ nameEnd) × (nameEnd ≤ length s)
+Inside s field (Both type_id last next lastNext) = (field < next) × (next ≤ length s) × (last.name ≤ last.name_end) × (last.name_end ≤ length s)
 Inside s field Ends = Unit {0}
 Inside s field Uneven = Unit {0}
 
@@ -54,18 +54,6 @@ pub record PairOf (s : List ℕ) (field lastField : ℕ) (r : Pair) : Type 0 whe
   pub is : (l : Fields) (n : ℕ) (t : List ℕ) → fields_parser field (drop field s) ≡ ok l n t
       → (m : Fields) (o : ℕ) (u : List ℕ) → fields_parser lastField (drop lastField s) ≡ ok m o u → PairIs s l n t m o u r
   pub inside : Inside s field r
-
--- the list in force is f, of the type `type_id`, and the list from `next` on
-pub record WithLast (s : List ℕ) (type_id next lastField : ℕ) (r : Pair) : Type 0 where
-  pub is : (l : Fields) (n : ℕ) (t : List ℕ) (f : Consumed ValuePrototype) → type_id ≡ f.value.type_id → Begins s next f l n t
-      → (m : Fields) (o : ℕ) (u : List ℕ) → fields_parser lastField (drop lastField s) ≡ ok m o u → PairIs s l n t m o u r
-  pub inside : (field : ℕ) → field < next → next ≤ length s → Inside s field r
-
--- the list in force is at its end
-pub record WithoutLast (s : List ℕ) (lastField : ℕ) (r : Pair) : Type 0 where
-  pub is : (l : Fields) (n : ℕ) (t : List ℕ) → l.fields ≡ []
-      → (m : Fields) (o : ℕ) (u : List ℕ) → fields_parser lastField (drop lastField s) ≡ ok m o u → PairIs s l n t m o u r
-  pub inside : (field : ℕ) → Inside s field r
 
 pub record SameCount (s : List ℕ) (fields last_fields : ℕ) (r : Bool) : Type 0 where
   pub is : (l : Fields) (n : ℕ) (t : List ℕ) → fields_parser fields (drop fields s) ≡ ok l n t

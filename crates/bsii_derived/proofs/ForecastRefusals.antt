@@ -4,6 +4,7 @@ use mathlib.Core.Path.{◌≡◌, refl, sym, ap, ◌∙◌, subst}
 use mathlib.Core.Bool.{false}
 use mathlib.Core.List.{List}
 use lib.Dec.{T}
+use Rattle.bsii_format.specs.declared.Cause.{Cause}
 use Rattle.bsii_format.specs.Replies.{Fault, refused, Reply, gives, refuses, field_count, enum_value}
 use Rattle.bsii_format.specs.File.{BsiiFile}
 use Rattle.bsii_format.specs.Text.{value_text}
@@ -37,8 +38,8 @@ forecast_refusals = record {
   nonzero = refl;
 }
 
--- a number that is not among those that a reply may refuse with
-pub never : (l : List ℕ) (n : ℕ) → among l n ≡ false → {A : Type 0} (q : Reply A) → Within l q → (x : Fault) → q ≡ refuses x → x.number ≡ n → ⊥
-never l n e (gives a) h x z k = refuses≢gives (sym z)
-never l n e (refuses y) h x z k =
-    subst T e (subst (λ m. T (among l m)) (ap (λ (f : Fault). f.number) (refuses_inj z) ∙ k) (and_left (among l y.number) (counted y) h))
+-- a cause that is not among those by which a reply may refuse
+pub never : (l : List Cause) (c : Cause) → among l c ≡ false → {A : Type 0} (q : Reply A) → Within l q → (x : Fault) → q ≡ refuses x → x.cause ≡ c → ⊥
+never l c e (gives a) h x z k = refuses≢gives (sym z)
+never l c e (refuses y) h x z k =
+    subst T e (subst (λ d. T (among l d)) (ap (λ (f : Fault). f.cause) (refuses_inj z) ∙ k) (and_left (among l y.cause) (counted y) h))

@@ -102,14 +102,14 @@ replies_as_text words s out = go (outcome words s)
     go (goes f t d) = record {
       refused = λ x. (
         (λ e. refuses≢gives (sym e ∙ foretold_read d)),
-        (λ (e, n). absurd (n (ap (λ (y : Fault). y.number) (too_short x e)))),
+        (λ (e, n). absurd (n (ap (λ (y : Fault). y.cause) (too_short x e)))),
       );
       short = λ a e x z. too_short x z;
     }
       where
-        too_short : (x : Fault) → (text_call words s out).reply ≡ refuses x → x ≡ record { number = output_short; offset = 0; lacking = 0 }
+        too_short : (x : Fault) → (text_call words s out).reply ≡ refuses x → x ≡ record { cause = output_short; offset = 0; lacking = 0 }
         too_short x e =
-            write_cases (converted (steps_of f)) out t (λ z. z.reply ≡ refuses x → x ≡ record { number = output_short; offset = 0; lacking = 0 })
+            write_cases (converted (steps_of f)) out t (λ z. z.reply ≡ refuses x → x ≡ record { cause = output_short; offset = 0; lacking = 0 })
             (λ z. refuses≢gives (sym z)) (λ z. sym (refuses_inj z)) (sym (ap (λ (z : TextAnswer). z.reply) (converted_read d out)) ∙ e)
 
 -- ---- agreeing

@@ -8,6 +8,7 @@ use mathlib.Core.Bool.{Bool, true, false, cond}
 use mathlib.Core.List.{List, [], ◌∷◌, ◌++◌}
 use lib.ListN.{length, take, drop, length-append, length-drop}
 use lib.Dec.{T, leb, eqb, leb→le, le→leb}
+use Rattle.bsii_format.specs.declared.Cause.{Cause}
 use Rattle.bsii_format.specs.Replies.{input_long, invalid_header, table_full}
 use Rattle.bsii_format.specs.Reader.{Result, ok, fault, fault_at, Reader, after, ◌>>=◌, success, exhausted, ◌<$>◌, bytes, Consumed, consumed}
 use Rattle.bsii_format.specs.Numbers.{little_endian, number, le_u8, le_u32}
@@ -173,7 +174,7 @@ module _ (version rooms : ℕ) where
       then_roomy env at s h (λ e. records_from version rooms n e) (records_roomy n) (record_parser version env at s) refl ((record_only version env).only at s)
 
 -- the numbers of a file but 10
-abbrev pub roomy_numbers : List ℕ
+abbrev pub roomy_numbers : List Cause
 roomy_numbers = input_long ∷ invalid_header ∷ record_numbers
 
 file_roomy : (rooms : ℕ) (s : List ℕ) → length s < 17 * suc rooms → Told roomy_numbers (bsii_parser rooms 0 s)

@@ -5,6 +5,7 @@ use mathlib.Core.Bool.{false, cond}
 use mathlib.Core.Option.{Option, map}
 use mathlib.Core.List.{List, [], ◌∷◌}
 use lib.ListN.{length, get_elem?}
+use Rattle.bsii_format.specs.declared.Cause.{Cause}
 use Rattle.bsii_format.specs.Replies.{Reply, gives, refuses, table_full, output_short, absent, misfit}
 use Rattle.bsii_format.specs.Reader.{Result, ok, fault}
 use Rattle.bsii_format.specs.File.{BsiiFile, prototypes_of, parse}
@@ -54,8 +55,8 @@ each_call g e = record {
   forecast = g _ _ e.forecast;
 }
 
--- no 10 of its own: the numbers l of what it makes of a file that was read are without it
-roomy_of : (l : List ℕ) → among l table_full ≡ false → {A : Type 0} (q : Reply A) → Within l q → Roomy q
+-- no 10 of its own: the causes l of what it makes of a file that was read are without it
+roomy_of : (l : List Cause) → among l table_full ≡ false → {A : Type 0} (q : Reply A) → Within l q → Roomy q
 roomy_of l e q h = never l table_full e q h
 
 found_roomy : {A : Type 0} (o : Option A) → Roomy (or_absent o)

@@ -11,8 +11,8 @@ use Rattle.bsii_derived.specs.Forecast.{Forecast, forecast_call}
 
 -- with the same table, whatever the output: a forecast is refused exactly as the text call is, but for 11, and answers where the text is given or too long
 pub record AsText (words : ℕ) (s out : List ℕ) : Type 0 where
-  pub refused : (x : Fault) → (forecast_call words s ≡ refuses x) ↔ (((text_call words s out).reply ≡ refuses x) × (x.number ≡ output_short → ⊥))
-  pub short : (a : Forecast) → forecast_call words s ≡ gives a → (x : Fault) → (text_call words s out).reply ≡ refuses x → x ≡ record { number = output_short; offset = 0; lacking = 0 }
+  pub refused : (x : Fault) → (forecast_call words s ≡ refuses x) ↔ (((text_call words s out).reply ≡ refuses x) × (x.cause ≡ output_short → ⊥))
+  pub short : (a : Forecast) → forecast_call words s ≡ gives a → (x : Fault) → (text_call words s out).reply ≡ refuses x → x ≡ record { cause = output_short; offset = 0; lacking = 0 }
 
 abbrev pub RepliesAsText : Type 0
 RepliesAsText = (words : ℕ) (s out : List ℕ) → AsText words s out
@@ -34,7 +34,7 @@ pub record StepsAgree : Type 0 where
 
 -- no reply 10
 abbrev pub Roomy : {A : Type 0} → Reply A → Type 0
-Roomy q = (x : Fault) → q ≡ refuses x → x.number ≡ table_full → ⊥
+Roomy q = (x : Fault) → q ≡ refuses x → x.cause ≡ table_full → ⊥
 
 -- a call that reads the whole file first: `answer` is what it makes of a file that was read, and of the offset behind its end record
 pub record ReadsFirst {A : Type 0} (call : ℕ → List ℕ → Reply A) : Type 0 where
@@ -86,5 +86,5 @@ pub record Exact : Type 0 where
   pub enough : (words : ℕ) (s : List ℕ) (a : Forecast) → forecast_call words s ≡ gives a → Enough s a
   pub needed : (words : ℕ) (s : List ℕ) (a : Forecast) → forecast_call words s ≡ gives a → Needed s a
   -- the other index calls have no output
-  pub check_index : (w words : ℕ) (s i : List ℕ) (x : Fault) → check_index_call w words s i ≡ refuses x → x.number ≡ output_short → ⊥
-  pub index_field : (w : ℕ) (s i : List ℕ) (k : ℕ) (name : List ℕ) (x : Fault) → index_field_call w s i k name ≡ refuses x → x.number ≡ output_short → ⊥
+  pub check_index : (w words : ℕ) (s i : List ℕ) (x : Fault) → check_index_call w words s i ≡ refuses x → x.cause ≡ output_short → ⊥
+  pub index_field : (w : ℕ) (s i : List ℕ) (k : ℕ) (name : List ℕ) (x : Fault) → index_field_call w s i k name ≡ refuses x → x.cause ≡ output_short → ⊥

@@ -1,8 +1,10 @@
--- A rule over a table, by a test that is computed at each entry, and what an arm for all other numbers knows.
-use Prim.Native.Nat.{ℕ, zero, suc, ◌≤◌, ◌<◌}
+-- A rule over a table, by a test that is computed at each entry.
+use Prim.Native.Nat.{ℕ, zero, suc, ◌<◌}
 use mathlib.Core.Path.{◌≡◌}
 use mathlib.Core.Logic.{⊎_elim}
 use mathlib.Core.Bool.{Bool, true, false, cond}
+use lib.Dec.{eqb}
+use borrow.Author.Tests.{eqb-true}
 use native.Mathlib.Omega.{arith}
 use Rattle.bsii_format.proofs.Lists.{bool_cases, lt_or_le}
 
@@ -20,15 +22,6 @@ holds_at f (suc k) t d h =
     (λ e. absurd (let z : false ≡ true = rw e at t in let o : ◌≡◌ {A = ℕ} 0 1 = cc in omega arith))
     (bool_cases (f k))
 
--- none of the numbers below k, as an arm behind theirs has it
-abbrev pub Passed : ℕ → ℕ → Type 0
-Passed zero d = Unit {0}
-Passed (suc k) d = Passed k d × (d ≡ k → ⊥)
-
-passed : (k d : ℕ) → Passed k d → k ≤ d
-passed zero d h = omega arith
-passed (suc k) d h = let l = passed k d h.0 in let o = h.1 in omega (arith, l, o)
-
--- so it is the last one
-pub last : (k : ℕ) {d : ℕ} → Passed k d → d < suc k → d ≡ k
-last k {d} h l = let m = passed k d h in omega (arith, l, m)
+-- two functions that agree at each of them
+pub agree : (f g : ℕ → ℕ) (k : ℕ) → holds (λ d. eqb (f d) (g d)) k ≡ true → (d : ℕ) → d < k → f d ≡ g d
+agree f g k t d h = eqb-true (f d) (g d) (holds_at (λ d. eqb (f d) (g d)) k t d h)

@@ -6,57 +6,50 @@ ghost use Rattle.std.proofs.lemmas.List.Edits.{sets};
 ghost use Rattle.bsii_format.specs.Digits.{digit as digitOf, decimal, hexadecimal, hex_padded};
 ghost use Rattle.bsii_digits.specs.Counts.{tens};
 
-// A table, which a constant would not be: it would be built for each digit.
 pub fn digit(d: u64) -> u8
     requires { d < 16 }
     ensures { result ≡ digitOf d }
 {
-    match d {
-        0 => 48,
-        1 => 49,
-        2 => 50,
-        3 => 51,
-        4 => 52,
-        5 => 53,
-        6 => 54,
-        7 => 55,
-        8 => 56,
-        9 => 57,
-        10 => 97,
-        11 => 98,
-        12 => 99,
-        13 => 100,
-        14 => 101,
-        _ => 102,
-    }
+    b"0123456789abcdef"[d as usize]
 }
+
+// A sum takes fewer instructions than the table, which has the letters too.
+pub fn decimal_digit(d: u64) -> u8
+    requires { d < 10 }
+    ensures { result ≡ digitOf d }
+{
+    b'0' + d as u8
+}
+
+// From these numbers on there are more digits than their index says. By a table: `pow` multiplies in a loop.
+static POWERS: [u64; 20] = [
+    0,
+    10,
+    100,
+    1000,
+    10000,
+    100000,
+    1000000,
+    10000000,
+    100000000,
+    1000000000,
+    10000000000,
+    100000000000,
+    1000000000000,
+    10000000000000,
+    100000000000000,
+    1000000000000000,
+    10000000000000000,
+    100000000000000000,
+    1000000000000000000,
+    10000000000000000000,
+];
 
 fn power(t: u32) -> u64
     requires { t < 20 }
     ensures { result ≡ tens t }
 {
-    match t {
-        0 => 0,
-        1 => 10,
-        2 => 100,
-        3 => 1000,
-        4 => 10000,
-        5 => 100000,
-        6 => 1000000,
-        7 => 10000000,
-        8 => 100000000,
-        9 => 1000000000,
-        10 => 10000000000,
-        11 => 100000000000,
-        12 => 1000000000000,
-        13 => 10000000000000,
-        14 => 100000000000000,
-        15 => 1000000000000000,
-        16 => 10000000000000000,
-        17 => 100000000000000000,
-        18 => 1000000000000000000,
-        _ => 10000000000000000000,
-    }
+    POWERS[t as usize]
 }
 
 // How many digits there are, by the number's bits: 1233 / 4096 is the logarithm of 2, so that they are as many as its product says or one more.
@@ -70,12 +63,12 @@ pub fn decimal_count(n: u64) -> usize
     (t as usize) + 1
 }
 
-fn fill_pair(out: &mut [u8], at: usize, high: u64, low: u64)
-    requires { (high < 16) × (low < 16) × (at + 2 ≤ length out.old) }
-    ensures { out.new ≡ sets out.old at (digitOf high ∷ digitOf low ∷ []) }
+fn fill_pair(out: &mut [u8], at: usize, high: u8, low: u8)
+    requires { at + 2 ≤ length out.old }
+    ensures { out.new ≡ sets out.old at (high ∷ low ∷ []) }
 {
-    out[at] = digit(high);
-    out[at + 1] = digit(low);
+    out[at] = high;
+    out[at + 1] = low;
 }
 
 // The digits of a number below 100, up to an index.
@@ -84,13 +77,13 @@ fn fill_first(out: &mut [u8], end: usize, n: u64)
     ensures { out.new ≡ sets out.old (end - length (decimal n)) (decimal n) }
 {
     if n < 10 {
-        out[end - 1] = digit(n);
+        out[end - 1] = decimal_digit(n);
         return;
     }
-    fill_pair(out, end - 2, n / 10, n % 10);
+    fill_pair(out, end - 2, decimal_digit(n / 10), decimal_digit(n % 10));
 }
 
-// The digits up to an index, from the last ones on: two for each division.
+// The digits up to an index, from the last ones on: two for each division. The number says when it ends: a `for` would have to count the digits again.
 pub fn fill_decimal(out: &mut [u8], end: usize, n: u64)
     requires { (length (decimal n) ≤ end) × (end ≤ length out.old) }
     ensures { out.new ≡ sets out.old (end - length (decimal n)) (decimal n) }
@@ -99,8 +92,13 @@ pub fn fill_decimal(out: &mut [u8], end: usize, n: u64)
     let mut rest = n;
     while 99 < rest {
         i -= 2;
-        fill_pair(out, i, rest / 10 % 10, rest % 10);
-        rest = rest / 100;
+        fill_pair(
+            out,
+            i,
+            decimal_digit(rest / 10 % 10),
+            decimal_digit(rest % 10),
+        );
+        rest /= 100;
     }
     fill_first(out, i, rest);
 }
@@ -112,14 +110,12 @@ pub fn fill_hex(out: &mut [u8], end: usize, n: u64, count: u32)
 {
     let mut i = end;
     let mut rest = n;
-    let mut left = count;
-    while 1 < left {
+    for _ in 0..count / 2 {
         i -= 2;
-        fill_pair(out, i, rest / 16 % 16, rest % 16);
-        rest = rest / 256;
-        left -= 2;
+        fill_pair(out, i, digit(rest / 16 % 16), digit(rest % 16));
+        rest /= 256;
     }
-    if left == 1 {
+    if count % 2 == 1 {
         out[i - 1] = digit(rest % 16);
     }
 }
@@ -129,8 +125,8 @@ pub fn fill_four(out: &mut [u8], start: usize, n: u64)
     requires { start + 4 ≤ length out.old }
     ensures { out.new ≡ sets out.old start (hex_padded 4 n) }
 {
-    fill_pair(out, start, n / 0x1000 % 16, n / 0x100 % 16);
-    fill_pair(out, start + 2, n / 16 % 16, n % 16);
+    fill_pair(out, start, digit(n / 0x1000 % 16), digit(n / 0x100 % 16));
+    fill_pair(out, start + 2, digit(n / 16 % 16), digit(n % 16));
 }
 
 // How many digits there are: the bits that are no leading zeros, by four.

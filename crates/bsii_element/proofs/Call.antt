@@ -21,8 +21,6 @@ use Rattle.bsii_format.proofs.Parsers.{element_exact, id_exact}
 use Rattle.bsii_format.proofs.Positions.{ended, ended_ok, ended_fault, moved, step, moved_on, map_value, ended_consumed}
 use Rattle.bsii_string.specs.Answers.{fault_is, end_of}
 use Rattle.bsii_string.specs.declared.answers.Refusal.{Refusal}
-use Rattle.bsii_string.specs.declared.answers.Parsed.{Parsed}
-use Rattle.bsii_string.specs.declared.answers.Parsed.TheVariants.{Next, Fault}
 use Rattle.bsii_string.proofs.Ends.{next≢fault, next_same, fault_at_law}
 use Rattle.bsii_value.proofs.Elements.{one_end}
 use Rattle.bsii_skip.specs.Unchecked.{unchecked_element}
@@ -32,20 +30,21 @@ use Rattle.bsii_string.proofs.NumbersAt.{number_moves, number_is_law, numbers_fr
 use Rattle.bsii_element.specs.Decoded.{decoded}
 use Rattle.bsii_element.proofs.Ended.{next_ok}
 use Rattle.bsii_element.proofs.PlacedElements.{standing, absent_past, extent, at_offset}
+use Rattle.std.specs.Prelude.{Ok, Err}
 
 -- the faults of an element and of a value are the call's
-pub decoded_fault : (p : ℕ) (q : Result Element) {f : Refusal} → Fault f ≡ end_of q → refuses (fault_is f) ≡ decoded p q
+pub decoded_fault : (p : ℕ) (q : Result Element) {f : Refusal} → Err f ≡ end_of q → refuses (fault_is f) ≡ decoded p q
 unfolding decoded
 decoded_fault p q e = sym (ap (decoded p) (fault_at_law q e))
 
-pub value_fault : (i : ℕ) (q : Result Value) {f : Refusal} → Fault f ≡ end_of q → refuses (fault_is f) ≡ of_value i q
+pub value_fault : (i : ℕ) (q : Result Value) {f : Refusal} → Err f ≡ end_of q → refuses (fault_is f) ≡ of_value i q
 unfolding of_value
 value_fault i q e = sym (ap (of_value i) (fault_at_law q e))
 
 -- ---- one element
 
 -- an element that is numbers, where its bytes are there: those from its start on
-pub numbers_decoded : (k : Numeric) (s : List ℕ) (at : ℕ) {n : ℕ} → Next n ≡ end_of (element_parser (numbers k) at (drop at s))
+pub numbers_decoded : (k : Numeric) (s : List ℕ) (at : ℕ) {n : ℕ} → Ok n ≡ end_of (element_parser (numbers k) at (drop at s))
     → gives (numeric_datum k (numbers_at (arity k) (width k) (take (length s - at) (drop at s)) 0)) ≡ decoded at (element_parser (numbers k) at (drop at s))
 unfolding decoded element_parser datum_of
 numbers_decoded k s at {n} e =
@@ -74,7 +73,7 @@ numbers_refuse uint64 = refl
 numbers_refuse bool = refl
 numbers_refuse enum = refl
 
-pub numbers_inside : (k : Numeric) (s : List ℕ) (at : ℕ) {n : ℕ} → Next n ≡ end_of (element_parser (numbers k) at (drop at s)) → at ≤ length s
+pub numbers_inside : (k : Numeric) (s : List ℕ) (at : ℕ) {n : ℕ} → Ok n ≡ end_of (element_parser (numbers k) at (drop at s)) → at ≤ length s
 numbers_inside k s at e =
     let q = next_ok (element_parser (numbers k) at (drop at s)) e in
     let m = moved_on (element_exact (numbers k)) (numbers_refuse k) s at q.2 in
@@ -93,10 +92,10 @@ string_size s at {v} {n} {r} e =
     omega (arith, ok_at w.1, ok_at b.1, (number_moves 4 s at q.3).0)
 
 module _ (s : List ℕ) (at : ℕ) {n : ℕ} where
-  pub string_next : Next n ≡ end_of (str_parser at (drop at s)) → at + 4 ≤ n
+  pub string_next : Ok n ≡ end_of (str_parser at (drop at s)) → at + 4 ≤ n
   string_next e = let q = next_ok (str_parser at (drop at s)) e in omega (arith, string_size s at q.2)
 
-  pub string_decoded : Next n ≡ end_of (str_parser at (drop at s))
+  pub string_decoded : Ok n ≡ end_of (str_parser at (drop at s))
       → gives (d_string (record { offset = at + 4; size = n - at - 4 })) ≡ decoded at (element_parser string at (drop at s))
   unfolding element_parser decoded datum_of
   string_decoded e =
@@ -104,10 +103,10 @@ module _ (s : List ℕ) (at : ℕ) {n : ℕ} where
       let l : n - at - 4 ≡ length q.0 = omega (arith, string_size s at q.2) in
       ap (λ (m : ℕ). gives (d_string (record { offset = at + 4; size = m }))) l ∙ sym (ap (decoded at) (map_value str str_parser q.2))
 
-  pub id_next : Next n ≡ end_of (id_parser at (drop at s)) → at ≤ n
+  pub id_next : Ok n ≡ end_of (id_parser at (drop at s)) → at ≤ n
   id_next e = let q = next_ok (id_parser at (drop at s)) e in (moved id_exact s at q.2).later
 
-  pub id_decoded : Next n ≡ end_of (id_parser at (drop at s)) → gives (d_id (record { offset = at; size = n - at })) ≡ decoded at (element_parser id at (drop at s))
+  pub id_decoded : Ok n ≡ end_of (id_parser at (drop at s)) → gives (d_id (record { offset = at; size = n - at })) ≡ decoded at (element_parser id at (drop at s))
   unfolding element_parser decoded datum_of
   id_decoded e = let q = next_ok (id_parser at (drop at s)) e in sym (ap (decoded at) (map_value ident id_parser q.2))
 
@@ -143,7 +142,7 @@ module _ (k : Kind) (s : List ℕ) where
           let e : element_parser k 0 s ≡ fault f = ended_fault (element_parser k 0 s) (sym (ended_consumed (element_parser k) 0 s) ∙ ap ended h) in
           ap (decoded 0) e ∙ ap (of_value 0) (sym (map_fault single (consumed (element_parser k)) 0 s h))
 
-  pub single_other : (i : ℕ) {n : ℕ} → (i ≡ 0 → ⊥) → Next n ≡ end_of (element_parser k 0 s) → refusal absent 0 ≡ of_value i (shape_parser (some (one k)) 0 s)
+  pub single_other : (i : ℕ) {n : ℕ} → (i ≡ 0 → ⊥) → Ok n ≡ end_of (element_parser k 0 s) → refusal absent 0 ≡ of_value i (shape_parser (some (one k)) 0 s)
   unfolding shape_parser elements_of placed
   single_other zero z e = absurd (z refl)
   single_other (suc i) {n} z e =
@@ -159,7 +158,7 @@ pub record Array (k : Kind) (s : List ℕ) (n : ℕ) : Type 0 where
   pub value : shape_parser (some (many k)) 0 s ≡ ok (array elements) n rest
   pub row : repeat (number_at 4 s 0) (consumed (element_parser k)) 4 (drop 4 s) ≡ ok elements n rest
 
-pub array_read : (k : Kind) (s : List ℕ) {n : ℕ} → Next n ≡ end_of (shape_parser (some (many k)) 0 s) → Array k s n
+pub array_read : (k : Kind) (s : List ℕ) {n : ℕ} → Ok n ≡ end_of (shape_parser (some (many k)) 0 s) → Array k s n
 unfolding shape_parser ◌>>=◌
 array_read k s {n} e =
     let q = next_ok (shape_parser (some (many k)) 0 s) e in
@@ -177,7 +176,7 @@ array_read k s {n} e =
           ∙ p.4;
     }
 
-module _ (k : Kind) (s : List ℕ) {n : ℕ} (e : Next n ≡ end_of (shape_parser (some (many k)) 0 s)) (i : ℕ) where
+module _ (k : Kind) (s : List ℕ) {n : ℕ} (e : Ok n ≡ end_of (shape_parser (some (many k)) 0 s)) (i : ℕ) where
   pub array_absent : number_at 4 s 0 ≤ i → refusal absent 0 ≡ of_value i (shape_parser (some (many k)) 0 s)
   unfolding elements_of
   array_absent h =
@@ -186,7 +185,7 @@ module _ (k : Kind) (s : List ℕ) {n : ℕ} (e : Next n ≡ end_of (shape_parse
       value_absent (array a.elements) n a.rest i (absent_past extent 4 a.elements i (omega arith)) ∙ ap (of_value i) (sym a.value)
 
   -- the element stands where i elements end, for the walk that checks nothing too
-  pub array_there : i < number_at 4 s 0 → (p : ℕ) × (end_of (repeat i (unchecked_element k) 4 (drop 4 s)) ≡ Next p) × (decoded p (element_parser k p (drop p s)) ≡ of_value i (shape_parser (some (many k)) 0 s))
+  pub array_there : i < number_at 4 s 0 → (p : ℕ) × (end_of (repeat i (unchecked_element k) 4 (drop 4 s)) ≡ Ok p) × (decoded p (element_parser k p (drop p s)) ≡ of_value i (shape_parser (some (many k)) 0 s))
   unfolding elements_of
   array_there h =
       let a = array_read k s e in
@@ -198,12 +197,12 @@ module _ (k : Kind) (s : List ℕ) {n : ℕ} (e : Next n ≡ end_of (shape_parse
             ∙ ap (of_value i) (sym a.value),
       )
 
-  module _ (h : i < number_at 4 s 0) {q : Parsed} (u : q ≡ end_of (repeat i (unchecked_element k) 4 (drop 4 s))) where
-    pub array_element : {r : ℕ} → q ≡ Next r → decoded r (element_parser k r (drop r s)) ≡ of_value i (shape_parser (some (many k)) 0 s)
-    array_element {r} g =
+  module _ (h : i < number_at 4 s 0) where
+    pub array_element : {p : ℕ} → Ok p ≡ end_of (repeat i (unchecked_element k) 4 (drop 4 s)) → decoded p (element_parser k p (drop p s)) ≡ of_value i (shape_parser (some (many k)) 0 s)
+    array_element {p} u =
         let x = array_there h in
-        let p : r ≡ x.0 = next_same (sym g ∙ u ∙ x.1) in
-        ap (λ (p : ℕ). decoded p (element_parser k p (drop p s))) p ∙ x.2
+        let e : p ≡ x.0 = next_same (u ∙ x.1) in
+        ap (λ (p : ℕ). decoded p (element_parser k p (drop p s))) e ∙ x.2
 
-    pub array_ends : {P : Type 0} {f : Refusal} → q ≡ Fault f → P
-    array_ends g = next≢fault (sym (array_there h).1 ∙ sym u ∙ g)
+    pub array_ends : {P : Type 0} {f : Refusal} → Err f ≡ end_of (repeat i (unchecked_element k) 4 (drop 4 s)) → P
+    array_ends u = next≢fault (sym (array_there h).1 ∙ sym u)

@@ -1,7 +1,7 @@
 // What the element call answers.
 use bsii_float::floats::{Placement, Vec2, Vec3, Vec4, Vec7};
-use bsii_string::answers::Refusal;
 
+// Three fields and no array: what copies them names each, which is no plainer by index.
 #[derive(Drop)]
 pub struct Int3 {
     pub a: i32,
@@ -9,7 +9,7 @@ pub struct Int3 {
     pub c: i32,
 }
 
-// One case for each kind of value, and one for a refusal. A string's place is that of its bytes, without their length; an id's place is that
+// One case for each kind of value. A string's place is that of its bytes, without their length; an id's place is that
 // of all of its bytes. specs/Cases says what each case means.
 #[derive(Drop)]
 pub enum Element {
@@ -30,5 +30,4 @@ pub enum Element {
     Bool(bool),
     Enum(u32),
     Id { offset: usize, size: usize },
-    Refused(Refusal),
 }

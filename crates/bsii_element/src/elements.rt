@@ -11,9 +11,10 @@ ghost use Rattle.bsii_element.specs.Decoded.{decoded, answers_at};
 
 use crate::answers::Element;
 use crate::numeric::{number_array, numeric};
-use bsii_base38::char_pairs;
+use bsii_base38::CharPairs;
+use bsii_format::Cause;
 use bsii_skip::skip_elements;
-use bsii_string::answers::{ABSENT, Parsed, UNLISTED_TYPE, Word, refused};
+use bsii_string::answers::{Refusal, refused};
 use bsii_string::at::u32_at;
 use bsii_string::numbers::size;
 use bsii_string::strings::str_end;
@@ -21,46 +22,37 @@ use bsii_value::types::{Kind, Shape, shape_of};
 use bsii_value::values::{element_parser, value_parser};
 use bsii_word::words::{encoded_str_parser, id_parser};
 
-fn text(s: &[u8], at: usize) -> Element
+fn text(s: &[u8], at: usize) -> Result<Element, Refusal>
     ensures { element_is result ≡ decoded at (element_parser string at (drop at s.now)) }
 {
-    let end = str_end(s, at);
-    match end {
-        Parsed::Next(next) => Element::String {
-            offset: at + 4,
-            size: next - at - 4,
-        },
-        Parsed::Fault(f) => Element::Refused(f),
-    }
+    let next = str_end(s, at)?;
+    Ok(Element::String {
+        offset: at + 4,
+        size: next - at - 4,
+    })
 }
 
-fn word(s: &[u8], at: usize) -> Element
+fn word(s: &[u8], at: usize) -> Result<Element, Refusal>
     ensures { element_is result ≡ decoded at (element_parser encoded_string at (drop at s.now)) }
 {
-    let chars = char_pairs();
-    let read = encoded_str_parser(&chars, s, at);
-    match read {
-        Word::Low63(low, _) => Element::EncodedString(low),
-        Word::Refused(f) => Element::Refused(f),
-    }
+    let chars = CharPairs::new();
+    let (low, _) = encoded_str_parser(&chars, s, at)?;
+    Ok(Element::EncodedString(low))
 }
 
-fn id(s: &[u8], at: usize) -> Element
+fn id(s: &[u8], at: usize) -> Result<Element, Refusal>
     ensures { element_is result ≡ decoded at (element_parser idKind at (drop at s.now)) }
 {
-    let chars = char_pairs();
-    let end = id_parser(&chars, s, at);
-    match end {
-        Parsed::Next(next) => Element::Id {
-            offset: at,
-            size: next - at,
-        },
-        Parsed::Fault(f) => Element::Refused(f),
-    }
+    let chars = CharPairs::new();
+    let next = id_parser(&chars, s, at)?;
+    Ok(Element::Id {
+        offset: at,
+        size: next - at,
+    })
 }
 
 // The element that starts at a position.
-fn decode(s: &[u8], at: usize, kind: Kind) -> Element
+fn decode(s: &[u8], at: usize, kind: Kind) -> Result<Element, Refusal>
     ensures { element_is result ≡ decoded at (element_parser (kind_is kind) at (drop at s.now)) }
 {
     match kind {
@@ -72,61 +64,53 @@ fn decode(s: &[u8], at: usize, kind: Kind) -> Element
 }
 
 // A single value has index 0 only; its faults come before that.
-fn single(part: &[u8], kind: Kind, index: usize) -> Element
+fn single(part: &[u8], kind: Kind, index: usize) -> Result<Element, Refusal>
     ensures { element_is result ≡ of_value index (shape_parser (some (one (kind_is kind))) 0 part.now) }
 {
     if index == 0 {
         return decode(part, 0, kind);
     }
-    let chars = char_pairs();
-    let end = element_parser(&chars, part, 0, kind);
-    match end {
-        Parsed::Next(_) => Element::Refused(refused(ABSENT, 0)),
-        Parsed::Fault(f) => Element::Refused(f),
-    }
+    let chars = CharPairs::new();
+    element_parser(&chars, part, 0, kind)?;
+    Err(refused(Cause::Absent, 0))
 }
 
 // An element of an array that was accepted, so nothing is checked on the way to it, and no refusal is met there.
-fn in_array(part: &[u8], kind: Kind, index: usize) -> Element
+fn in_array(part: &[u8], kind: Kind, index: usize) -> Result<Element, Refusal>
     ensures { answers_at (kind_is kind) part.now index (element_is result) }
 {
     let count = size(u32_at(part, 0));
     if count <= index {
-        return Element::Refused(refused(ABSENT, 0));
+        return Err(refused(Cause::Absent, 0));
     }
-    let start = skip_elements(part, 4, index as u32, kind);
-    match start {
-        Parsed::Next(at) => decode(part, at, kind),
-        Parsed::Fault(f) => Element::Refused(f),
-    }
+    let start = skip_elements(part, 4, index as u32, kind)?;
+    decode(part, start, kind)
 }
 
 // The end of an array of this kind. Numbers need no table of characters, and a caller may ask for many of them one by one.
-fn array_end(part: &[u8], version: u32, type_id: u32, kind: Kind) -> Parsed
+fn array_end(part: &[u8], version: u32, type_id: u32, kind: Kind) -> Result<usize, Refusal>
     requires { some (many (kind_is kind)) ≡ shape_of version type_id }
     ensures { result ≡ end_of (shape_parser (some (many (kind_is kind))) 0 part.now) }
 {
     if let Kind::Numbers(n) = kind {
         return number_array(part, n);
     }
-    let chars = char_pairs();
+    let chars = CharPairs::new();
     value_parser(&chars, part, 0, version, type_id)
 }
 
 // The element at the index of the value that the slice starts with. The value is read whole before the index is looked at.
-pub fn element(version: u32, type_id: u32, part: &[u8], index: usize) -> Element
+pub fn element(version: u32, type_id: u32, part: &[u8], index: usize) -> Result<Element, Refusal>
     ensures { element_is result ≡ element_call version type_id part.now index }
 {
-    let shape = shape_of(version, type_id);
+    let Some(shape) = shape_of(version, type_id) else {
+        return Err(refused(Cause::UnlistedType, 0));
+    };
     match shape {
         Shape::One(kind) => single(part, kind, index),
         Shape::Many(kind) => {
-            let whole = array_end(part, version, type_id, kind);
-            match whole {
-                Parsed::Next(_) => in_array(part, kind, index),
-                Parsed::Fault(f) => Element::Refused(f),
-            }
+            array_end(part, version, type_id, kind)?;
+            in_array(part, kind, index)
         }
-        Shape::Unlisted => Element::Refused(refused(UNLISTED_TYPE, 0)),
     }
 }

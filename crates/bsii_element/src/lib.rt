@@ -4,4 +4,3 @@
 pub mod answers;
 pub mod elements;
 mod numeric;
-pub mod signed;

@@ -10,10 +10,10 @@ use Rattle.bsii_format.specs.Numbers.{number}
 use Rattle.bsii_format.specs.Types.{float, float_vec2, float_vec3, float_vec4, float_vec7, float_vec8, int32, int32_vec3, uint32, uint16, int64, uint64, bool, enum, width, arity, Kind, numbers, string, encoded_string, id, Shape, one, many, shape_of}
 use Rattle.bsii_format.proofs.Positions.{moved_on}
 use Rattle.bsii_string.specs.Answers.{end_of, unchecked_str}
-use Rattle.bsii_string.specs.declared.answers.Parsed.TheVariants.{Next}
 use Rattle.bsii_prototype.proofs.Entries.{next_is}
 use Rattle.bsii_skip.specs.Unchecked.{skip, unchecked_id, unchecked_element, unchecked_array, unchecked_shape, unchecked_value}
-use Rattle.bsii_skip.proofs.Exact.{unchecked_element_exact, unchecked_value_exact}
+use Rattle.bsii_skip.specs.Exact.{unchecked_element_exact, unchecked_value_exact}
+use Rattle.std.specs.Prelude.{Ok}
 
 -- how many bytes its first item has
 first : Kind → ℕ
@@ -42,7 +42,7 @@ element_none string = refl
 element_none encoded_string = refl
 element_none id = refl
 
-pub element_moves : (k : Kind) (s : List ℕ) (at : ℕ) {n : ℕ} → Next n ≡ end_of (unchecked_element k at (drop at s)) → (at < n) × (n ≤ length s)
+pub element_moves : (k : Kind) (s : List ℕ) (at : ℕ) {n : ℕ} → Ok n ≡ end_of (unchecked_element k at (drop at s)) → (at < n) × (n ≤ length s)
 element_moves k s at e = moved_on (unchecked_element_exact k) (element_none k) s at (next_is (unchecked_element k at (drop at s)) e).2
 
 shape_none : (o : Option Shape) → (f : Fault) × (unchecked_shape o 0 [] ≡ fault f)
@@ -51,7 +51,7 @@ shape_none none = (refused unlisted_type 0, refl)
 shape_none (some (one k)) = (short 0 (first k), element_none k)
 shape_none (some (many k)) = (short 0 4, refl)
 
-pub value_moves : (version t : ℕ) (s : List ℕ) (at : ℕ) {n : ℕ} → Next n ≡ end_of (unchecked_value version t at (drop at s)) → (at < n) × (n ≤ length s)
+pub value_moves : (version t : ℕ) (s : List ℕ) (at : ℕ) {n : ℕ} → Ok n ≡ end_of (unchecked_value version t at (drop at s)) → (at < n) × (n ≤ length s)
 unfolding unchecked_value
 value_moves version t s at e =
     moved_on (unchecked_value_exact version t) (shape_none (shape_of version t)).1 s at (next_is (unchecked_value version t at (drop at s)) e).2

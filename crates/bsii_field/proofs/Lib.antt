@@ -1,5 +1,4 @@
 -- What the proofs of the code share; Parts is for callers.
-pub mod Entries
 pub mod Names
 pub mod Bounds
 pub mod Values

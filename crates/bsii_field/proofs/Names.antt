@@ -17,12 +17,10 @@ use Rattle.bsii_format.proofs.Readers.{is_true, is_false, same→eq, same_refl}
 use Rattle.bsii_string.specs.Answers.{unchecked_str}
 use Rattle.bsii_prototype.specs.Entries.{entry_with}
 use Rattle.bsii_prototype.specs.Answers.{entry_of}
-use Rattle.bsii_string.specs.declared.answers.Refusal.{Refusal}
-use Rattle.bsii_prototype.specs.declared.answers.Entry.TheVariants.{Field, Last, Bad}
-use Rattle.bsii_prototype.proofs.Turns.{turn_field, turn_last, turn_bad}
-use Rattle.bsii_field.specs.declared.Index.{Index}
-use Rattle.bsii_field.specs.declared.Index.TheVariants.{At, Absent}
+use Rattle.bsii_prototype.specs.declared.answers.Entry.TheVariants.{Field}
+use Rattle.bsii_prototype.proofs.Turns.{turn_field, turn_none}
 use Rattle.bsii_field.specs.Answers.{IndexOf}
+use Rattle.std.specs.Prelude.{Ok, Some, None}
 
 -- ---- a name from `start` to `end`, byte by byte
 
@@ -101,19 +99,16 @@ pub seek_start : {s : List ℕ} {fields : ℕ} {name : List ℕ} → Seeking s f
 seek_start {name = name} = record { rest = λ l n t e. record { fields = l; read = e; first = from_zero (field_index name l.fields) } }
 
 module _ {s : List ℕ} {fields : ℕ} {name : List ℕ} {field index : ℕ} (k : Seeking s fields name field index) where
-  pub seek_last : {n : ℕ} → Last n ≡ entry_of (field + 8) (entry_with unchecked_str field (drop field s)) → IndexOf s fields name Absent
+  pub seek_none : ((type a b next : ℕ) → Ok (Field type a b next) ≡ entry_of (field + 8) (entry_with unchecked_str field (drop field s)) → ⊥) → IndexOf s fields name None
   unfolding field_index
-  seek_last e = record {
+  seek_none e = record {
     first = λ l n t h.
         let x = k.rest l n t h in
-        sym (from_none index) ∙ ap (λ fs. from index (field_index name fs)) (sym (turn_last s field x.read e).0) ∙ x.first;
+        sym (from_none index) ∙ ap (λ fs. from index (field_index name fs)) (sym (turn_none s field x.read e)) ∙ x.first;
   }
 
-  pub seek_bad : {f : Refusal} → Bad f ≡ entry_of (field + 8) (entry_with unchecked_str field (drop field s)) → (r : Index) → IndexOf s fields name r
-  seek_bad e r = record { first = λ l n t h. turn_bad s field (k.rest l n t h).read e }
-
-  module _ {type a b next : ℕ} (e : Field type a b next ≡ entry_of (field + 8) (entry_with unchecked_str field (drop field s))) where
-    pub seek_here : name ≡ take (b - a) (drop a s) → IndexOf s fields name (At index)
+  module _ {type a b next : ℕ} (e : Ok (Field type a b next) ≡ entry_of (field + 8) (entry_with unchecked_str field (drop field s))) where
+    pub seek_here : name ≡ take (b - a) (drop a s) → IndexOf s fields name (Some index)
     unfolding cons_field
     seek_here same = record {
       first = λ l n t h.

@@ -12,19 +12,18 @@ use Rattle.bsii_format.specs.Blocks.{DataValue, data_values_parser}
 use Rattle.bsii_format.specs.Calls.{Placed, placed, field_answer}
 use Rattle.bsii_format.proofs.Records.{value_good}
 use Rattle.bsii_string.specs.Answers.{end_of, unchecked_str}
-use Rattle.bsii_string.specs.declared.answers.Parsed.TheVariants.{Next, Fault}
 use Rattle.bsii_prototype.specs.Entries.{entry_with}
 use Rattle.bsii_prototype.specs.Answers.{entry_of}
 use Rattle.bsii_string.specs.declared.answers.Refusal.{Refusal}
 use Rattle.bsii_string.proofs.Ends.{next≢fault, next_same}
-use Rattle.bsii_prototype.specs.declared.answers.Entry.TheVariants.{Field, Last, Bad}
-use Rattle.bsii_prototype.proofs.Turns.{FieldTurn, turn_field, turn_last, turn_bad}
+use Rattle.bsii_prototype.specs.declared.answers.Entry.TheVariants.{Field}
+use Rattle.bsii_prototype.proofs.Turns.{FieldTurn, turn_field, turn_none}
 use Rattle.bsii_skip.specs.Unchecked.{unchecked_value}
 use Rattle.bsii_skip.proofs.Blocks.{Turn, turn, done}
 use Rattle.bsii_field.proofs.Bounds.{value_moves}
-use Rattle.bsii_field.specs.declared.FoundValue.{FoundValue}
-use Rattle.bsii_field.specs.declared.FoundValue.TheVariants.{Value, NoValue}
-use Rattle.bsii_field.specs.Answers.{found_is, ValueAt}
+use Rattle.bsii_field.specs.declared.Value.{Value}
+use Rattle.bsii_field.specs.Answers.{found, found_is, ValueAt}
+use Rattle.std.specs.Prelude.{Ok, Err, Some, None, Option as Answer}
 
 -- ---- a value that was accepted, and those behind it
 
@@ -42,7 +41,7 @@ pub record ValueStep (version : ℕ) (s : List ℕ) (at type next end : ℕ) (vs
 
 module _ (version : ℕ) (s : List ℕ) (field at : ℕ) {l : Fields} {n : ℕ} {t : List ℕ} (read : fields_parser field (drop field s) ≡ ok l n t)
     {vs : List DataValue} {m : ℕ} {u : List ℕ} (carried : data_values_parser version l.fields at (drop at s) ≡ ok vs m u)
-    {type a b next : ℕ} (e : Field type a b next ≡ entry_of (field + 8) (entry_with unchecked_str field (drop field s))) where
+    {type a b next : ℕ} (e : Ok (Field type a b next) ≡ entry_of (field + 8) (entry_with unchecked_str field (drop field s))) where
   step_of : (y : FieldTurn s field type a b next l n t)
       (w : Turn version (with y.field (take (next - field) (drop field s))) y.rest.fields s at vs m u)
       → ValueStep version s at type next w.end vs n t m u
@@ -62,7 +61,7 @@ module _ (version : ℕ) (s : List ℕ) (field at : ℕ) {l : Fields} {n : ℕ} 
         list = w.both;
       }
 
-  step_end : (end : ℕ) × (end_of (unchecked_value version type at (drop at s)) ≡ Next end) × ValueStep version s at type next end vs n t m u
+  step_end : (end : ℕ) × (end_of (unchecked_value version type at (drop at s)) ≡ Ok end) × ValueStep version s at type next end vs n t m u
   unfolding cons_field
   step_end =
       let y = turn_field s field read e in
@@ -70,11 +69,11 @@ module _ (version : ℕ) (s : List ℕ) (field at : ℕ) {l : Fields} {n : ℕ} 
       (ap (λ (z : Fields). data_values_parser version z.fields at (drop at s)) (sym y.list) ∙ carried) in
       (w.end, ap (λ z. end_of (unchecked_value version z at (drop at s))) y.typed ∙ w.past, step_of y w)
 
-  pub step : {end : ℕ} → Next end ≡ end_of (unchecked_value version type at (drop at s)) → ValueStep version s at type next end vs n t m u
+  pub step : {end : ℕ} → Ok end ≡ end_of (unchecked_value version type at (drop at s)) → ValueStep version s at type next end vs n t m u
   step h = let q = step_end in subst (λ (k : ℕ). ValueStep version s at type next k vs n t m u) (sym (next_same (h ∙ q.1))) q.2
 
   -- what was accepted is not refused
-  pub step_fault : {P : Type 0} {f : Refusal} → Fault f ≡ end_of (unchecked_value version type at (drop at s)) → P
+  pub step_fault : {P : Type 0} {f : Refusal} → Err f ≡ end_of (unchecked_value version type at (drop at s)) → P
   step_fault h = next≢fault (sym (h ∙ step_end.1))
 
 -- ---- the list of values with their places
@@ -97,7 +96,7 @@ unfolding placed
 no_place at left = refl
 
 part_is : (s : List ℕ) (at type end : ℕ) (v : DataValue) → type ≡ v.type_id → end - at ≡ length v.raw → take (end - at) (drop at s) ≡ v.raw
-    → found_is s (Value type at end) ≡ some (field_answer (record { offset = at; it = v }))
+    → found_is s (found type at end) ≡ some (field_answer (record { offset = at; it = v }))
 unfolding field_answer
 part_is s at type end v t l b = rw (t, b, l)
 
@@ -122,37 +121,32 @@ go_start {start = start} {index = index} = record {
       record { fields = l; values = vs; read = e; carried = f; same = ap (get_elem? (places start vs)) all };
 }
 
-value_is : {t u i j n m : ℕ} → ◌≡◌ {A = FoundValue} (Value t i n) (Value u j m) → (i ≡ j) × (n ≡ m)
-value_is e = (cc, cc)
+value_is : {v w : Value} → ◌≡◌ {A = Answer Value} (Some v) (Some w) → v ≡ w
+value_is e = cc
 
-none≢value : {P : Type 0} {t at next : ℕ} → ◌≡◌ {A = FoundValue} NoValue (Value t at next) → P
-none≢value e = let z : ◌≡◌ {A = ℕ} 0 1 = cc in let f : ⊥ = omega arith in absurd f
+none≢value : {P : Type 0} {v : Value} → ◌≡◌ {A = Answer Value} None (Some v) → P
+none≢value e = let f : ⊥ = cc in absurd f
 
 module _ {version : ℕ} {s : List ℕ} {fields start index field at passed : ℕ} (k : Going version s fields start index field at passed) where
-  pub go_last : {n : ℕ} → Last n ≡ entry_of (field + 8) (entry_with unchecked_str field (drop field s)) → ValueAt version s fields start index NoValue
-  go_last e = record {
+  pub go_none : ((type a b next : ℕ) → Ok (Field type a b next) ≡ entry_of (field + 8) (entry_with unchecked_str field (drop field s)) → ⊥)
+      → ValueAt version s fields start index None
+  go_none e = record {
     answer = λ l n t h vs m u f.
         let x = k.rest l n t h vs m u f in
-        let none = done version (ap (λ fs. data_values_parser version fs at (drop at s)) (sym (turn_last s field x.read e).0) ∙ x.carried) in
+        let none = done version (ap (λ fs. data_values_parser version fs at (drop at s)) (sym (turn_none s field x.read e)) ∙ x.carried) in
         ap (map field_answer) (sym (no_place at (index - passed)) ∙ ap (λ ws. get_elem? (places at ws) (index - passed)) (sym none.0) ∙ x.same);
     inside = λ t a n f. none≢value f;
   }
 
-  pub go_bad : {f : Refusal} → Bad f ≡ entry_of (field + 8) (entry_with unchecked_str field (drop field s)) → ValueAt version s fields start index NoValue
-  go_bad e = record {
-    answer = λ l n t h vs m u f. turn_bad s field (k.rest l n t h vs m u f).read e;
-    inside = λ t a n f. none≢value f;
-  }
-
-  module _ {type a b next : ℕ} (e : Field type a b next ≡ entry_of (field + 8) (entry_with unchecked_str field (drop field s))) where
-    pub go_fault : {f : Refusal} → Fault f ≡ end_of (unchecked_value version type at (drop at s)) → ValueAt version s fields start index NoValue
+  module _ {type a b next : ℕ} (e : Ok (Field type a b next) ≡ entry_of (field + 8) (entry_with unchecked_str field (drop field s))) where
+    pub go_fault : {f : Refusal} → Err f ≡ end_of (unchecked_value version type at (drop at s)) → ValueAt version s fields start index None
     go_fault h = record {
       answer = λ l n t f vs m u g. let x = k.rest l n t f vs m u g in step_fault version s field at x.read x.carried e h;
       inside = λ t a n f. none≢value f;
     }
 
-    module _ {end : ℕ} (h : Next end ≡ end_of (unchecked_value version type at (drop at s))) where
-      pub go_here : passed ≡ index → ValueAt version s fields start index (Value type at end)
+    module _ {end : ℕ} (h : Ok end ≡ end_of (unchecked_value version type at (drop at s))) where
+      pub go_here : passed ≡ index → ValueAt version s fields start index (found type at end)
       go_here z = record {
         answer = λ l n t f vs m u g.
             let x = k.rest l n t f vs m u g in
@@ -163,7 +157,7 @@ module _ {version : ℕ} {s : List ℕ} {fields start index field at passed : �
         inside = λ t a n f.
             let q = value_moves version type s at h in
             let p = value_is f in
-            (omega (arith, q, p), omega (arith, q, p));
+            (omega (arith, q, ap (λ (v : Value). v.at) p, ap (λ (v : Value). v.next) p), omega (arith, q, ap (λ (v : Value). v.next) p));
       }
 
       pub go_on : passed < index → Going version s fields start index next end (passed + 1)

@@ -6,91 +6,63 @@
 
 ghost use Rattle.bsii_field.specs.Answers.{IndexOf, ValueAt};
 
-use bsii_prototype::answers::Entry;
-use bsii_prototype::skip::skip_value_prototype;
+use bsii_prototype::accepted::accepted_at;
 use bsii_skip::skip_value;
-use bsii_string::answers::Parsed;
-
-// The position of a definition, from 0.
-#[derive(Clone, Copy)]
-pub enum Index {
-    At(usize),
-    Absent,
-}
 
 // A value's type, and its bytes from at to next.
-#[derive(Drop)]
-pub enum FoundValue {
-    Value {
-        type_id: u32,
-        at: usize,
-        next: usize,
-    },
-    NoValue,
+#[derive(Clone, Copy)]
+pub struct Value {
+    pub type_id: u32,
+    pub at: usize,
+    pub next: usize,
 }
 
-// The first definition of that name, of those from `fields` on.
-pub fn field_index(s: &[u8], fields: usize, name: &[u8]) -> Index
+// The position, from 0, of the first definition of that name, of those from `fields` on. A definition's name starts behind its type and its length.
+// Counted by hand, as below: a range is no plainer, since no count stands in front of the definitions to end it.
+#[tactic(auto, using(bsii_prototype::proofs::Inside::field_inside))]
+pub fn field_index(s: &[u8], fields: usize, name: &[u8]) -> Option<usize>
     ensures { IndexOf s.now fields name.now result }
 {
     let mut field = fields;
     let mut index: usize = 0;
-    'definitions: loop {
-        let entry = skip_value_prototype(s, field);
-        let Entry::Field {
-            type_id: _,
-            name: start,
-            name_end: end,
-            next,
-        } = entry
-        else {
-            // The end of the list: what was accepted has no fault.
-            return Index::Absent;
-        };
+    // A rule of the project, docs/SCOPE.md: 01 asks for a loop over the name's bytes that is left by a label at a mismatch.
+    'definitions: while let Some(found) = accepted_at(s, field) {
+        let start = field + 8;
         let here = index;
-        field = next;
+        field = found.next;
         index += 1;
-        if end - start != name.len() {
+        if found.name_end - start != name.len() {
             continue 'definitions;
         }
-        let mut i = 0;
-        while i < name.len() {
+        for i in 0..name.len() {
             if s[start + i] != name[i] {
                 continue 'definitions;
             }
-            i += 1;
         }
-        return Index::At(here);
+        return Some(here);
     }
+    None
 }
 
 // The value at a position, of those from `start` on that stand under the definitions from `fields` on.
-pub fn value_at(s: &[u8], version: u32, fields: usize, start: usize, index: usize) -> FoundValue
+#[tactic(auto, using(bsii_prototype::proofs::Inside::field_inside, crate::proofs::Values::go_on))]
+pub fn value_at(s: &[u8], version: u32, fields: usize, start: usize, index: usize) -> Option<Value>
     ensures { ValueAt version s.now fields start index result }
 {
     let mut field = fields;
     let mut at = start;
     let mut passed: usize = 0;
-    loop {
-        let entry = skip_value_prototype(s, field);
-        let Entry::Field {
-            type_id,
-            name: _,
-            name_end: _,
-            next: behind,
-        } = entry
-        else {
-            return FoundValue::NoValue;
-        };
-        let value = skip_value(s, at, version, type_id);
-        let Parsed::Next(next) = value else {
-            return FoundValue::NoValue;
+    while let Some(found) = accepted_at(s, field) {
+        let type_id = found.type_id;
+        let Ok(next) = skip_value(s, at, version, type_id) else {
+            return None;
         };
         if passed == index {
-            return FoundValue::Value { type_id, at, next };
+            return Some(Value { type_id, at, next });
         }
         at = next;
-        field = behind;
+        field = found.next;
         passed += 1;
     }
+    None
 }

@@ -4,25 +4,17 @@ ghost use Rattle.bsii_format.specs.Calls.{table_after};
 ghost use Rattle.bsii_derived.specs.IndexCalls.{defines_once_call};
 ghost use Rattle.bsii_file.specs.Answers.{number_is};
 
-use crate::blocks::NumberReply;
 use bsii_parse::reading::tree_parser;
-use bsii_parse::walk::Walked;
+use bsii_string::answers::Refusal;
 use bsii_table::clear;
 
 // 1 if no prototype id is defined twice, else 0: there are as many rows as prototypes then.
-pub fn defines_once(file: &[u8], table: &mut [u32]) -> NumberReply
+pub fn defines_once(file: &[u8], table: &mut [u32]) -> Result<usize, Refusal>
     ensures reply { number_is result ≡ defines_once_call (length table.old) file.now }
     ensures zeros { table.new ≡ table_after table.old }
 {
-    let walked = tree_parser(file, table);
+    let read = tree_parser(file, table);
     clear(table);
-    match walked {
-        Walked::Fault(f) => NumberReply::Refused(f),
-        Walked::Done(t) => {
-            if t.prototypes == t.rows {
-                return NumberReply::Number(1);
-            }
-            NumberReply::Number(0)
-        }
-    }
+    let totals = read?;
+    Ok(usize::from(totals.prototypes == totals.rows))
 }

@@ -1,1 +1,3 @@
+-- Laws of the field call.
 pub mod FieldCalls
+pub mod Parts

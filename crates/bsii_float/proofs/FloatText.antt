@@ -1,5 +1,5 @@
 -- The whole numbers among the floats: when a fraction is one, and what the text of a float is by the fields of its bits.
-use Rattle.std.proofs.Common.{◌≡◌, ℕ, ◌-◌, ◌*◌, ◌/◌, ◌%◌, ◌^◌, ◌<◌, ◌≤◌, Bool, true, false, cond, ◌&&◌, eqb, leb, List, sym, refl, ap, ◌∙◌, ⊎_elim, lt_of_lt_of_le, add-zero, mod-eq_of_lt, eq-zero-or-pos, mul-le-mul, eq-or-lt_of_le, div-add-mod', mul_right_comm, div-one, arith, pow_pos, pow_mono, eq-eqb, ne_eqb, le-leb}
+use Rattle.std.proofs.Common.{◌≡◌, ℕ, ◌-◌, ◌*◌, ◌/◌, ◌%◌, ◌^◌, ◌<◌, ◌≤◌, Bool, true, false, cond, ◌&&◌, eqb, leb, List, sym, refl, ap, ◌∙◌, ⊎_elim, lt_of_lt_of_le, add-zero, mod-eq_of_lt, eq-zero-or-pos, mul-le-mul, eq-or-lt_of_le, div-add-mod', mul_right_comm, div-one, one-mul, arith, shl_exact, pow_pos, pow_mono, eq-eqb, ne_eqb, le-leb}
 use native.Mathlib.Nat.{eq_of_mul-eq-mul_right, zero-mod, zero-div}
 use lib.Ieee.{Float, nan, inf, fin, binary32, up, down, of_bits}
 use lib.Ieee.Fits.{down_pos}
@@ -91,6 +91,10 @@ above_text b h =
     ∙ too_large b (negative b) (significand b * 2 ^ (field b - 150)) 1
     (rw (div-one (significand b * 2 ^ (field b - 150))) (lt_of_lt_of_le {m = 0x80_0000 * 2} (omega arith) (mul-le-mul {n₁ = 0x80_0000} {m₁ = 2} {n₂ = significand b} {m₂ = 2 ^ (field b - 150)} (omega arith) (pow_mono k)))))
     (eq-or-lt_of_le (let q : field b ≤ 255 = omega arith in q))
+
+-- 2 ^ n as it is computed
+pub unit_is : (n : ℕ) → n < 31 → 1 * 2 ^ n % 0x1_0000_0000 ≡ 2 ^ n
+unit_is n h = shl_exact {a = 1} 1 n 32 (omega arith) (omega arith) ∙ one-mul (2 ^ n)
 
 -- u is the significand's unit in 1
 module _ (b u : ℕ) (lo : 127 ≤ field b) (hi : field b ≤ 150) (e : u ≡ 2 ^ (150 - field b)) where

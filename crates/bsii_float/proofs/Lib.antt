@@ -5,3 +5,4 @@ pub mod Value
 pub mod FloatText
 pub mod Coefficient
 pub mod Sums
+pub mod Rows

@@ -6,7 +6,6 @@ ghost use Rattle.bsii_format.specs.Floats.{floor_mod, floor_div, coefficient as 
 ghost use Rattle.bsii_float.specs.Cut.{cut_size};
 
 use crate::floats::{bits_of, float_of};
-use crate::whole::power_of_two;
 
 #[derive(Drop)]
 pub struct Sectors {
@@ -21,19 +20,13 @@ fn cut_size(bits: u32) -> u32
 {
     let field = bits % 0x8000_0000 / 0x80_0000;
     let significand = 0x80_0000 + bits % 0x80_0000;
-    if field < 127 {
-        return 0;
+    match field {
+        0..127 => 0,
+        127..150 => significand >> (150 - field),
+        150..158 => significand << (field - 150),
+        _ if 0x7f80_0000 < bits % 0x8000_0000 => 0,
+        _ => 0x8000_0000,
     }
-    if field < 150 {
-        return significand / power_of_two(150 - field);
-    }
-    if field < 158 {
-        return significand * power_of_two(field - 150);
-    }
-    if 0x7f80_0000 < bits % 0x8000_0000 {
-        return 0;
-    }
-    0x8000_0000
 }
 
 // The i32, as its two's complement.
@@ -42,15 +35,10 @@ fn coefficient(bits: u32) -> u32
 {
     let size = cut_size(bits);
     if bits < 0x8000_0000 {
-        if size < 0x8000_0000 {
-            return size;
-        }
-        return 0x7fff_ffff;
+        size.min(0x7fff_ffff)
+    } else {
+        size.wrapping_neg()
     }
-    if size == 0 {
-        return 0;
-    }
-    0xffff_ffff - (size - 1)
 }
 
 // The sectors of the two coordinates, from the bits of the float that holds both.
@@ -75,10 +63,7 @@ pub fn sector_sum(f: f32, k: u32) -> f32
 pub fn quiet(bits: u32) -> u32
     ensures { result ≡ quieted bits }
 {
-    if bits / 0x40_0000 % 2 == 0 {
-        return bits + 0x40_0000;
-    }
-    bits
+    bits | 0x40_0000
 }
 
 // The bits of a coordinate in its sector.

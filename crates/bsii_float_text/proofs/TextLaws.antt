@@ -1,28 +1,21 @@
 -- The parts of a value that is made of several numbers, and what bits that were made floats are in the text.
-use Prim.Native.Nat.{ℕ, ◌<◌}
-use mathlib.Core.Path.{◌≡◌, refl, ap, ap₂, ◌∙◌}
-use mathlib.Core.List.{List, ◌++◌, append_assoc}
-use native.Mathlib.Omega.{arith}
-use lib.IntN.{ℤ, pos, negsuc}
-use lib.Ieee.{Float}
+use Rattle.std.proofs.Common.{◌≡◌, ℕ, ◌<◌, zero, suc, ◌+◌, ◌≤◌, List, [], ◌∷◌, ◌++◌, length, get_or, take, drop, map, refl, sym, ap, ap₂, ◌∙◌, ℤ, pos, negsuc, append_assoc, add-one, arith}
+use lib.Ieee.{Float, nan, binary32, of_bits}
+use Rattle.std.specs.List.{All, range_with_len}
+use Rattle.std.proofs.lemmas.List.{take-map, drop-map}
+use Rattle.std.proofs.lemmas.List.Elements.{All-take, All-drop, All-get_or, All-from_get_or}
 use Rattle.bsii_format.specs.Ascii.{ascii}
-use Rattle.bsii_format.specs.Floats.{float_text, vec2_text, vec3_text, vec4_text, coefficient, floor_mod, floor_div, placement_text, vec7_text, quieted}
-use Rattle.bsii_float.specs.Bits.{bits_of, vec2_of, vec3_of, vec4_of, vec7_of, placement_of}
-use Rattle.bsii_float.specs.declared.floats.Vec2.{Vec2}
-use Rattle.bsii_float.specs.declared.floats.Bits2.{Bits2}
-use Rattle.bsii_float.specs.declared.floats.Vec3.{Vec3}
-use Rattle.bsii_float.specs.declared.floats.Bits3.{Bits3}
-use Rattle.bsii_float.specs.declared.floats.Vec4.{Vec4}
-use Rattle.bsii_float.specs.declared.floats.Bits4.{Bits4}
-use Rattle.bsii_float.specs.declared.floats.Vec7.{Vec7}
-use Rattle.bsii_float.specs.declared.floats.Bits7.{Bits7}
-use Rattle.bsii_float.specs.declared.floats.Placement.{Placement}
-use Rattle.bsii_float.specs.declared.floats.PlacementBits.{PlacementBits}
+use Rattle.bsii_format.specs.Floats.{float_text, vec2_text, vec3_text, vec4_text, vec7_text, placement_text, coefficient, floor_mod, floor_div, quieted}
+use Rattle.bsii_float.specs.Bits.{bits_of, floats_of}
+use Rattle.bsii_float.specs.declared.floats.Floats.{Floats}
+use Rattle.bsii_float.specs.declared.floats.Bits.{Bits}
+use Rattle.bsii_float.specs.Texts.{row_text, floats_text}
+use Rattle.bsii_float.proofs.Bits.{bits_back}
+use Rattle.bsii_float.proofs.Rows.{spelled}
+use Rattle.bsii_float.proofs.Sums.{sum_text}
 use Rattle.bsii_window.specs.Stored.{Stored}
 use Rattle.bsii_window.proofs.Stores.{stored_then, stored_being}
-use Rattle.bsii_float.proofs.Bits.{bits_back}
-use Rattle.bsii_float.proofs.Sums.{sum_text}
-use Rattle.bsii_float_text.specs.Floats.{vec2_with, vec3_with, vec4_with, vec7_with, in_sector, position_of, position_bits, placement_with, bits2_text, bits3_text, bits4_text, bits7_text, placement_bits_text}
+use Rattle.bsii_float_text.specs.Floats.{float_with, texts_with, mark, row_with, vec7_with, in_sector, position_of, position_bits, placement_with}
 
 -- ---- parts as they are written
 
@@ -48,66 +41,104 @@ module _ (a b : List ℕ) where
   unfolding vec4_text
   vec4_parts c d = four (ascii "(") a (ascii "; ") b (ascii ", ") c (ascii ", ") d (ascii ")")
 
--- a position by its sector
-pub position_parts : (v : Placement) (w : PlacementBits) {n x z : ℕ} {p q : Float} → n ≡ bits_of v.d w.d → x ≡ floor_mod (coefficient n) 4096 → z ≡ floor_mod (floor_div (coefficient n) 4096) 4096
-    → p ≡ in_sector v.a x → q ≡ in_sector v.c z → ◌≡◌ {A = Vec3} (record { a = p; b = v.b; c = q }) (position_of v w)
-position_parts v w e f g h k = rw (h, k, f, g, e) refl
+-- ---- floats one by one
 
--- the bits beside it
-pub quiet_parts : (w : PlacementBits) {x z : ℕ} → x ≡ quieted w.a → z ≡ quieted w.c → ◌≡◌ {A = Bits3} (record { a = x; b = w.b; c = z }) (position_bits w)
-quiet_parts w e f = rw (e, f) refl
+-- what stands before the closing bracket when the first i of n are written
+abbrev pub front : ℕ → ℕ → List Float → List ℕ → List ℕ
+front n zero v w = []
+front n (suc i) v w = front n i v w ++ (mark n i ++ float_with (get_or v i nan) (get_or w i 0))
+
+-- one more, of which the mark and the float are stored
+pub front_more : {old mid new last : List ℕ} {at p q r : ℕ} (n i m : ℕ) (v : List Float) (w : List ℕ)
+    → Stored old at (front n i v w) p mid → Stored mid p (mark n i) q new → Stored new q (float_text m) r last → m ≡ bits_of (get_or v i nan) (get_or w i 0)
+    → Stored old at (front n (i + 1) v w) r last
+front_more n i m v w f g h e = stored_being (ap (λ (k : ℕ). front n k v w) (sym (add-one i))) (stored_then f (stored_then g (stored_being (ap float_text e) h)))
+
+-- and all of them
+pub row_front : (n : ℕ) (v : List Float) (w : List ℕ) → length v ≡ n → length w ≡ n → 2 ≤ n → n ≤ 4 → front n n v w ++ ascii ")" ≡ row_with v w
+unfolding row_with
+row_front zero v w e f l h = absurd (omega arith)
+row_front (suc zero) v w e f l h = absurd (omega arith)
+row_front (suc (suc zero)) v w e f l h = vec2_parts _ _ ∙ sym (ap₂ row_with (spelled nan 2 v e) (spelled 0 2 w f))
+row_front (suc (suc (suc zero))) v w e f l h = vec3_parts _ _ _ ∙ sym (ap₂ row_with (spelled nan 3 v e) (spelled 0 3 w f))
+row_front (suc (suc (suc (suc zero)))) v w e f l h = vec4_parts _ _ _ _ ∙ sym (ap₂ row_with (spelled nan 4 v e) (spelled 0 4 w f))
+row_front (suc (suc (suc (suc (suc n))))) v w e f l h = absurd (omega arith)
+
+-- ---- placements
+
+-- three of seven, a space, four
+pub seven_parts : (v : List Float) (w : List ℕ) → length v ≡ 7 → length w ≡ 7 → vec7_with (map (λ k. get_or v k nan) (range_with_len 0 7)) (map (λ k. get_or w k 0) (range_with_len 0 7)) ≡ vec7_with v w
+seven_parts v w e f = sym (ap₂ vec7_with (spelled nan 7 v e) (spelled 0 7 w f))
+
+-- three of eight with their sums, a space, the four behind the sector
+module _ (v : List Float) (w : List ℕ) (e : length v ≡ 8) (f : length w ≡ 8) where
+  abbrev turn : List Float
+  turn = get_or v 4 nan ∷ get_or v 5 nan ∷ get_or v 6 nan ∷ get_or v 7 nan ∷ []
+
+  abbrev turn_bits : List ℕ
+  turn_bits = get_or w 4 0 ∷ get_or w 5 0 ∷ get_or w 6 0 ∷ get_or w 7 0 ∷ []
+
+  pub eight_parts : {n x z k m : ℕ} {p q : Float} → n ≡ bits_of (get_or v 3 nan) (get_or w 3 0) → x ≡ floor_mod (coefficient n) 4096 → z ≡ floor_mod (floor_div (coefficient n) 4096) 4096
+      → p ≡ in_sector (get_or v 0 nan) x → q ≡ in_sector (get_or v 2 nan) z → k ≡ quieted (get_or w 0 0) → m ≡ quieted (get_or w 2 0)
+      → row_with (p ∷ get_or v 1 nan ∷ q ∷ []) (k ∷ get_or w 1 0 ∷ m ∷ []) ++ ascii " " ++ row_with turn turn_bits ≡ placement_with v w
+  unfolding placement_with
+  eight_parts a b c g h i j =
+      rw (g, h, b, c, a, i, j)
+      (ap₂ (λ (x : List Float) (y : List ℕ). row_with (position_of v w) (position_bits w) ++ ascii " " ++ row_with x y)
+      (sym (ap (drop 4) (spelled nan 8 v e))) (sym (ap (drop 4) (spelled 0 8 w f))))
 
 -- ---- bits that were made floats, and stand beside them, come back
 
-pub vec2_back : {x : Vec2} {v w : Bits2} → x ≡ vec2_of v → v ≡ w → v.a < 0x1_0000_0000 → v.b < 0x1_0000_0000 → vec2_with x v ≡ bits2_text w
-unfolding vec2_with
-vec2_back {v = v} e z h k = ap (λ x. vec2_with x v) e ∙ cc (bits_back v.a h, bits_back v.b k) ∙ ap bits2_text z
+abbrev Words : List ℕ → Type 0
+Words l = All (λ n. n < 0x1_0000_0000) l
 
-pub vec3_back : {x : Vec3} {v w : Bits3} → x ≡ vec3_of v → v ≡ w → v.a < 0x1_0000_0000 → v.b < 0x1_0000_0000 → v.c < 0x1_0000_0000 → vec3_with x v ≡ bits3_text w
-unfolding vec3_with
-vec3_back {v = v} e z h k l = ap (λ x. vec3_with x v) e ∙ cc (bits_back v.a h, bits_back v.b k, bits_back v.c l) ∙ ap bits3_text z
+texts_back : (l : List ℕ) → Words l → texts_with (map (of_bits binary32) l) l ≡ map float_text l
+texts_back [] h = refl
+texts_back (n ∷ l) h = ap₂ (λ (x : List ℕ) (y : List (List ℕ)). x ∷ y) (ap float_text (bits_back n (h 0 0 (omega arith)))) (texts_back l (All-drop (λ n. n < 0x1_0000_0000) 1 (n ∷ l) h))
 
-pub vec4_back : {x : Vec4} {v w : Bits4} → x ≡ vec4_of v → v ≡ w → v.a < 0x1_0000_0000 → v.b < 0x1_0000_0000 → v.c < 0x1_0000_0000 → v.d < 0x1_0000_0000
-    → vec4_with x v ≡ bits4_text w
-unfolding vec4_with
-vec4_back {v = v} e z h k l m = ap (λ x. vec4_with x v) e ∙ cc (bits_back v.a h, bits_back v.b k, bits_back v.c l, bits_back v.d m) ∙ ap bits4_text z
+made_row : (l : List ℕ) → Words l → row_with (map (of_bits binary32) l) l ≡ floats_text l
+unfolding row_with
+made_row l h = ap row_text (texts_back l h)
 
-pub vec7_back : {x : Vec7} {v w : Bits7} → x ≡ vec7_of v → v ≡ w → v.a < 0x1_0000_0000 → v.b < 0x1_0000_0000 → v.c < 0x1_0000_0000
-    → v.d < 0x1_0000_0000 → v.e < 0x1_0000_0000 → v.f < 0x1_0000_0000 → v.g < 0x1_0000_0000 → vec7_with x v ≡ bits7_text w
+made_seven : (l : List ℕ) → length l ≡ 7 → Words l → vec7_with (map (of_bits binary32) l) l ≡ vec7_text l
 unfolding vec7_with vec7_text
-vec7_back {v = v} i z a b c d e f g =
-    ap (λ x. vec7_with x v) i
-    ∙ ap₂ (λ (x y : List ℕ). x ++ ascii " " ++ y) (vec3_back {v = record { a = v.a; b = v.b; c = v.c }} refl refl a b c)
-    (vec4_back {v = record { a = v.d; b = v.e; c = v.f; d = v.g }} refl refl d e f g)
-    ∙ ap bits7_text z
+made_seven l e h =
+    rw (take-map (of_bits binary32) 3 l, drop-map (of_bits binary32) 3 l)
+    (ap₂ (λ (x y : List ℕ). x ++ ascii " " ++ y) (made_row (take 3 l) (All-take (λ n. n < 0x1_0000_0000) 3 l h)) (made_row (drop 3 l) (All-drop (λ n. n < 0x1_0000_0000) 3 l h))
+    ∙ ap (λ (l : List ℕ). floats_text (take 3 l) ++ ascii " " ++ floats_text (drop 3 l)) (spelled 0 7 l e))
 
 sector_below : (c : ℤ) → floor_mod c 4096 < 4096
 unfolding floor_mod
 sector_below (pos n) = omega arith
 sector_below (negsuc n) = omega arith
 
-placement_bits : (v : PlacementBits) → v.b < 0x1_0000_0000 → v.d < 0x1_0000_0000 → v.e < 0x1_0000_0000 → v.f < 0x1_0000_0000 → v.g < 0x1_0000_0000 → v.h < 0x1_0000_0000
-    → placement_with (placement_of v) v ≡ placement_bits_text v
-unfolding placement_with vec3_with vec4_with placement_text
-placement_bits v b d e f g h =
-    let c = coefficient v.d in
-    cc (
-      bits_back v.b b,
-      bits_back v.d d,
-      bits_back v.e e,
-      bits_back v.f f,
-      bits_back v.g g,
-      bits_back v.h h,
-      sum_text v.a (floor_mod c 4096) (sector_below c),
-      sum_text v.c (floor_mod (floor_div c 4096) 4096) (sector_below (floor_div c 4096)),
+made_placement : (l : List ℕ) → length l ≡ 8 → Words l → placement_with (map (of_bits binary32) l) l ≡ placement_text l
+unfolding placement_with placement_text row_with
+made_placement l e h =
+    let c = coefficient (get_or l 3 0) in
+    let back : (k : ℕ) → k < 8 → bits_of (of_bits binary32 (get_or l k 0)) (get_or l k 0) ≡ get_or l k 0 =
+    λ k b. bits_back (get_or l k 0) (All-get_or (λ n. n < 0x1_0000_0000) l k 0 (omega (arith, e, b)) h) in
+    ap (λ (l : List ℕ). placement_with (map (of_bits binary32) l) l) (spelled 0 8 l e)
+    ∙ cc (
+      back 1 (omega arith),
+      back 3 (omega arith),
+      back 4 (omega arith),
+      back 5 (omega arith),
+      back 6 (omega arith),
+      back 7 (omega arith),
+      sum_text (get_or l 0 0) (floor_mod c 4096) (sector_below c),
+      sum_text (get_or l 2 0) (floor_mod (floor_div c 4096) 4096) (sector_below (floor_div c 4096)),
     )
 
-pub placement_back : {x : Placement} {v w : PlacementBits} → x ≡ placement_of v → v ≡ w
-    → v.b < 0x1_0000_0000 → v.d < 0x1_0000_0000 → v.e < 0x1_0000_0000 → v.f < 0x1_0000_0000 → v.g < 0x1_0000_0000 → v.h < 0x1_0000_0000
-    → placement_with x v ≡ placement_bits_text w
-placement_back {v = v} i z b d e f g h = ap (λ x. placement_with x v) i ∙ placement_bits v b d e f g h ∙ ap placement_bits_text z
+words : (l : List ℕ) → ((k : ℕ) → get_or l k 0 < 0x1_0000_0000) → Words l
+words l h = All-from_get_or (λ n. n < 0x1_0000_0000) l 0 (λ k b. h k)
 
--- ---- a float behind what stands before it
+module _ {n : ℕ} {x : Floats n} (v : Bits n) (e : x ≡ floats_of v) (h : (k : ℕ) → get_or v.items k 0 < 0x1_0000_0000) where
+  pub row_back : row_with x.items v.items ≡ floats_text v.items
+  row_back = ap (λ (x : Floats n). row_with x.items v.items) e ∙ made_row v.items (words v.items h)
 
-pub float_behind : {old mid new x : List ℕ} {at p r n m : ℕ} → Stored old at x p mid → Stored mid p (float_text n) r new → n ≡ m → Stored old at (x ++ float_text m) r new
-float_behind {x = x} f g e = stored_being (ap (λ (n : ℕ). x ++ float_text n) e) (stored_then f g)
+  pub vec7_back : length v.items ≡ 7 → vec7_with x.items v.items ≡ vec7_text v.items
+  vec7_back l = ap (λ (x : Floats n). vec7_with x.items v.items) e ∙ made_seven v.items l (words v.items h)
+
+  pub placement_back : length v.items ≡ 8 → placement_with x.items v.items ≡ placement_text v.items
+  placement_back l = ap (λ (x : Floats n). placement_with x.items v.items) e ∙ made_placement v.items l (words v.items h)

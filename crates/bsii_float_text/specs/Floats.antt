@@ -1,72 +1,47 @@
 -- The texts of floats, each beside the bits that stand in where it is a NaN.
-use Rattle.std.specs.Prelude.{ℕ, List, [], ◌∷◌, ◌++◌, Float}
-use Rattle.std.specs.Float.{binary32}
+use Rattle.std.specs.Prelude.{ℕ, zero, suc, cond, eqb, List, [], ◌∷◌, ◌++◌, get_or, take, drop, Float}
+use Rattle.std.specs.Float.{binary32, nan}
 use Rattle.std.specs.Float.Ieee.{add, of_int}
 use Rattle.bsii_format.specs.Ascii.{ascii}
-use Rattle.bsii_format.specs.Floats.{float_text, vec2_text, vec3_text, vec4_text, vec7_text, placement_text, floor_mod, floor_div, coefficient, sector_offset, quieted}
+use Rattle.bsii_format.specs.Floats.{float_text, floor_mod, floor_div, coefficient, sector_offset, quieted}
 use Rattle.bsii_float.specs.Bits.{bits_of}
-use Rattle.bsii_float.specs.declared.floats.Vec2.{Vec2}
-use Rattle.bsii_float.specs.declared.floats.Bits2.{Bits2}
-use Rattle.bsii_float.specs.declared.floats.Vec3.{Vec3}
-use Rattle.bsii_float.specs.declared.floats.Bits3.{Bits3}
-use Rattle.bsii_float.specs.declared.floats.Vec4.{Vec4}
-use Rattle.bsii_float.specs.declared.floats.Bits4.{Bits4}
-use Rattle.bsii_float.specs.declared.floats.Vec7.{Vec7}
-use Rattle.bsii_float.specs.declared.floats.Bits7.{Bits7}
-use Rattle.bsii_float.specs.declared.floats.Placement.{Placement}
-use Rattle.bsii_float.specs.declared.floats.PlacementBits.{PlacementBits}
+use Rattle.bsii_float.specs.Texts.{row_text}
 
 abbrev pub float_with : Float → ℕ → List ℕ
 float_with f n = float_text (bits_of f n)
 
-unfoldable pub vec2_with : Vec2 → Bits2 → List ℕ
-vec2_with v n = vec2_text (float_with v.a n.a) (float_with v.b n.b)
+-- the texts of floats, one by one
+abbrev pub texts_with : List Float → List ℕ → List (List ℕ)
+texts_with [] l = []
+texts_with (f ∷ fs) [] = []
+texts_with (f ∷ fs) (n ∷ ns) = float_with f n ∷ texts_with fs ns
 
-unfoldable pub vec3_with : Vec3 → Bits3 → List ℕ
-vec3_with v n = vec3_text (float_with v.a n.a) (float_with v.b n.b) (float_with v.c n.c)
+-- two, three or four floats
+unfoldable pub row_with : List Float → List ℕ → List ℕ
+row_with v n = row_text (texts_with v n)
 
-unfoldable pub vec4_with : Vec4 → Bits4 → List ℕ
-vec4_with v n = vec4_text (float_with v.a n.a) (float_with v.b n.b) (float_with v.c n.c) (float_with v.d n.d)
+-- what stands before the float at an index, of so many: four have `; ` before the second
+abbrev pub mark : ℕ → ℕ → List ℕ
+mark n zero = ascii "("
+mark n (suc zero) = cond (eqb n 4) (ascii "; ") (ascii ", ")
+mark n (suc (suc i)) = ascii ", "
 
-unfoldable pub vec7_with : Vec7 → Bits7 → List ℕ
-vec7_with v n =
-    vec3_with (record { a = v.a; b = v.b; c = v.c }) (record { a = n.a; b = n.b; c = n.c })
-    ++ ascii " " ++ vec4_with (record { a = v.d; b = v.e; c = v.f; d = v.g }) (record { a = n.d; b = n.e; c = n.f; d = n.g })
+-- a placement of version 1, as it stands
+unfoldable pub vec7_with : List Float → List ℕ → List ℕ
+vec7_with v n = row_with (take 3 v) (take 3 n) ++ ascii " " ++ row_with (drop 3 v) (drop 3 n)
 
 -- a coordinate in a sector
 abbrev pub in_sector : Float → ℕ → Float
 in_sector f k = add binary32 f (of_int binary32 (sector_offset k))
 
 -- the position with its sector, and the bits of NaNs there
-abbrev pub position_of : Placement → PlacementBits → Vec3
+abbrev pub position_of : List Float → List ℕ → List Float
 position_of v n =
-    let c = coefficient (bits_of v.d n.d) in
-    record { a = in_sector v.a (floor_mod c 4096); b = v.b; c = in_sector v.c (floor_mod (floor_div c 4096) 4096) }
+    let c = coefficient (bits_of (get_or v 3 nan) (get_or n 3 0)) in
+    in_sector (get_or v 0 nan) (floor_mod c 4096) ∷ get_or v 1 nan ∷ in_sector (get_or v 2 nan) (floor_mod (floor_div c 4096) 4096) ∷ []
 
-abbrev pub position_bits : PlacementBits → Bits3
-position_bits n = record { a = quieted n.a; b = n.b; c = quieted n.c }
+abbrev pub position_bits : List ℕ → List ℕ
+position_bits n = quieted (get_or n 0 0) ∷ get_or n 1 0 ∷ quieted (get_or n 2 0) ∷ []
 
-abbrev pub rotation_of : Placement → Vec4
-rotation_of v = record { a = v.e; b = v.f; c = v.g; d = v.h }
-
-abbrev pub rotation_bits : PlacementBits → Bits4
-rotation_bits n = record { a = n.e; b = n.f; c = n.g; d = n.h }
-
-unfoldable pub placement_with : Placement → PlacementBits → List ℕ
-placement_with v n = vec3_with (position_of v n) (position_bits n) ++ ascii " " ++ vec4_with (rotation_of v) (rotation_bits n)
-
--- the texts of bits
-abbrev pub bits2_text : Bits2 → List ℕ
-bits2_text v = vec2_text (float_text v.a) (float_text v.b)
-
-abbrev pub bits3_text : Bits3 → List ℕ
-bits3_text v = vec3_text (float_text v.a) (float_text v.b) (float_text v.c)
-
-abbrev pub bits4_text : Bits4 → List ℕ
-bits4_text v = vec4_text (float_text v.a) (float_text v.b) (float_text v.c) (float_text v.d)
-
-abbrev pub bits7_text : Bits7 → List ℕ
-bits7_text v = vec7_text (v.a ∷ v.b ∷ v.c ∷ v.d ∷ v.e ∷ v.f ∷ v.g ∷ [])
-
-abbrev pub placement_bits_text : PlacementBits → List ℕ
-placement_bits_text v = placement_text (v.a ∷ v.b ∷ v.c ∷ v.d ∷ v.e ∷ v.f ∷ v.g ∷ v.h ∷ [])
+unfoldable pub placement_with : List Float → List ℕ → List ℕ
+placement_with v n = row_with (position_of v n) (position_bits n) ++ ascii " " ++ row_with (drop 4 v) (drop 4 n)

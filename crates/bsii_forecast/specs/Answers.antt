@@ -2,15 +2,16 @@
 use Rattle.bsii_format.specs.Replies.{Reply, gives, refuses}
 use Rattle.bsii_derived.specs.Forecast as derived
 use Rattle.bsii_string.specs.Answers.{fault_is}
-use Rattle.bsii_forecast.specs.declared.answers.ForecastReply.{ForecastReply}
-use Rattle.bsii_forecast.specs.declared.answers.ForecastReply.TheVariants.{Forecast, Refused}
+use Rattle.bsii_string.specs.declared.answers.Refusal.{Refusal}
+use Rattle.bsii_forecast.specs.declared.answers.Forecast.{Forecast}
+use Rattle.std.specs.Prelude.{Ok, Err, Result as Outcome}
 
-abbrev pub forecast_is : ForecastReply → Reply derived.Forecast
-forecast_is (Forecast a) = gives (record {
+abbrev pub forecast_is : Outcome Forecast Refusal → Reply derived.Forecast
+forecast_is (Ok a) = gives (record {
   table_words = a.table_words;
   text_length = a.text_length;
   index_length = a.index_length;
   largest_block = a.largest_block;
   steps = a.steps;
 })
-forecast_is (Refused f) = refuses (fault_is f)
+forecast_is (Err f) = refuses (fault_is f)

@@ -1,5 +1,5 @@
 -- What is foreseen of a file.
-use Rattle.std.specs.Prelude.{◌≡◌, ℕ, ◌/◌, List, [], length, drop}
+use Rattle.std.specs.Prelude.{◌≡◌, ℕ, ◌/◌, List, [], length, drop, Ok, Err, Result as Outcome}
 use Rattle.bsii_format.specs.Replies.{gives, refuses}
 use Rattle.bsii_format.specs.Reader.{ok}
 use Rattle.bsii_format.specs.File.{BsiiFile, distinct_ids, prototypes_of, parse}
@@ -11,8 +11,6 @@ use Rattle.bsii_string.specs.Answers.{fault_is}
 use Rattle.bsii_string.specs.declared.answers.Refusal.{Refusal}
 use Rattle.bsii_walk.specs.Seek.{WalkAt}
 use Rattle.bsii_forecast.specs.declared.answers.Figures.{Figures}
-use Rattle.bsii_forecast.specs.declared.answers.Foreseen.{Foreseen}
-use Rattle.bsii_forecast.specs.declared.answers.Foreseen.TheVariants.{Figures as Told, Refused}
 
 -- of a file with the text x
 abbrev pub figures_of : BsiiFile → List ℕ → Figures
@@ -26,8 +24,8 @@ figures_of f x = record {
 }
 
 -- the figures of the file and its text, with a table fit for the walk that writes it; or the refusal of the file or of its text
-pub data Foresees (s t : List ℕ) : Foreseen → List ℕ → Type 0 where
+pub data Foresees (s t : List ℕ) : Outcome Figures Refusal → List ℕ → Type 0 where
   foreseen : (f : BsiiFile) {n : ℕ} (x : List ℕ) {t' : List ℕ} → parse (length t) s ≡ ok f n (drop n s) → file_text value_text every_block f ≡ gives x
       → WalkAt f.header.value s (length t / 3) (distinct_ids (prototypes_of f.records)) (prototypes_of f.records) t' 8 [] f.records → length t' ≡ length t
-      → Foresees s t (Told (figures_of f x)) t'
-  unforeseen : {f : Refusal} {t' : List ℕ} → text_of (length t) s ≡ refuses (fault_is f) → length t' ≡ length t → Foresees s t (Refused f) t'
+      → Foresees s t (Ok (figures_of f x)) t'
+  unforeseen : {f : Refusal} {t' : List ℕ} → text_of (length t) s ≡ refuses (fault_is f) → length t' ≡ length t → Foresees s t (Err f) t'

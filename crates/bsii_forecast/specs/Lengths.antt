@@ -1,5 +1,5 @@
 -- The length of the text of a file that was read.
-use Rattle.std.specs.Prelude.{◌≡◌, ℕ, ◌<◌, Bool, List, [], length}
+use Rattle.std.specs.Prelude.{◌≡◌, ℕ, ◌<◌, Bool, List, [], length, Ok, Err, Result as Outcome}
 use Rattle.std.proofs.Math.Option.{Option}
 use Rattle.bsii_format.specs.Replies.{Reply, gives, refuses}
 use Rattle.bsii_format.specs.Values.{Value}
@@ -12,12 +12,11 @@ use Rattle.bsii_parse.specs.declared.walk.Totals.{Totals}
 use Rattle.bsii_walk.specs.Seek.{WalkAt}
 use Rattle.bsii_measure_block.specs.Sums.{measure_of, sum_is}
 use Rattle.bsii_measure_block.specs.declared.sums.Sum.{Sum}
-use Rattle.bsii_forecast.specs.declared.length.TextLength.{TextLength}
-use Rattle.bsii_forecast.specs.declared.length.TextLength.TheVariants.{Length, Refused}
+use Rattle.bsii_string.specs.declared.answers.Refusal.{Refusal}
 
-abbrev pub length_is : TextLength → Reply ℕ
-length_is (Length n) = gives n
-length_is (Refused f) = refuses (fault_is f)
+abbrev pub length_is : Outcome ℕ Refusal → Reply ℕ
+length_is (Ok n) = gives n
+length_is (Err f) = refuses (fault_is f)
 
 -- `text` gives the lines of a value: `value_text` in the text call. `prints` tells of a block and the records behind it whether it is in the text:
 -- `every_block` in the text call.
@@ -31,15 +30,15 @@ module _ (text : ValuePrototype → Value → Option (List ℕ)) (prints : DataB
   Bounded last l = (x : List ℕ) → framed_text last l ≡ gives x → length x < 0x4000_0000_0000_0000
 
   -- the text's length or its refusal; with a length the table t is left fit for one more walk
-  pub record LengthIs (version : ℕ) (s : List ℕ) (rooms rows : ℕ) (last : List Prototype) (rest : List Record) (r : TextLength) (t : List ℕ) : Type 0 where
+  pub record LengthIs (version : ℕ) (s : List ℕ) (rooms rows : ℕ) (last : List Prototype) (rest : List Record) (r : Outcome ℕ Refusal) (t : List ℕ) : Type 0 where
     pub is : length_is r ≡ measure_of (framed_text last rest)
-    pub serves : (n : ℕ) → r ≡ Length n → WalkAt version s rooms rows last t 8 [] rest
+    pub serves : (n : ℕ) → r ≡ Ok n → WalkAt version s rooms rows last t 8 [] rest
 
-  pub record LengthRead (version : ℕ) (s t : List ℕ) (rows : ℕ) (r : TextLength) (t' : List ℕ) : Type 0 where
+  pub record LengthRead (version : ℕ) (s t : List ℕ) (rows : ℕ) (r : Outcome ℕ Refusal) (t' : List ℕ) : Type 0 where
     pub answers : (rooms : ℕ) (last : List Prototype) (rest : List Record) → WalkAt version s rooms rows last t 8 [] rest → Bounded last rest
         → LengthIs version s rooms rows last rest r t'
 
   -- the same, with a sum that is the text's where no id is defined again
-  pub record LengthTold (a : Totals) (s t : List ℕ) (sum : Sum) (r : TextLength) (t' : List ℕ) : Type 0 where
+  pub record LengthTold (a : Totals) (s t : List ℕ) (sum : Sum) (r : Outcome ℕ Refusal) (t' : List ℕ) : Type 0 where
     pub answers : (rooms : ℕ) (last : List Prototype) (rest : List Record) → WalkAt a.version s rooms a.rows last t 8 [] rest → Bounded last rest
         → (a.rows ≡ a.prototypes → sum_is sum.to sum.missing ≡ measure_of (framed_text last rest)) → LengthIs a.version s rooms a.rows last rest r t'

@@ -7,6 +7,7 @@ use mathlib.Core.Option.{Option, none, some, map}
 use mathlib.Core.List.{List, [], ◌∷◌, ◌++◌}
 use lib.ListN.{length, take, replicate, get_elem?, length-replicate}
 use lib.Dec.{T, leb, eqb, leb→le}
+use Rattle.bsii_format.specs.declared.Cause.{Cause}
 use Rattle.bsii_format.specs.Ascii.{ascii}
 use Rattle.bsii_format.specs.Replies.{Fault, refused, short, Reply, gives, refuses, refusal, invalid_header, not_utf8, zero_digit, undefined_prototype, unlisted_type, field_count, enum_value, table_full, output_short, input_long, absent, bad_mark}
 use Rattle.bsii_format.specs.Reader.{Result, ok, fault, fault_at, Consumed}
@@ -27,15 +28,15 @@ use Rattle.bsii_format.proofs.Refusals.{all_among, told_all, Told, value_only, p
 
 -- ---- no others
 
-pub more_within : (l k : List ℕ) → T (all_among l k) → {A : Type 0} (q : Reply A) → Within k q → Within l q
+pub more_within : (l k : List Cause) → T (all_among l k) → {A : Type 0} (q : Reply A) → Within k q → Within l q
 more_within l k h (gives a) t = tt
 more_within l k h (refuses f) t = told_all l k h f t
 
-module _ (l : List ℕ) where
-  pub or_within : {A : Type 0} (n at : ℕ) → T (among l n && counted (refused n 0)) → (o : Option A) → Within l (or_refuse n at o)
+module _ (l : List Cause) where
+  pub or_within : {A : Type 0} (c : Cause) (at : ℕ) → T (among l c && counted (refused c 0)) → (o : Option A) → Within l (or_refuse c at o)
   unfolding or_refuse
-  or_within n at h none = h
-  or_within n at h (some a) = tt
+  or_within c at h none = h
+  or_within c at h (some a) = tt
 
   -- a call that takes a file: the file's refusals are among its own, and so is what it makes of an accepted file
   pub call_within : {A : Type 0} (answer : BsiiFile → ℕ → Reply A) → T (all_among l file_numbers) → ((f : BsiiFile) (at : ℕ) → Within l (answer f at)) → (words : ℕ) (s : List ℕ)
@@ -60,7 +61,7 @@ element_within version t s i = go (value_parser version t 0 s) ((value_only vers
     go (fault x) h = unfold of_value in told_all element_numbers value_numbers tt x h
 
 -- of the text of a file that was read: 8 and 9, and 6, which no such file has
-abbrev pub print_numbers : List ℕ
+abbrev pub print_numbers : List Cause
 print_numbers = undefined_prototype ∷ field_count ∷ enum_value ∷ []
 
 cond_within : {A B : Type 0} (g : A → Reply B) (b : Bool) (x y : A) → Within print_numbers (g x) → Within print_numbers (g y) → Within print_numbers (g (cond b x y))
@@ -113,19 +114,19 @@ text_within words s out =
 
 -- ---- each of them
 
-abbrev pub given : {Q A : Type 0} {call : Q → Reply A} (q : Q) (f : Fault) → call q ≡ refuses f → Gives call f.number
-given q f e = record { question = q; fault = f; refused = e; numbered = refl }
+abbrev pub given : {Q A : Type 0} {call : Q → Reply A} (q : Q) (f : Fault) → call q ≡ refuses f → Gives call f.cause
+given q f e = record { question = q; fault = f; refused = e; caused = refl }
 
--- a table's words and a file, whose first fault has the number n
-record Faulty (n : ℕ) : Type 0 where
+-- a table's words and a file, whose first fault has the cause c
+record Faulty (c : Cause) : Type 0 where
   words : ℕ
   file : List ℕ
   first : Fault
   faulty : parse words file ≡ fault first
-  numbered : first.number ≡ n
+  caused : first.cause ≡ c
 
-abbrev faults : (words : ℕ) (file : List ℕ) (f : Fault) → parse words file ≡ fault f → Faulty f.number
-faults words file f e = record { words = words; file = file; first = f; faulty = e; numbered = refl }
+abbrev faults : (words : ℕ) (file : List ℕ) (f : Fault) → parse words file ≡ fault f → Faulty f.cause
+faults words file f e = record { words = words; file = file; first = f; faulty = e; caused = refl }
 
 pub parse_long : (words : ℕ) (s : List ℕ) → length_limit < length s → parse words s ≡ fault_at input_long 0
 unfolding parse
@@ -150,18 +151,18 @@ file_faults =
     also faults 3 (worked_with 12 2) (refused bad_mark 12) refl
     also nothing
 
-each_map : {P Q : ℕ → Type 0} → ((n : ℕ) → P n → Q n) → {l : List ℕ} → Each P l → Each Q l
+each_map : {P Q : Cause → Type 0} → ((c : Cause) → P c → Q c) → {l : List Cause} → Each P l → Each Q l
 each_map g nothing = nothing
 each_map g (h also k) = g _ h also each_map g k
 
-each_append : {P : ℕ → Type 0} {l k : List ℕ} → Each P l → Each P k → Each P (l ++ k)
+each_append : {P : Cause → Type 0} {l k : List Cause} → Each P l → Each P k → Each P (l ++ k)
 each_append nothing e = e
 each_append (h also d) e = h also each_append d e
 
 -- a call that hands the file's first fault on gives each of the file's refusals, and those of its own
 pub handed : {Q A : Type 0} {call : Q → Reply A} (ask : ℕ → List ℕ → Q) → ((words : ℕ) (s : List ℕ) (f : Fault) → parse words s ≡ fault f → call (ask words s) ≡ refuses f)
-    → {own : List ℕ} → Each (Gives call) own → Each (Gives call) (file_numbers ++ own)
-handed ask h own = each_append (each_map (λ n x. record { question = ask x.words x.file; fault = x.first; refused = h x.words x.file x.first x.faulty; numbered = x.numbered }) file_faults) own
+    → {own : List Cause} → Each (Gives call) own → Each (Gives call) (file_numbers ++ own)
+handed ask h own = each_append (each_map (λ c x. record { question = ask x.words x.file; fault = x.first; refused = h x.words x.file x.first x.faulty; caused = x.caused }) file_faults) own
 
 -- ---- the calls; a question is the number of table words, the file, and what else is asked
 

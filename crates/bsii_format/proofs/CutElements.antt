@@ -5,7 +5,7 @@ use native.Mathlib.Omega.{arith}
 use mathlib.Core.Option.{Option, none, some, map}
 use mathlib.Core.List.{List, ◌++◌}
 use lib.ListN.{length, get_elem?}
-use Rattle.bsii_format.specs.Replies.{Fault, short, gives, refuses}
+use Rattle.bsii_format.specs.Replies.{number_of, Fault, short, gives, refuses}
 use Rattle.bsii_format.specs.Reader.{Result, ok, fault}
 use Rattle.bsii_format.specs.Values.{Value, value_parser}
 use Rattle.bsii_format.specs.BlockText.{or_refuse}
@@ -17,7 +17,7 @@ use Rattle.bsii_format.proofs.ExtendedFiles.{value_extends}
 
 not_absent : (o : Option Datum) {at m : ℕ} {P : Type 0} → or_absent o ≡ refuses (short at m) → P
 unfolding or_refuse
-not_absent none e = absurd (omega (arith, ap (λ (x : Fault). x.number) (refuses_inj e)))
+not_absent none e = absurd (omega (arith, ap (λ (x : Fault). number_of x.cause) (refuses_inj e)))
 not_absent (some d) e = refuses≢gives (sym e)
 
 ran_out : (version t i : ℕ) (s : List ℕ) {at m : ℕ} → element_call version t s i ≡ refuses (short at m) → value_parser version t 0 s ≡ fault (short at m)

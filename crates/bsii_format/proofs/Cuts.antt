@@ -1,19 +1,21 @@
 -- The statements of specs/Cuts.antt, from what appended bytes change of a file's reading (proofs/ExtendedFiles.antt). A cut is a file to which the bytes that
--- were cut off are appended: what it reads whole, or refuses by another number than 3, the whole save would too.
+-- were cut off are appended: what it reads whole, or refuses by another cause than 3, the whole save would too.
 use mathlib.Core.Path.{◌≡◌, refl, sym, ap, ◌∙◌, subst}
 use Prim.Native.Nat.{ℕ, suc, ◌+◌, ◌*◌, ◌/◌, ◌≤◌, ◌<◌}
 use native.Mathlib.Nat.{le-div_iff_mul-le, zero-add}
-use native.Mathlib.Decide.{ℕ_discrete, dec_lt}
+use native.Mathlib.Decide.{dec_lt}
 use native.Mathlib.Omega.{arith}
 use mathlib.Core.List.{List, [], ◌++◌, append-nil}
 use lib.ListN.{length, take, drop, length-append, length-take, take-append-drop, length-drop}
 use lib.Seq.{length-take-le, take-append-le}
+use Rattle.bsii_format.specs.declared.Cause.{Cause}
 use Rattle.bsii_format.specs.Ascii.{ascii}
-use Rattle.bsii_format.specs.Replies.{malformed, invalid_header, Fault, short, gives, refuses}
+use Rattle.bsii_format.specs.Replies.{number_of, malformed, invalid_header, Fault, short, gives, refuses}
 use Rattle.bsii_format.specs.Reader.{Result, ok, fault, fault_at, ◌>>=◌, after, consumed, same, tag}
 use Rattle.bsii_format.specs.File.{header_parser, distinct_ids, prototypes_of, BsiiFile, bsii_parser, length_limit, parse, file_bytes}
 use Rattle.bsii_format.specs.Calls.{of_file, Reading, reading_of, reading_call}
 use Rattle.bsii_format.specs.Cuts.{LackingIsExact, OthersAreFinal, CutsAreShort}
+use Rattle.bsii_format.proofs.Causes.{cause_discrete}
 use Rattle.bsii_format.proofs.Readers.{fault≢ok, ok_at, fault_is_law, is_false, same→eq}
 use Rattle.bsii_format.proofs.ReplyLaws.{refuses≢gives, gives_inj, refuses_inj}
 use Rattle.bsii_format.proofs.File.{file_fits, file_good, parse_short, parse_ok}
@@ -54,7 +56,7 @@ module _ (words : ℕ) (s : List ℕ) where
   within e = go (dec_lt length_limit (length s))
     where
       go : Dec (length_limit < length s) → length s ≤ length_limit
-      go (yes h) = absurd (omega (arith, ap (λ (x : Fault). x.number) (fault_is_law (sym (parse_long words s h) ∙ faulty e))))
+      go (yes h) = absurd (omega (arith, ap (λ (x : Fault). number_of x.cause) (fault_is_law (sym (parse_long words s h) ∙ faulty e))))
       go (no h) = omega arith
 
 -- a file without the whole of `BSII` is refused by 1
@@ -69,7 +71,7 @@ lacks_header : (rooms : ℕ) (s : List ℕ) {at m : ℕ} → bsii_parser rooms 0
 lacks_header rooms s e = go (dec_lt (length s) 4)
   where
     go : Dec (length s < 4) → 4 ≤ length s
-    go (yes h) = absurd (omega (arith, ap (λ (x : Fault). x.number) (fault_is_law (sym (header_short rooms s h) ∙ e))))
+    go (yes h) = absurd (omega (arith, ap (λ (x : Fault). number_of x.cause) (fault_is_law (sym (header_short rooms s h) ∙ e))))
     go (no h) = omega arith
 
 cut_file : (rooms : ℕ) (s t : List ℕ) {x : Fault} → 4 ≤ length s → bsii_parser rooms 0 s ≡ fault x → Cut BsiiFile t x (bsii_parser rooms 0 (s ++ t))
@@ -92,8 +94,8 @@ others_are_final words s x e other four t h =
 
 -- ---- cuts
 
-as_short : (x : Fault) → x.number ≡ malformed → x ≡ short x.offset x.lacking
-as_short x e = ap (λ (n : ℕ). record { number = n; offset = x.offset; lacking = x.lacking }) e
+as_short : (x : Fault) → x.cause ≡ malformed → x ≡ short x.offset x.lacking
+as_short x e = ap (λ (c : Cause). record { cause = c; offset = x.offset; lacking = x.lacking }) e
 
 -- a cut inside what is read of a file, its end record included, runs out, in an item that stands in the file
 cut_short : (rooms : ℕ) (s : List ℕ) {f : BsiiFile} {at : ℕ} {r : List ℕ} → bsii_parser rooms 0 s ≡ ok f at r → (k : ℕ) → 4 ≤ k → k < at → k ≤ length s
@@ -104,11 +106,11 @@ cut_short rooms s {f} {at} {r} e k low high inside =
     whole : bsii_parser rooms 0 (take k s ++ drop k s) ≡ ok f at r
     whole = ap (bsii_parser rooms 0) (take-append-drop k s) ∙ e
 
-    numbered : (x : Fault) → Cut BsiiFile (drop k s) x (bsii_parser rooms 0 (take k s ++ drop k s)) → Dec (x.number ≡ malformed) → x.number ≡ malformed
-    numbered x z (yes n) = n
-    numbered x z (no n) = fault≢ok (sym (z.final n) ∙ whole)
+    caused : (x : Fault) → Cut BsiiFile (drop k s) x (bsii_parser rooms 0 (take k s ++ drop k s)) → Dec (x.cause ≡ malformed) → x.cause ≡ malformed
+    caused x z (yes n) = n
+    caused x z (no n) = fault≢ok (sym (z.final n) ∙ whole)
 
-    held : (x : Fault) → Cut BsiiFile (drop k s) x (bsii_parser rooms 0 (take k s ++ drop k s)) → x.number ≡ malformed
+    held : (x : Fault) → Cut BsiiFile (drop k s) x (bsii_parser rooms 0 (take k s ++ drop k s)) → x.cause ≡ malformed
         → Dec (length (drop k s) < x.lacking) → k + x.lacking ≤ length s
     held x z n (yes l) = fault≢ok (sym (z.fewer n l) ∙ whole)
     held x z n (no l) = omega (arith, length-drop k s)
@@ -119,7 +121,7 @@ cut_short rooms s {f} {at} {r} e k low high inside =
         let x = file_good rooms (take k s) g n l h in
         absurd (omega (arith, x.place, ok_at (sym z ∙ whole), ap length x.front, length-append (file_bytes g) l, length-take-le k s inside))
     go (fault x) h z =
-        let n = numbered x z (ℕ_discrete x.number malformed) in
+        let n = caused x z (cause_discrete x.cause malformed) in
         (x.offset, x.lacking, h ∙ ap fault (as_short x n), held x z n (dec_lt (length (drop k s)) x.lacking))
 
 -- what is read of a file, without the bytes behind it, is read with every table that has room
@@ -164,13 +166,13 @@ counts_down words s t at m k e i = go (dec_lt (length t) m)
 
 -- a file that some bytes complete to an accepted one is accepted itself or refused by 3, and no more bytes lack than those
 pub completed : (words : ℕ) (s t : List ℕ) (f : Fault) (a : Reading) → reading_call words s ≡ refuses f → 4 ≤ length s → reading_call words (s ++ t) ≡ gives a
-    → (f.number ≡ malformed) × (f.lacking ≤ length t)
-completed words s t f a e four i = go (ℕ_discrete f.number malformed)
+    → (f.cause ≡ malformed) × (f.lacking ≤ length t)
+completed words s t f a e four i = go (cause_discrete f.cause malformed)
   where
     limit : length (s ++ t) ≤ length_limit
     limit = (parse_ok words (s ++ t) (read words (s ++ t) i).3).0
 
-    go : Dec (f.number ≡ malformed) → (f.number ≡ malformed) × (f.lacking ≤ length t)
+    go : Dec (f.cause ≡ malformed) → (f.cause ≡ malformed) × (f.lacking ≤ length t)
     go (yes n) = (n, up (dec_lt (length t) f.lacking))
       where
         up : Dec (length t < f.lacking) → f.lacking ≤ length t
@@ -178,9 +180,9 @@ completed words s t f a e four i = go (ℕ_discrete f.number malformed)
         up (no h) = omega arith
     go (no n) = refuses≢gives (sym (others_are_final words s f e n four t limit) ∙ i)
 
--- a cut of an accepted save is refused by no other number
+-- a cut of an accepted save is refused by no other cause
 pub cut_number : (words : ℕ) (s : List ℕ) (a : Reading) (room k : ℕ) (f : Fault) → reading_call words s ≡ gives a → 3 * a.prototypes ≤ room → 4 ≤ k → k < a.next
-    → reading_call room (take k s) ≡ refuses f → f.number ≡ malformed
+    → reading_call room (take k s) ≡ refuses f → f.cause ≡ malformed
 cut_number words s a room k f e h low high i =
     let c = cuts_are_short words s a e room h k low high in
-    ap (λ (x : Fault). x.number) (refuses_inj (sym i ∙ c.2))
+    ap (λ (x : Fault). x.cause) (refuses_inj (sym i ∙ c.2))

@@ -9,6 +9,7 @@ use mathlib.Core.List.{List, [], ◌∷◌, ◌++◌}
 use lib.ListN.{length, take, drop}
 use lib.Seq.{take-append-le, drop-append-le}
 use lib.Dec.{leb, eqb}
+use Rattle.bsii_format.specs.declared.Cause.{Cause}
 use Rattle.bsii_format.specs.Ascii.{ascii}
 use Rattle.bsii_format.specs.Replies.{invalid_header, not_utf8, zero_digit, undefined_prototype, unlisted_type, table_full, bad_mark}
 use Rattle.bsii_format.specs.Reader.{fault, fault_at, Reader, after, ◌>>=◌, success, fail, exhausted, ◌<$>◌, bytes, Consumed, with, consumed, same, tag}
@@ -186,7 +187,7 @@ records_extends version rooms = record {
 
 -- ---- the file
 
-tag_extended : (c : List ℕ) (n : ℕ) → Other n → (at : ℕ) (s t : List ℕ) → length c ≤ length s → Extended t (tag c n at s) (tag c n at (s ++ t))
+tag_extended : (c : List ℕ) (n : Cause) → Other n → (at : ℕ) (s t : List ℕ) → length c ≤ length s → Extended t (tag c n at s) (tag c n at (s ++ t))
 unfolding tag
 tag_extended c n o at s t h =
     rw (take-append-le (length c) s t h, drop-append-le (length c) s t h)

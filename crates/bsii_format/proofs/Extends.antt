@@ -7,8 +7,9 @@ use native.Mathlib.Omega.{arith}
 use mathlib.Core.Bool.{Bool, true, false, cond, not}
 use mathlib.Core.List.{List, [], ◌∷◌, ◌++◌, append_assoc}
 use lib.ListN.{length, length-append}
-use lib.Dec.{T, eqb, eqb_refl, T_not}
-use Rattle.bsii_format.specs.Replies.{malformed, Fault}
+use lib.Dec.{T, T_not}
+use Rattle.bsii_format.specs.declared.Cause.{Cause}
+use Rattle.bsii_format.specs.Replies.{malformed, same_cause, Fault}
 use Rattle.bsii_format.specs.Reader.{Result, ok, fault, Reader, fault_at, short_at, after, ◌>>=◌, success, fail, ◌<$>◌, bytes, verify, Consumed, consumed, repeat}
 use Rattle.bsii_format.proofs.Readers.{Exact, bytes_exact, consumed_exact}
 use Rattle.bsii_format.proofs.Positions.{bytes_whole, bytes_lack, consumed_ok}
@@ -18,13 +19,13 @@ use Rattle.bsii_format.proofs.Positions.{bytes_whole, bytes_lack, consumed_ok}
 -- what was read ends at the offset or behind it, or the item that ran out starts there or behind it
 abbrev pub From : {A : Type 0} → ℕ → Result A → Type 0
 From at (ok v n r) = at ≤ n
-From at (fault f) = f.number ≡ malformed → at ≤ f.offset
+From at (fault f) = f.cause ≡ malformed → at ≤ f.offset
 
 -- what comes in place of the fault f with the bytes t appended
 pub record Cut (A : Type 0) (t : List ℕ) (f : Fault) (q : Result A) : Type 0 where
-  pub final : (f.number ≡ malformed → ⊥) → q ≡ fault f
-  pub fewer : f.number ≡ malformed → length t < f.lacking → q ≡ short_at f.offset (f.lacking - length t)
-  pub enough : f.number ≡ malformed → f.lacking ≤ length t → From (suc f.offset) q
+  pub final : (f.cause ≡ malformed → ⊥) → q ≡ fault f
+  pub fewer : f.cause ≡ malformed → length t < f.lacking → q ≡ short_at f.offset (f.lacking - length t)
+  pub enough : f.cause ≡ malformed → f.lacking ≤ length t → From (suc f.offset) q
 
 abbrev pub Extended : {A : Type 0} → List ℕ → Result A → Result A → Type 0
 Extended t (ok v n r) q = q ≡ ok v n (r ++ t)
@@ -70,23 +71,23 @@ pub success_extends : {A : Type 0} (a : A) → Extends A (success a)
 unfolding success
 success_extends a = record { from = λ at s. omega arith; extended = λ at s t. refl }
 
--- a number other than 3
-abbrev pub Other : ℕ → Type 0
-Other n = T (not (eqb n malformed))
+-- a cause other than 3
+abbrev pub Other : Cause → Type 0
+Other c = T (not (same_cause c malformed))
 
 -- a refusal by it, whose place is that of an earlier byte
-pub refusal_extends : (A : Type 0) (n start : ℕ) → Other n → Extends A (λ at s. fault_at n start)
-refusal_extends A n start h = record {
+pub refusal_extends : (A : Type 0) (c : Cause) (start : ℕ) → Other c → Extends A (λ at s. fault_at c start)
+refusal_extends A c start h = record {
   from = λ at s e. other e;
   extended = λ at s t. record { final = λ k. refl; fewer = λ e. other e; enough = λ e. other e };
 }
   where
-    other : {P : Type 0} → n ≡ malformed → P
-    other e = absurd (T_not (eqb n malformed) h (subst (λ k. T (eqb k malformed)) (sym e) (eqb_refl malformed)))
+    other : {P : Type 0} → c ≡ malformed → P
+    other e = absurd (T_not (same_cause c malformed) h (subst (λ k. T (same_cause k malformed)) (sym e) tt))
 
-pub fail_extends : (A : Type 0) (n : ℕ) → Other n → Extends A (fail n)
+pub fail_extends : (A : Type 0) (c : Cause) → Other c → Extends A (fail c)
 unfolding fail
-fail_extends A n h = record { from = λ at. (refusal_extends A n at h).from at; extended = λ at. (refusal_extends A n at h).extended at }
+fail_extends A c h = record { from = λ at. (refusal_extends A c at h).from at; extended = λ at. (refusal_extends A c at h).extended at }
 
 -- what comes behind R may know where R began
 pub after_extends : {A B : Type 0} {R : Reader A} (f : ℕ → A → Reader B) → Extends A R → ((start : ℕ) (a : A) → Extends B (f start a))
@@ -123,14 +124,14 @@ pub cond_extends : {A : Type 0} (b : Bool) {R S : Reader A} → Extends A R → 
 cond_extends true h k = h
 cond_extends false h k = k
 
-pub tested : {A : Type 0} (b : Bool) (a : A) (n start : ℕ) → Other n → Extends A (λ at s. cond b (ok a at s) (fault_at n start))
+pub tested : {A : Type 0} (b : Bool) (a : A) (c : Cause) (start : ℕ) → Other c → Extends A (λ at s. cond b (ok a at s) (fault_at c start))
 unfolding success
-tested true a n start h = success_extends a
-tested {A} false a n start h = refusal_extends A n start h
+tested true a c start h = success_extends a
+tested {A} false a c start h = refusal_extends A c start h
 
-pub verify_extends : {A : Type 0} (p : A → Bool) (n : ℕ) {R : Reader A} → Other n → Extends A R → Extends A (verify p n R)
+pub verify_extends : {A : Type 0} (p : A → Bool) (c : Cause) {R : Reader A} → Other c → Extends A R → Extends A (verify p c R)
 unfolding verify
-verify_extends p n o h = after_extends _ h (λ start a. tested (p a) a n start o)
+verify_extends p c o h = after_extends _ h (λ start a. tested (p a) a c start o)
 
 -- ---- the combinators that see the bytes
 

@@ -5,6 +5,7 @@ use Prim.Native.Nat.{ℕ, zero, suc, ◌-◌}
 use mathlib.Core.Bool.{Bool, true, false, cond}
 use mathlib.Core.List.{List, [], ◌∷◌}
 use lib.ListN.{take}
+use Rattle.bsii_format.specs.declared.Cause.{Cause}
 use Rattle.bsii_format.specs.Replies.{refused}
 use Rattle.bsii_format.specs.Reader.{ok, fault_at, Reader, ◌>>=◌, success, fail, exhausted, ◌<$>◌, verify, Consumed, with, consumed, repeat}
 use Rattle.bsii_format.proofs.Readers.{after_ok, cond_ok, map_ok, fault≢ok, ok_val, at_value}
@@ -51,12 +52,12 @@ module _ {A B : Type 0} {K : A → B → Type 0} {R : Reader A} {S : Reader B} (
   }
 
   -- a test refuses, and changes nothing
-  pub verify_follows : (p : A → Bool) (k : ℕ) → Follows K (verify p k R) S
+  pub verify_follows : (p : A → Bool) (c : Cause) → Follows K (verify p c R) S
   unfolding verify
-  verify_follows p k = record {
+  verify_follows p c = record {
     reads = λ at s e.
-        let q = after_ok (R at s) (λ a i t. cond (p a) (ok a i t) (fault_at k at)) e in
-        h.reads at s (q.3 ∙ (cond_ok (p q.0) (ok q.0 q.1 q.2) (refused k at) q.4).1);
+        let q = after_ok (R at s) (λ a i t. cond (p a) (ok a i t) (fault_at c at)) e in
+        h.reads at s (q.3 ∙ (cond_ok (p q.0) (ok q.0 q.1 q.2) (refused c at) q.4).1);
   }
 
   pub bind_follows : {C D : Type 0} {L : C → D → Type 0} {f : A → Reader C} {g : B → Reader D} → ((a : A) (b : B) → K a b → Follows L (f a) (g b))
@@ -87,9 +88,9 @@ module _ {A B : Type 0} {K : A → B → Type 0} where
   unfolding success
   success_follows a b k = record { reads = λ at s e. (b, at_value b e, subst (λ a. K a b) (ok_val e) k) }
 
-  pub fail_follows : (k : ℕ) (S : Reader B) → Follows K (fail k) S
+  pub fail_follows : (c : Cause) (S : Reader B) → Follows K (fail c) S
   unfolding fail
-  fail_follows k S = record { reads = λ at s e. fault≢ok e }
+  fail_follows c S = record { reads = λ at s e. fault≢ok e }
 
   pub exhausted_follows : (n : ℕ) (S : Reader B) → Follows K (exhausted n) S
   unfolding exhausted

@@ -1,4 +1,5 @@
 -- The laws of the definitions.
+pub mod Causes
 pub mod Lists
 pub mod Readers
 pub mod ReplyLaws

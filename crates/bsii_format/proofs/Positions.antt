@@ -9,6 +9,7 @@ use mathlib.Core.List.{List, [], ◌∷◌}
 use lib.ListN.{length, take, drop, length-append, length-drop}
 use lib.Seq.{drop-drop, drop-append_seam}
 use lib.Dec.{leb, leb→le, le→leb}
+use Rattle.bsii_format.specs.declared.Cause.{Cause}
 use Rattle.bsii_format.specs.Replies.{Fault}
 use Rattle.bsii_format.specs.Reader.{Result, ok, fault, Reader, fault_at, short_at, after, ◌>>=◌, success, ◌<$>◌, bytes, verify, Consumed, with, consumed, repeat}
 use Rattle.bsii_format.specs.Numbers.{little_endian, number}
@@ -89,16 +90,16 @@ pub map_value : {A B : Type 0} (f : A → B) (R : Reader A) {at : ℕ} {s : List
 unfolding ◌<$>◌ ◌>>=◌ after success
 map_value f R e = rw e
 
-module _ {A : Type 0} (p : A → Bool) (n : ℕ) (R : Reader A) {at : ℕ} {s : List ℕ} where
-  pub verify_ok : {a : A} {at' : ℕ} {s' : List ℕ} → R at s ≡ ok a at' s' → p a ≡ true → verify p n R at s ≡ ok a at' s'
+module _ {A : Type 0} (p : A → Bool) (c : Cause) (R : Reader A) {at : ℕ} {s : List ℕ} where
+  pub verify_ok : {a : A} {at' : ℕ} {s' : List ℕ} → R at s ≡ ok a at' s' → p a ≡ true → verify p c R at s ≡ ok a at' s'
   unfolding verify after
   verify_ok e t = rw (e, t)
 
-  pub verify_not : {a : A} {at' : ℕ} {s' : List ℕ} → R at s ≡ ok a at' s' → p a ≡ false → verify p n R at s ≡ fault_at n at
+  pub verify_not : {a : A} {at' : ℕ} {s' : List ℕ} → R at s ≡ ok a at' s' → p a ≡ false → verify p c R at s ≡ fault_at c at
   unfolding verify after
   verify_not e t = rw (e, t)
 
-  pub verify_fault : {x : Fault} → R at s ≡ fault x → verify p n R at s ≡ fault x
+  pub verify_fault : {x : Fault} → R at s ≡ fault x → verify p c R at s ≡ fault x
   unfolding verify after
   verify_fault e = rw e
 

@@ -9,6 +9,7 @@ use mathlib.Core.List.{List, [], ◌∷◌, ◌++◌, append_assoc, append-nil}
 use lib.ListN.{length, take, drop, length-append, take-append-drop}
 use lib.Seq.{take_at, drop_at, length-take-le}
 use lib.Dec.{T, leb, eqb, leb→le, le→leb, eqb→eq, eqb_refl}
+use Rattle.bsii_format.specs.declared.Cause.{Cause}
 use Rattle.bsii_format.specs.Replies.{Fault}
 use Rattle.bsii_format.specs.Reader.{Result, ok, fault, Reader, fault_at, after, ◌>>=◌, success, fail, ◌<$>◌, bytes, verify, Consumed, with, consumed, repeat, same, tag, WellFormed}
 
@@ -110,9 +111,9 @@ success_exact {A} v = record {
       ([], record { front = ok_rest e; place = rw add-zero (sym (ok_at e)); fits = subst (λ (x : A). Fits A (success v) x []) (ok_val e) (success_fits v) });
 }
 
-pub fail_exact : (A : Type 0) (n : ℕ) → Exact A (fail n)
+pub fail_exact : (A : Type 0) (c : Cause) → Exact A (fail c)
 unfolding fail
-fail_exact A n = record { took = λ at s v at' r e. fault≢ok e }
+fail_exact A c = record { took = λ at s v at' r e. fault≢ok e }
 
 pub map_fits : {A B : Type 0} {R : Reader A} (f : A → B) {v : A} {c : List ℕ} → Fits A R v c → Fits B (f <$> R) (f v) c
 unfolding ◌<$>◌
@@ -144,11 +145,11 @@ cond_exact false h k = k
 
 -- ---- the combinators that see the bytes
 
-pub verify_fits : {A : Type 0} (p : A → Bool) (n : ℕ) {R : Reader A} {v : A} {c : List ℕ} → Fits A R v c → T (p v) → Fits A (verify p n R) v c
+pub verify_fits : {A : Type 0} (p : A → Bool) (n : Cause) {R : Reader A} {v : A} {c : List ℕ} → Fits A R v c → T (p v) → Fits A (verify p n R) v c
 unfolding verify after
 verify_fits p n {R} {v} {c} h e = record { reads = λ b t. rw (h.reads b t, is_true (p v) e) }
 
-pub verify_exact : {A : Type 0} (p : A → Bool) (n : ℕ) {R : Reader A} → Exact A R → Exact A (verify p n R)
+pub verify_exact : {A : Type 0} (p : A → Bool) (n : Cause) {R : Reader A} → Exact A R → Exact A (verify p n R)
 unfolding verify
 verify_exact {A} p n {R} h = record {
   took = λ at s v at' r e.
@@ -235,14 +236,14 @@ unfolding same
 same_refl [] = tt
 same_refl (x ∷ s) = and_both (eqb x x) (same s s) (eqb_refl x) (same_refl s)
 
-pub tag_fits : (c : List ℕ) (n : ℕ) → Fits (Unit {0}) (tag c n) tt c
+pub tag_fits : (c : List ℕ) (n : Cause) → Fits (Unit {0}) (tag c n) tt c
 unfolding tag
 tag_fits c n = record {
   reads = λ b t.
       rw (take_at c t (length c) refl, drop_at c t (length c) refl, is_true (same c c) (same_refl c));
 }
 
-pub tag_exact : (c : List ℕ) (n : ℕ) → Exact (Unit {0}) (tag c n)
+pub tag_exact : (c : List ℕ) (n : Cause) → Exact (Unit {0}) (tag c n)
 unfolding tag
 tag_exact c n = record {
   took = λ at s v at' r e.

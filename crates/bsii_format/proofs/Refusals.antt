@@ -6,9 +6,10 @@ use mathlib.Core.Bool.{Bool, true, false, cond, not, ◌&&◌, ◌||◌}
 use mathlib.Core.Option.{Option, none, some}
 use mathlib.Core.List.{List, [], ◌∷◌}
 use lib.ListN.{length, take, drop}
-use lib.Dec.{T, leb, eqb, ltb, eqb→eq, lt→ltb, nleb→lt}
+use lib.Dec.{T, leb, eqb, ltb, lt→ltb, nleb→lt}
+use Rattle.bsii_format.specs.declared.Cause.{Cause}
 use Rattle.bsii_format.specs.Ascii.{ascii}
-use Rattle.bsii_format.specs.Replies.{Fault, refused, invalid_header, malformed, undefined_prototype, bad_mark}
+use Rattle.bsii_format.specs.Replies.{same_cause, Fault, refused, invalid_header, malformed, undefined_prototype, bad_mark}
 use Rattle.bsii_format.specs.Reader.{Result, ok, fault, fault_at, short_at, Reader, after, ◌>>=◌, success, fail, ◌<$>◌, bytes, exhausted, verify, Consumed, with, consumed, repeat, same, tag}
 use Rattle.bsii_format.specs.Numbers.{number, little_endian}
 use Rattle.bsii_format.specs.Strings.{str_parser, low63, encoded_str_parser, Id, nameless, named, id_parser}
@@ -18,62 +19,63 @@ use Rattle.bsii_format.specs.Prototypes.{EnumValue, ValuePrototype, Prototype, e
 use Rattle.bsii_format.specs.Blocks.{DataValue, get_prototype, data_value, data_value_parser, data_values_parser}
 use Rattle.bsii_format.specs.File.{Head, ending, defining, carrying, mark_parser, head_parser, Step, end, more, prototype_step, block_step, data_block_parser, step_parser, record_parser, define, has_room, Records, cons_record, records_then, records_from, records_parser, header_parser, BsiiFile, bsii_file, bsii_parser, length_limit, parse}
 use Rattle.bsii_format.specs.Refusals.{value_numbers, file_numbers, among, counted}
+use Rattle.bsii_format.proofs.Causes.{same_is}
 use Rattle.bsii_format.proofs.Readers.{and_left, and_right, and_both}
 
--- ---- lists of numbers
+-- ---- lists of causes
 
-abbrev pub all_among : List ℕ → List ℕ → Bool
+abbrev pub all_among : List Cause → List Cause → Bool
 all_among l [] = true
-all_among l (m ∷ k) = among l m && all_among l k
+all_among l (d ∷ k) = among l d && all_among l k
 
-pub among_all : (l k : List ℕ) → T (all_among l k) → (n : ℕ) → T (among k n) → T (among l n)
-among_all l [] h n t = absurd t
-among_all l (m ∷ k) h n t = go (among l m) (eqb n m) (λ e. subst (λ z. T (among l z)) (sym (eqb→eq n m e))) h (λ i. among_all l k i n) t
+pub among_all : (l k : List Cause) → T (all_among l k) → (c : Cause) → T (among k c) → T (among l c)
+among_all l [] h c t = absurd t
+among_all l (d ∷ k) h c t = go (among l d) (same_cause c d) (λ e. subst (λ z. T (among l z)) (sym (same_is c d e))) h (λ i. among_all l k i c) t
   where
-    go : (a b : Bool) → (T b → T a → T (among l n)) → T (a && all_among l k) → (T (all_among l k) → T (among k n) → T (among l n)) → T (b || among k n) → T (among l n)
+    go : (a b : Bool) → (T b → T a → T (among l c)) → T (a && all_among l k) → (T (all_among l k) → T (among k c) → T (among l c)) → T (b || among k c) → T (among l c)
     go true true here h there t = here tt tt
     go true false here h there t = there h t
     go false b here h there t = absurd h
 
-pub told_all : (l k : List ℕ) → T (all_among l k) → (f : Fault) → T (among k f.number && counted f) → T (among l f.number && counted f)
+pub told_all : (l k : List Cause) → T (all_among l k) → (f : Fault) → T (among k f.cause && counted f) → T (among l f.cause && counted f)
 told_all l k h f t =
-    let a = among k f.number in
-    and_both (among l f.number) (counted f) (among_all l k h f.number (and_left a (counted f) t)) (and_right a (counted f) t)
+    let a = among k f.cause in
+    and_both (among l f.cause) (counted f) (among_all l k h f.cause (and_left a (counted f) t)) (and_right a (counted f) t)
 
 -- ---- readers
 
--- a result, or a fault with one of the numbers, and with a count where it has 3
-abbrev pub Told : {A : Type 0} → List ℕ → Result A → Type 0
+-- a result, or a fault by one of the causes, and with a count where it has 3
+abbrev pub Told : {A : Type 0} → List Cause → Result A → Type 0
 Told l (ok a at s) = Unit {0}
-Told l (fault f) = T (among l f.number && counted f)
+Told l (fault f) = T (among l f.cause && counted f)
 
-pub more_told : (l k : List ℕ) → T (all_among l k) → {A : Type 0} (q : Result A) → Told k q → Told l q
+pub more_told : (l k : List Cause) → T (all_among l k) → {A : Type 0} (q : Result A) → Told k q → Told l q
 more_told l k h (ok a at s) t = tt
 more_told l k h (fault f) t = told_all l k h f t
 
-pub cond_told : {A : Type 0} (l : List ℕ) (b : Bool) (q r : Result A) → Told l q → Told l r → Told l (cond b q r)
+pub cond_told : {A : Type 0} (l : List Cause) (b : Bool) (q r : Result A) → Told l q → Told l r → Told l (cond b q r)
 cond_told l true q r h k = h
 cond_told l false q r h k = k
 
-short_told : (A : Type 0) (l : List ℕ) (at k : ℕ) → T (among l malformed) → 0 < k → Told {A = A} l (short_at at k)
+short_told : (A : Type 0) (l : List Cause) (at k : ℕ) → T (among l malformed) → 0 < k → Told {A = A} l (short_at at k)
 short_told A l at k h p = and_both (among l malformed) (ltb 0 k) h (lt→ltb 0 k p)
 
--- whatever it is given, the reader refuses with one of the numbers only
-pub record Only (l : List ℕ) (A : Type 0) (R : Reader A) : Type 0 where
+-- whatever it is given, the reader refuses by one of the causes only
+pub record Only (l : List Cause) (A : Type 0) (R : Reader A) : Type 0 where
   pub only : (at : ℕ) (s : List ℕ) → Told l (R at s)
 
--- and so with one of more numbers
-pub more_only : (l k : List ℕ) → T (all_among l k) → {A : Type 0} {R : Reader A} → Only k A R → Only l A R
+-- and so by one of more causes
+pub more_only : (l k : List Cause) → T (all_among l k) → {A : Type 0} {R : Reader A} → Only k A R → Only l A R
 more_only l k h {R = R} o = record { only = λ at s. more_told l k h (R at s) (o.only at s) }
 
-module _ {l : List ℕ} where
+module _ {l : List Cause} where
   pub success_only : {A : Type 0} (a : A) → Only l A (success a)
   unfolding success
   success_only a = record { only = λ at s. tt }
 
-  fail_only : {A : Type 0} (n : ℕ) → T (among l n && counted (refused n 0)) → Only l A (fail n)
+  fail_only : {A : Type 0} (c : Cause) → T (among l c && counted (refused c 0)) → Only l A (fail c)
   unfolding fail
-  fail_only n h = record { only = λ at s. h }
+  fail_only c h = record { only = λ at s. h }
 
   pub after_only : {A B : Type 0} (q : Result A) (g : A → Reader B) → Told l q → ((a : A) → Only l B (g a)) → Told l (after q g)
   unfolding after
@@ -88,10 +90,10 @@ module _ {l : List ℕ} where
   unfolding ◌<$>◌
   map_only g h = bind_only (λ a. success (g a)) h (λ a. success_only (g a))
 
-  pub verify_only : {A : Type 0} (p : A → Bool) (n : ℕ) {R : Reader A} → T (among l n && counted (refused n 0)) → Only l A R → Only l A (verify p n R)
+  pub verify_only : {A : Type 0} (p : A → Bool) (c : Cause) {R : Reader A} → T (among l c && counted (refused c 0)) → Only l A R → Only l A (verify p c R)
   unfolding verify
-  verify_only p n {R} m h = record {
-    only = λ at s. after_only (R at s) _ (h.only at s) (λ a. record { only = λ i t. cond_told l (p a) (ok a i t) (fault_at n at) tt m });
+  verify_only p c {R} m h = record {
+    only = λ at s. after_only (R at s) _ (h.only at s) (λ a. record { only = λ i t. cond_told l (p a) (ok a i t) (fault_at c at) tt m });
   }
 
   pub consumed_only : {A : Type 0} {R : Reader A} → Only l A R → Only l (Consumed A) (consumed R)
@@ -190,10 +192,10 @@ values_only version (f ∷ fs) =
 -- ---- records
 
 -- of a record: a value's, 6 and 15; 10 stands behind a prototype that was read
-abbrev pub record_numbers : List ℕ
+abbrev pub record_numbers : List Cause
 record_numbers = undefined_prototype ∷ bad_mark ∷ value_numbers
 
--- what a value is refused with, a record is
+-- what a value is refused by, a record is
 in_record : {A : Type 0} {R : Reader A} → Only value_numbers A R → Only record_numbers A R
 in_record h = more_only record_numbers value_numbers tt h
 

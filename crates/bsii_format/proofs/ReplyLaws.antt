@@ -7,6 +7,7 @@ use mathlib.Core.Option.{Option, none, some}
 use mathlib.Core.List.{List, ◌++◌}
 use lib.ListN.{length, drop}
 use lib.Dec.{T, leb, le→leb, leb→le}
+use Rattle.bsii_format.specs.declared.Cause.{Cause}
 use Rattle.bsii_format.specs.Replies.{Fault, Reply, gives, refuses, refusal, output_short}
 use Rattle.bsii_format.specs.Reader.{Result, ok, fault, fault_at}
 use Rattle.bsii_format.specs.File.{BsiiFile, parse}
@@ -40,10 +41,10 @@ pub cond_back : {A : Type 0} (b : Bool) (x : Reply A) (f : Fault) {t : A} → co
 cond_back true x f e = (tt, e)
 cond_back false x f e = refuses≢gives e
 
-pub or_back : {A : Type 0} (n at : ℕ) (o : Option A) {a : A} → or_refuse n at o ≡ gives a → o ≡ some a
+pub or_back : {A : Type 0} (c : Cause) (at : ℕ) (o : Option A) {a : A} → or_refuse c at o ≡ gives a → o ≡ some a
 unfolding or_refuse
-or_back n at none e = refuses≢gives e
-or_back n at (some x) e = ap some (gives_inj e)
+or_back c at none e = refuses≢gives e
+or_back c at (some x) e = ap some (gives_inj e)
 
 -- ---- calls over a file
 
@@ -51,7 +52,7 @@ pub of_read : {A : Type 0} (answer : BsiiFile → ℕ → Reply A) (q : Result B
 unfolding of_file
 of_read answer q e = rw e
 
-pub of_fault : {A : Type 0} (answer : BsiiFile → ℕ → Reply A) (q : Result BsiiFile) {n x : ℕ} → q ≡ fault_at n x → of_file answer q ≡ refusal n x
+pub of_fault : {A : Type 0} (answer : BsiiFile → ℕ → Reply A) (q : Result BsiiFile) {c : Cause} {x : ℕ} → q ≡ fault_at c x → of_file answer q ≡ refusal c x
 unfolding of_file
 of_fault answer q e = rw e
 

@@ -2,6 +2,7 @@
 use Rattle.std.specs.Prelude.{ℕ, ◌+◌, Bool, true, cond, List, [], ◌∷◌, ◌++◌, length, eqb}
 use Rattle.std.proofs.Math.Option.{Option, none, some}
 use Rattle.bsii_format.specs.Ascii.{ascii}
+use Rattle.bsii_format.specs.declared.Cause.{Cause}
 use Rattle.bsii_format.specs.Replies.{Reply, gives, refuses, refusal, undefined_prototype, field_count, enum_value}
 use Rattle.bsii_format.specs.Reader.{Consumed}
 use Rattle.bsii_format.specs.Strings.{Id}
@@ -17,9 +18,9 @@ joined (gives a) (gives b) = gives (a ++ b)
 joined (gives a) (refuses f) = refuses f
 joined (refuses f) b = refuses f
 
-unfoldable pub or_refuse : {A : Type 0} → ℕ → ℕ → Option A → Reply A
-or_refuse n at none = refusal n at
-or_refuse n at (some a) = gives a
+unfoldable pub or_refuse : {A : Type 0} → Cause → ℕ → Option A → Reply A
+or_refuse c at none = refusal c at
+or_refuse c at (some a) = gives a
 
 -- "A block: `NAME : ID {`, the fields, `}`"
 unfoldable pub block_opening : List ℕ → Id → List ℕ

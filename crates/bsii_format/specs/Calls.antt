@@ -6,7 +6,7 @@ use Rattle.std.proofs.Math.ListN.{get_elem?}
 use Rattle.std.specs.Float.{binary32}
 use Rattle.std.specs.Float.Ieee.{of_bits}
 use Rattle.bsii_format.specs.Ascii.{ascii}
-use Rattle.bsii_format.specs.Replies.{Reply, gives, refuses, refusal, output_short, input_long, absent}
+use Rattle.bsii_format.specs.Replies.{number_of, Reply, gives, refuses, refusal, output_short, input_long, absent}
 use Rattle.bsii_format.specs.Reader.{Result, ok, fault, same, Consumed}
 use Rattle.bsii_format.specs.Numbers.{signed}
 use Rattle.bsii_format.specs.Types.{Numeric, float, float_vec2, float_vec3, float_vec4, float_vec7, float_vec8, int32, int32_vec3, uint32, uint16, int64, uint64, bool, enum}
@@ -321,7 +321,7 @@ text_call words s out = text_answer (steps_in (parse words s)) out (text_of word
 -- "prints the text, or `refused N at P` and byte 10, with refusal number N and offset P in decimal"
 unfoldable pub printed : Reply (List ℕ) → List ℕ
 printed (gives t) = t
-printed (refuses f) = ascii "refused " ++ decimal f.number ++ ascii " at " ++ decimal f.offset ++ ascii "\n"
+printed (refuses f) = ascii "refused " ++ decimal (number_of f.cause) ++ ascii " at " ++ decimal f.offset ++ ascii "\n"
 
 -- a text of at most n bytes, else 11
 unfoldable pub of_size : ℕ → Reply (List ℕ) → Reply (List ℕ)

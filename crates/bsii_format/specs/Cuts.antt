@@ -15,9 +15,9 @@ pub record Lacks (words : ℕ) (s : List ℕ) (at m : ℕ) : Type 0 where
 abbrev pub LackingIsExact : Type 0
 LackingIsExact = (words : ℕ) (s : List ℕ) (at m : ℕ) → reading_call words s ≡ refuses (short at m) → Lacks words s at m
 
--- Another number than 3 is not for want of bytes: appended to a file of four or more they change nothing of the refusal, within the limit.
+-- Another cause than 3 is not for want of bytes: appended to a file of four or more they change nothing of the refusal, within the limit.
 abbrev pub OthersAreFinal : Type 0
-OthersAreFinal = (words : ℕ) (s : List ℕ) (f : Fault) → reading_call words s ≡ refuses f → (f.number ≡ malformed → ⊥) → 4 ≤ length s
+OthersAreFinal = (words : ℕ) (s : List ℕ) (f : Fault) → reading_call words s ≡ refuses f → (f.cause ≡ malformed → ⊥) → 4 ≤ length s
     → (t : List ℕ) → length (s ++ t) ≤ length_limit → reading_call words (s ++ t) ≡ refuses f
 
 -- A cut of an accepted save that keeps k bytes, at least four and not the whole end record, is refused by 3 with every table that has room, and no more

@@ -1,6 +1,7 @@
 -- Readers: what the layout is written in. A reader is a function of an offset and of the bytes from there on. No reader chooses by the offset:
 -- it is reported, and differences of offsets say how many bytes were taken. Bytes are numbers; that each is below 256 is used by no definition.
 use Rattle.std.specs.Prelude.{ℕ, zero, suc, ◌+◌, ◌-◌, ◌≡◌, Bool, true, false, cond, ◌&&◌, List, [], ◌∷◌, length, take, drop, leb, eqb}
+use Rattle.bsii_format.specs.declared.Cause.{Cause}
 use Rattle.bsii_format.specs.Replies.{Fault, refused, short}
 
 -- the value, the offset after it and the bytes after it; or a fault
@@ -11,8 +12,8 @@ pub data Result (A : Type 0) : Type 0 where
 abbrev pub Reader : Type 0 → Type 0
 Reader A = ℕ → List ℕ → Result A
 
-abbrev pub fault_at : {A : Type 0} → ℕ → ℕ → Result A
-fault_at n at = fault (refused n at)
+abbrev pub fault_at : {A : Type 0} → Cause → ℕ → Result A
+fault_at c at = fault (refused c at)
 
 abbrev pub short_at : {A : Type 0} → ℕ → ℕ → Result A
 short_at at k = fault (short at k)
@@ -31,9 +32,9 @@ unfoldable pub ◌>>=◌ : {A B : Type 0} → Reader A → (A → Reader B) → 
 unfoldable pub success : {A : Type 0} → A → Reader A
 success a at s = ok a at s
 
--- the refusal n at this place
-unfoldable pub fail : {A : Type 0} → ℕ → Reader A
-fail n at s = fault_at n at
+-- the refusal c at this place
+unfoldable pub fail : {A : Type 0} → Cause → Reader A
+fail c at s = fault_at c at
 
 infixl 30 ◌<$>◌
 unfoldable pub ◌<$>◌ : {A B : Type 0} → (A → B) → Reader A → Reader B
@@ -48,9 +49,9 @@ bytes n at s = cond (leb n (length s)) (ok (take n s) (at + n) (drop n s)) (shor
 unfoldable pub exhausted : {A : Type 0} → ℕ → Reader A
 exhausted n at s = short_at at n
 
--- what R reads, if it passes the test; else the refusal n where R began
-unfoldable pub verify : {A : Type 0} → (A → Bool) → ℕ → Reader A → Reader A
-verify p n R at s = after (R at s) (λ a at' s'. cond (p a) (ok a at' s') (fault_at n at))
+-- what R reads, if it passes the test; else the refusal c where R began
+unfoldable pub verify : {A : Type 0} → (A → Bool) → Cause → Reader A → Reader A
+verify p c R at s = after (R at s) (λ a at' s'. cond (p a) (ok a at' s') (fault_at c at))
 
 -- a value and the bytes that it was read from
 pub record Consumed (A : Type 0) : Type 0 where
@@ -79,7 +80,7 @@ same (x ∷ s) [] = false
 same (x ∷ s) (y ∷ t) = eqb x y && same s t
 
 -- exactly the bytes c; else the refusal n
-unfoldable pub tag : List ℕ → ℕ → Reader (Unit {0})
+unfoldable pub tag : List ℕ → Cause → Reader (Unit {0})
 tag c n at s = cond (same (take (length c) s) c) (ok tt (at + length c) (drop (length c) s)) (fault_at n at)
 
 -- "well-formed by the layout": R reads the bytes c, all of them, as v

@@ -2,6 +2,7 @@
 -- line, its answer read off documents 01 and 02; proofs/WorkedCalls.antt computes them.
 use Rattle.std.specs.Prelude.{ℕ, Bool, true, false, List, [], ◌∷◌, ◌++◌, length, take, drop, set, replicate, pos, negsuc, Float}
 use Rattle.std.specs.Float.{nan, fin}
+use Rattle.bsii_format.specs.declared.Cause.{Cause}
 use Rattle.bsii_format.specs.Ascii.{ascii}
 use Rattle.bsii_format.specs.Replies.{Reply, gives, refuses, short, refusal, invalid_header, not_utf8, zero_digit, undefined_prototype, unlisted_type, field_count, enum_value, table_full, output_short, absent, bad_mark}
 use Rattle.bsii_format.specs.Blocks.{DataBlock}
@@ -354,8 +355,8 @@ cut_elements =
 abbrev pub written : ℕ → List ℕ → List ℕ → TextAnswer
 written steps t rest = record { reply = gives (record { size = length t; steps = steps }); needed = 0; output = t ++ rest }
 
-abbrev pub unwritten : {A : Type 0} → ℕ → ℕ → ℕ → List ℕ → WriteAnswer A
-unwritten n at needed out = record { reply = refusal n at; needed = needed; output = out }
+abbrev pub unwritten : {A : Type 0} → Cause → ℕ → ℕ → List ℕ → WriteAnswer A
+unwritten c at needed out = record { reply = refusal c at; needed = needed; output = out }
 
 unfoldable pub texts : List (Fact TextAnswer)
 texts =

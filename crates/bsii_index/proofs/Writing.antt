@@ -19,23 +19,21 @@ use Rattle.bsii_derived.specs.Index.{index_from, index_of, index_record_bytes, i
 use Rattle.bsii_derived.specs.IndexCalls.{write_index_call}
 use Rattle.bsii_derived.proofs.Bytes.{record_length, index_length_law}
 use Rattle.bsii_derived.proofs.Walk.{index_append, bytes_append}
-use Rattle.bsii_parse.specs.Walks.{records_at, index_at, StepMeets, Stepped, read, unread, ReadTree}
+use Rattle.bsii_parse.specs.Walks.{records_at, index_at, StepMeets, Stepped, totals_of, read, unread, ReadTree}
 use Rattle.bsii_parse.specs.declared.walk.Progress.{Progress}
 use Rattle.bsii_parse.specs.declared.walk.Under.{Under}
 use Rattle.bsii_parse.specs.declared.walk.ReadStep.{ReadStep}
-use Rattle.bsii_parse.specs.declared.walk.ReadStep.TheVariants.{Prototype as WentPrototype, Block as WentBlock, End, Refused as StepRefused}
+use Rattle.bsii_parse.specs.declared.walk.ReadStep.TheVariants.{Prototype as WentPrototype, Block as WentBlock, End}
 use Rattle.bsii_parse.specs.declared.walk.Totals.{Totals}
-use Rattle.bsii_parse.specs.declared.walk.Walked.{Walked}
-use Rattle.bsii_parse.specs.declared.walk.Walked.TheVariants.{Done, Fault as Stopped}
 use Rattle.bsii_parse.proofs.Along.{defs_from, Along, along_start, along_none, along_prototype, along_block, along_all, along_refused, along_accepted, along_within}
 use Rattle.bsii_parse.proofs.Passed.{entry_of, past_prototype, past_block}
-use Rattle.bsii_parse.proofs.Whole.{done≢stopped, file_parts}
+use Rattle.bsii_parse.proofs.Whole.{file_parts}
 use Rattle.bsii_index_record.specs.Records.{Width, record_is}
 use Rattle.bsii_index_record.specs.declared.IndexRecord.{IndexRecord}
 use Rattle.bsii_index.specs.Answers.{length_is}
 use Rattle.bsii_index.specs.Indexes.{Writable, RecordsWritten, Readable, ReadWritten}
-use Rattle.bsii_index.specs.declared.write.LengthReply.{LengthReply}
-use Rattle.bsii_index.specs.declared.write.LengthReply.TheVariants.{Length, Refused}
+use Rattle.bsii_index.specs.declared.write.LengthRefusal.{LengthRefusal}
+use Rattle.std.specs.Prelude.{Ok, Err, Result as Outcome}
 use Rattle.bsii_index.proofs.Counting.{blocks_indexed, blocks_limited}
 
 -- ---- the walk
@@ -67,9 +65,15 @@ put w l b d to e k =
 
 module _ {version : ℕ} {s : List ℕ} {start : ℕ} {t₀ space₀ : List ℕ} {w : ℕ} (v : Writable version s start t₀ space₀ w)
     {p : Progress} {t space : List ℕ} {to : ℕ} (c : Writing version s start t₀ space₀ w p t space to) where
-  module _ {r : ReadStep} {t' : List ℕ} (k : Stepped version s p t true r t') where
-    pub writing_meets : StepMeets version s p t (defs_from start c.along.so) r t'
-    writing_meets = k.steps (defs_from start c.along.so) c.along.kept (along_accepted c.along v.reads)
+  meets : {r : Outcome ReadStep Refusal} {t' : List ℕ} → Stepped version s p t true r t' → StepMeets version s p t (defs_from start c.along.so) r t'
+  meets k = k.steps (defs_from start c.along.so) c.along.kept (along_accepted c.along v.reads)
+
+  pub writing_refused : {P : Type 0} {f : Refusal} {t' : List ℕ} → Stepped version s p t true (Err f) t' → P
+  writing_refused k = fault≢ok (sym (along_refused c.along (meets k)).0 ∙ v.reads)
+
+  module _ {r : ReadStep} {t' : List ℕ} (k : Stepped version s p t true (Ok r) t') where
+    pub writing_meets : StepMeets version s p t (defs_from start c.along.so) (Ok r) t'
+    writing_meets = meets k
 
     pub writing_prototype : {q : Progress} → r ≡ WentPrototype q → Writing version s start t₀ space₀ w q t' space to
     writing_prototype z =
@@ -127,9 +131,6 @@ module _ {version : ℕ} {s : List ℕ} {start : ℕ} {t₀ space₀ : List ℕ}
           size = x.size;
         }
 
-    pub writing_refused : {P : Type 0} {f : Refusal} → r ≡ StepRefused f → P
-    writing_refused z = fault≢ok (sym (along_refused c.along writing_meets z).0 ∙ v.reads)
-
 -- ---- the answer for a file that was read
 
 module _ {version : ℕ} {s t : List ℕ} {w blocks : ℕ} (d : Readable version s t w blocks) where
@@ -139,7 +140,7 @@ module _ {version : ℕ} {s t : List ℕ} {w blocks : ℕ} (d : Readable version
       let l : d.records.records ≡ q.records = ap (λ (y : Records). y.records) (ok_val (sym d.reads ∙ e)) in
       index_length_law w (index_at 8 q.records) ∙ ap (λ k. k * (4 * w)) (ap (λ k. length (index_at 8 k)) (sym l) ∙ sym d.counted)
 
-  pub readable_short : (space : List ℕ) → length space < blocks * (4 * w) → ReadWritten version s t space w (Refused (refused_at output_short 0) (blocks * (4 * w))) t space
+  pub readable_short : (space : List ℕ) → length space < blocks * (4 * w) → ReadWritten version s t space w (Err (record { refusal = refused_at output_short 0; needed = blocks * (4 * w) })) t space
   unfolding write_answer
   readable_short space h = record {
     answers = λ q n e.
@@ -160,7 +161,7 @@ module _ {version : ℕ} {s t : List ℕ} {w blocks : ℕ} (d : Readable version
   }
 
   pub readable_written : (space : List ℕ) → blocks * (4 * w) ≤ length space → {t' space' : List ℕ} → RecordsWritten version s 8 t space w t' space'
-      → ReadWritten version s t space w (Length (blocks * (4 * w))) t' space'
+      → ReadWritten version s t space w (Ok (blocks * (4 * w))) t' space'
   unfolding write_answer
   readable_written space h {space' = space'} x = record {
     answers = λ q n e.
@@ -179,10 +180,11 @@ unfolding index_of placed_records
 index_at_law words s {f} e = ap (λ m. index_at m f.records) (file_parts words s e).header
 
 module _ {s t : List ℕ} where
-  pub tree_readable : {w : ℕ} → Width w → {r : Walked} {t' : List ℕ} → ReadTree s t r t' → {a : Totals} → r ≡ Done a → Readable a.version s t' w a.blocks
-  tree_readable {w} h {t' = t'} (read f {rows = rows} {n = n} e k l) z =
+  readable_of : {w : ℕ} → Width w → {r : Outcome Totals Refusal} {t' : List ℕ} → ReadTree s t r t' → {a : Totals} → r ≡ Ok a → Readable a.version s t' w a.blocks
+  readable_of {w} h {t' = t'} (read f {rows = rows} {n = n} e k l) {a} z =
       let x = file_parts (length t) s e in
-      subst (λ (b : Totals). Readable b.version s t' w b.blocks) (totals z)
+      let y : totals_of f.header.value rows f.records n ≡ a = cc in
+      subst (λ (b : Totals). Readable b.version s t' w b.blocks) y
       (record {
         short = x.short;
         inside = x.inside;
@@ -193,27 +195,31 @@ module _ {s t : List ℕ} where
         counted = blocks_indexed (length t) s e ∙ ap length (index_at_law (length t) s e);
         few = blocks_limited (length t) s e;
       })
-    where
-      totals : {a b : Totals} → ◌≡◌ {A = Walked} (Done a) (Done b) → a ≡ b
-      totals e = cc
-  tree_readable h (unread e l) z = done≢stopped (sym z)
+  readable_of h (unread e l) z = cc
 
-  pub tree_written : {r : Walked} {t' : List ℕ} → ReadTree s t r t' → {a : Totals} → r ≡ Done a → {w : ℕ} {space t'' space' : List ℕ} {k : LengthReply}
+  pub tree_readable : {w : ℕ} → Width w → {a : Totals} {t' : List ℕ} → ReadTree s t (Ok a) t' → Readable a.version s t' w a.blocks
+  tree_readable h r = readable_of h r refl
+
+  written_of : {r : Outcome Totals Refusal} {t' : List ℕ} → ReadTree s t r t' → {a : Totals} → r ≡ Ok a → {w : ℕ} {space t'' space' : List ℕ} {k : Outcome ℕ LengthRefusal}
       → ReadWritten a.version s t' space w k t'' space' → length_is k space' ≡ write_index_call w (length t) s space
   unfolding write_index_call of_file
-  tree_written {t' = t'} (read f {rows = rows} {n = n} e k l) {a} z {w} {space} y =
+  written_of {t' = t'} (read f {rows = rows} {n = n} e k l) {a} z {w} {space} y =
       let x = file_parts (length t) s e in
-      let v : f.header.value ≡ a.version = ap version_of z in
+      let v : f.header.value ≡ a.version = cc in
       y.answers (record { records = f.records; end = f.end }) n (ap (λ m. records_at m (length t' / 3) [] 8 s) (sym v) ∙ ap (λ m. records_at f.header.value (m / 3) [] 8 s) l ∙ x.reads)
       ∙ ap (λ i. write_answer length space (gives (index_bytes w i))) (sym (index_at_law (length t) s e)) ∙ rw e refl
-    where
-      version_of : Walked → ℕ
-      version_of (Done b) = b.version
-      version_of (Stopped g) = 0
-  tree_written (unread e l) z y = done≢stopped (sym z)
+  written_of (unread e l) z y = cc
 
-  pub tree_refused : {r : Walked} {t' : List ℕ} → ReadTree s t r t' → {f : Refusal} → r ≡ Stopped f → (w : ℕ) (space : List ℕ)
-      → length_is (Refused f 0) space ≡ write_index_call w (length t) s space
+  pub tree_written : {a : Totals} {t' : List ℕ} → ReadTree s t (Ok a) t' → {w : ℕ} {space t'' space' : List ℕ} {k : Outcome ℕ LengthRefusal}
+      → ReadWritten a.version s t' space w k t'' space' → length_is k space' ≡ write_index_call w (length t) s space
+  tree_written r y = written_of r refl y
+
+  refused_of : {r : Outcome Totals Refusal} {t' : List ℕ} → ReadTree s t r t' → {f : Refusal} → r ≡ Err f → (w : ℕ) (space : List ℕ)
+      → length_is (Err (record { refusal = f; needed = 0 })) space ≡ write_index_call w (length t) s space
   unfolding write_index_call of_file write_answer
-  tree_refused (read f e k l) z w space = done≢stopped z
-  tree_refused (unread {f = x} e l) {f} z w space = let y : f ≡ x = cc in rw e (ap (λ g. length_is (Refused g 0) space) y)
+  refused_of (read f e k l) z w space = cc
+  refused_of (unread {f = x} e l) {f} z w space = let y : f ≡ x = cc in rw e (ap (λ g. length_is (Err (record { refusal = g; needed = 0 })) space) y)
+
+  pub tree_refused : {f : Refusal} {t' : List ℕ} → ReadTree s t (Err f) t' → (w : ℕ) (space : List ℕ)
+      → length_is (Err (record { refusal = f; needed = 0 })) space ≡ write_index_call w (length t) s space
+  tree_refused r = refused_of r refl

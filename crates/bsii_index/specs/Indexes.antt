@@ -1,5 +1,5 @@
 -- What the walks of the index calls know.
-use Rattle.std.specs.Prelude.{◌≡◌, ℕ, ◌*◌, ◌/◌, ◌≤◌, List, [], ◌++◌, length, drop}
+use Rattle.std.specs.Prelude.{◌≡◌, ℕ, ◌*◌, ◌/◌, ◌≤◌, List, [], ◌++◌, length, drop, Result as Outcome}
 use Rattle.bsii_format.specs.Reader.{ok}
 use Rattle.bsii_format.specs.File.{Records, length_limit}
 use Rattle.bsii_format.specs.Replies.{gives}
@@ -10,13 +10,13 @@ use Rattle.bsii_derived.specs.IndexCalls.{checked}
 use Rattle.bsii_parse.specs.Walks.{records_at, index_at}
 use Rattle.bsii_index_record.specs.Records.{Width}
 use Rattle.bsii_index.specs.Answers.{checked_is, length_is}
-use Rattle.bsii_index.specs.declared.check.CheckReply.{CheckReply}
-use Rattle.bsii_index.specs.declared.write.LengthReply.{LengthReply}
+use Rattle.bsii_string.specs.declared.answers.Refusal.{Refusal}
+use Rattle.bsii_index.specs.declared.write.LengthRefusal.{LengthRefusal}
 
 -- ---- check
 
 -- of the records l, `agreed` stand at the front of the bytes i, and there are `blocks`
-pub record Fitting (i : List ℕ) (w agreed blocks : ℕ) (r : CheckReply) : Type 0 where
+pub record Fitting (i : List ℕ) (w agreed blocks : ℕ) (r : Outcome (Unit {0}) Refusal) : Type 0 where
   pub fits : (l : List index.IndexRecord) → agreed ≡ agreeing w l i → blocks ≡ length l → checked_is r ≡ checked w l i
 
 -- ---- write
@@ -48,7 +48,7 @@ pub record Readable (version : ℕ) (s t : List ℕ) (w blocks : ℕ) : Type 0 w
   pub counted : blocks ≡ length (index_at 8 records.records)
   pub few : blocks ≤ length_limit
 
-pub record ReadWritten (version : ℕ) (s t space : List ℕ) (w : ℕ) (r : LengthReply) (t' space' : List ℕ) : Type 0 where
+pub record ReadWritten (version : ℕ) (s t space : List ℕ) (w : ℕ) (r : Outcome ℕ LengthRefusal) (t' space' : List ℕ) : Type 0 where
   pub answers : (q : Records) (n : ℕ) → records_at version (length t / 3) [] 8 s ≡ ok q n (drop n s)
       → length_is r space' ≡ write_answer length space (gives (index_bytes w (index_at 8 q.records)))
   pub size : length t' ≡ length t

@@ -9,38 +9,30 @@ ghost use Rattle.bsii_index_record.specs.Records.{Width};
 ghost use Rattle.bsii_index.specs.Answers.{checked_is};
 ghost use Rattle.bsii_index.specs.Indexes.{Fitting};
 
+use bsii_format::Cause;
 use bsii_index_record::WIDTH;
 use bsii_parse::reading::compare;
-use bsii_parse::walk::Compared;
-use bsii_string::answers::{MISFIT, Refusal, refused};
+use bsii_string::answers::{Refusal, refused};
 use bsii_table::clear;
 
-#[derive(Drop)]
-pub enum CheckReply {
-    Fits,
-    Refused(Refusal),
-}
-
 // All records agree and nothing stands behind them, or the first that does not is the misfit.
-fn fitting(index: &[u8], width: usize, agreed: usize, blocks: usize) -> CheckReply
+fn fitting(index: &[u8], width: usize, agreed: usize, blocks: usize) -> Result<(), Refusal>
     requires { Width width × (agreed ≤ length_limit) }
     ensures { Fitting index.now width agreed blocks result }
 {
     let end = agreed * (4 * width);
     if agreed == blocks && index.len() == end {
-        return CheckReply::Fits;
+        return Ok(());
     }
-    CheckReply::Refused(refused(MISFIT, end))
+    Err(refused(Cause::Misfit, end))
 }
 
-pub fn check_index(file: &[u8], table: &mut [u32], index: &[u8]) -> CheckReply
+pub fn check_index(file: &[u8], table: &mut [u32], index: &[u8]) -> Result<(), Refusal>
     ensures reply { checked_is result ≡ check_index_call index_width (length table.old) file.now index.now }
     ensures zeros { table.new ≡ table_after table.old }
 {
-    let compared = compare(file, table, index, WIDTH);
+    let read = compare(file, table, index, WIDTH);
     clear(table);
-    match compared {
-        Compared::Refused(f) => CheckReply::Refused(f),
-        Compared::Read { totals, agreed } => fitting(index, WIDTH, agreed, totals.blocks),
-    }
+    let compared = read?;
+    fitting(index, WIDTH, compared.agreed, compared.totals.blocks)
 }

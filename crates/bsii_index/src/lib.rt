@@ -2,5 +2,4 @@
 #![tactic(auto)]
 
 pub mod check;
-pub mod known;
 pub mod write;

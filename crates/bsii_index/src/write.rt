@@ -7,18 +7,27 @@ ghost use Rattle.bsii_index_record.specs.Records.{Width};
 ghost use Rattle.bsii_index.specs.Answers.{length_is};
 ghost use Rattle.bsii_index.specs.Indexes.{Readable, Writable, RecordsWritten, ReadWritten};
 
-use crate::known::known_step;
+use bsii_format::Cause;
 use bsii_index_record::{WIDTH, put_record};
+use bsii_parse::parts::Known;
 use bsii_parse::reading::tree_parser;
-use bsii_parse::walk::{Progress, ReadStep, Walked, entry_of};
-use bsii_string::answers::{OUTPUT_SHORT, Refusal, refused};
+use bsii_parse::walk::{Progress, ReadStep, entry_of, record_step};
+use bsii_string::answers::{Refusal, refused};
 use bsii_table::clear;
 
-// The index's length in bytes; or a refusal, with the needed length where it is 11, else 0.
+// A refusal, with the needed length where it is that of a short space, else 0.
 #[derive(Drop)]
-pub enum LengthReply {
-    Length(usize),
-    Refused { refusal: Refusal, needed: usize },
+pub struct LengthRefusal {
+    pub refusal: Refusal,
+    pub needed: usize,
+}
+
+impl From<Refusal> for LengthRefusal {
+    ghost from_gives = { λ f r. r ≡ record { refusal = f; needed = 0 } };
+
+    fn from(refusal: Refusal) -> LengthRefusal {
+        LengthRefusal { refusal, needed: 0 }
+    }
 }
 
 // The records of an accepted file from `start` on, with an empty table and room for all.
@@ -33,6 +42,7 @@ fn write_records(
     requires { Writable version s.now start table.old space.old width }
     ensures { RecordsWritten version s.now start table.old space.old width table.new space.new }
 {
+    let known = Known { version };
     let mut p = Progress {
         at: start,
         rows: 0,
@@ -41,10 +51,11 @@ fn write_records(
     };
     let mut to: usize = 0;
     loop {
-        let step = known_step(s, version, p, table);
+        let Ok(step) = record_step(&known, s, p, table) else {
+            return;
+        };
         match step {
             ReadStep::End(_) => return,
-            ReadStep::Refused(_) => return,
             ReadStep::Prototype(further) => {
                 p = further;
             }
@@ -58,7 +69,7 @@ fn write_records(
     }
 }
 
-// The index of a file that was read and has so many blocks.
+// The index of a file that was read and has so many blocks: its length in bytes.
 fn write_read(
     file: &[u8],
     version: u32,
@@ -66,37 +77,36 @@ fn write_read(
     space: &mut [u8],
     width: usize,
     blocks: usize,
-) -> LengthReply
+) -> Result<usize, LengthRefusal>
     requires { Readable version file.now table.old width blocks }
     ensures { ReadWritten version file.now table.old space.old width result table.new space.new }
 {
     let length = blocks * (4 * width);
     if space.len() < length {
-        return LengthReply::Refused {
-            refusal: refused(OUTPUT_SHORT, 0),
+        return Err(LengthRefusal {
+            refusal: refused(Cause::OutputShort, 0),
             needed: length,
-        };
+        });
     }
     write_records(file, version, 8, table, space, width);
-    LengthReply::Length(length)
+    Ok(length)
 }
 
 // The answer, with the table as it was left by the walks.
-fn write(file: &[u8], table: &mut [u32], space: &mut [u8], width: usize) -> LengthReply
+fn write(
+    file: &[u8],
+    table: &mut [u32],
+    space: &mut [u8],
+    width: usize,
+) -> Result<usize, LengthRefusal>
     requires { Width width }
     ensures { length_is result space.new ≡ write_index_call width (length table.old) file.now space.old }
 {
-    let walked = tree_parser(file, table);
-    match walked {
-        Walked::Fault(f) => return LengthReply::Refused {
-            refusal: f,
-            needed: 0,
-        },
-        Walked::Done(t) => return write_read(file, t.version, table, space, width, t.blocks),
-    }
+    let totals = tree_parser(file, table)?;
+    write_read(file, totals.version, table, space, width, totals.blocks)
 }
 
-pub fn write_index(file: &[u8], table: &mut [u32], space: &mut [u8]) -> LengthReply
+pub fn write_index(file: &[u8], table: &mut [u32], space: &mut [u8]) -> Result<usize, LengthRefusal>
     ensures reply { length_is result space.new ≡ write_index_call index_width (length table.old) file.now space.old }
     ensures zeros { table.new ≡ table_after table.old }
 {

@@ -21,10 +21,9 @@ use Rattle.bsii_format.proofs.Parsers.{number_exact, id_exact}
 use Rattle.bsii_format.proofs.Positions.{step, bind_ok, bind_fault, verify_ok, verify_not, verify_fault, consumed_ok}
 use Rattle.bsii_string.specs.Answers.{fault_is, refused_at, end_of}
 use Rattle.bsii_string.specs.declared.answers.Refusal.{Refusal}
-use Rattle.bsii_string.specs.declared.answers.Parsed.{Parsed}
-use Rattle.bsii_string.specs.declared.answers.Parsed.TheVariants.{Fault}
 use Rattle.bsii_derived.specs.IndexCalls.{is_of, block_at, answering}
 use Rattle.bsii_index_field.specs.Looks.{block_head, HeadRead, value_of}
+use Rattle.std.specs.Prelude.{Err, Result as Outcome}
 
 -- ---- its prototype id
 
@@ -49,22 +48,22 @@ unfolding block_head
 strange p at s e h = bind_fault (verify (is_of p) undefined_prototype le_u32) _ (verify_not (is_of p) undefined_prototype le_u32 e h)
 
 module _ {s : List ℕ} {at id : ℕ} where
-  pub head_cut : {f : Refusal} → number 4 at (drop at s) ≡ fault (fault_is f) → HeadRead s at id (Fault f)
+  pub head_cut : {f : Refusal} → number 4 at (drop at s) ≡ fault (fault_is f) → HeadRead s at id (Err f)
   unfolding block_head end_of
   head_cut e = record {
     ends = λ p i. sym (ap end_of (bind_fault (verify (is_of p) undefined_prototype le_u32) _ (verify_fault (is_of p) undefined_prototype le_u32 e)));
   }
 
   module _ {k n : ℕ} {r : List ℕ} (e : number 4 at (drop at s) ≡ ok k n r) where
-    pub head_zero : k ≡ 0 → HeadRead s at id (Fault (refused_at undefined_prototype at))
+    pub head_zero : k ≡ 0 → HeadRead s at id (Err (refused_at undefined_prototype at))
     unfolding end_of
     head_zero z = record { ends = λ p i. sym (ap end_of (strange p at (drop at s) e (zero_strange p k z))) }
 
-    pub head_other : (k ≡ id → ⊥) → HeadRead s at id (Fault (refused_at undefined_prototype at))
+    pub head_other : (k ≡ id → ⊥) → HeadRead s at id (Err (refused_at undefined_prototype at))
     unfolding end_of
     head_other z = record { ends = λ p i. sym (ap end_of (strange p at (drop at s) e (other_strange p k i z))) }
 
-    pub head_own : (k ≡ 0 → ⊥) → k ≡ id → {q : Parsed} → q ≡ end_of (id_parser n r) → HeadRead s at id q
+    pub head_own : (k ≡ 0 → ⊥) → k ≡ id → {q : Outcome ℕ Refusal} → q ≡ end_of (id_parser n r) → HeadRead s at id q
     unfolding block_head
     head_own z o w = record {
       ends = λ p i. w ∙ sym (ap end_of (bind_ok (verify (is_of p) undefined_prototype le_u32) _ (verify_ok (is_of p) undefined_prototype le_u32 e (own p k z i o))));

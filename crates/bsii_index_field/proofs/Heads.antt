@@ -17,7 +17,7 @@ use Rattle.bsii_string.specs.declared.answers.Refusal.{Refusal}
 use Rattle.bsii_prototype.proofs.Beginnings.{head_marked, marked, defining_whole}
 use Rattle.bsii_derived.specs.IndexCalls.{demand, PrototypeHead, prototype_head}
 use Rattle.bsii_index_field.specs.Looks.{named_head, marked_head, head_of}
-use Rattle.bsii_index_field.specs.declared.prototypes.Prototype.TheVariants.{Prototype as Read, Refused}
+use Rattle.std.specs.Prelude.{Ok, Err}
 
 -- ---- a number that must be k, for the block at b
 
@@ -45,30 +45,30 @@ module _ (k b : ℕ) (R : Reader ℕ) {at : ℕ} {s : List ℕ} where
 -- ---- as the code's answers
 
 module _ (at : ℕ) (s : List ℕ) where
-  pub named_short : {f : Refusal} → number 4 at s ≡ fault (fault_is f) → Refused f ≡ head_of (named_head at s)
+  pub named_short : {f : Refusal} → number 4 at s ≡ fault (fault_is f) → Err f ≡ head_of (named_head at s)
   unfolding named_head head_of
   named_short e = sym (ap head_of (bind_fault (number 4) _ e))
 
   module _ {k n : ℕ} {r : List ℕ} (e : number 4 at s ≡ ok k n r) where
-    pub named_cut : {f : Refusal} → str_parser n r ≡ fault (fault_is f) → Refused f ≡ head_of (named_head at s)
+    pub named_cut : {f : Refusal} → str_parser n r ≡ fault (fault_is f) → Err f ≡ head_of (named_head at s)
     unfolding named_head head_of
     named_cut h = sym (ap head_of (bind_ok (number 4) _ e ∙ bind_fault str_parser _ h))
 
-    pub named_whole : {v : List ℕ} {m : ℕ} {q : List ℕ} → str_parser n r ≡ ok v m q → Read k m ≡ head_of (named_head at s)
+    pub named_whole : {v : List ℕ} {m : ℕ} {q : List ℕ} → str_parser n r ≡ ok v m q → Ok (record { id = k; fields = m }) ≡ head_of (named_head at s)
     unfolding named_head head_of success
     named_whole h = sym (ap head_of (bind_ok (number 4) _ e ∙ bind_ok str_parser _ h))
 
   module _ (b : ℕ) where
-    pub mark_short : {f : Refusal} → number 1 at s ≡ fault (fault_is f) → Refused f ≡ head_of (marked_head b at s)
+    pub mark_short : {f : Refusal} → number 1 at s ≡ fault (fault_is f) → Err f ≡ head_of (marked_head b at s)
     unfolding marked_head head_of
     mark_short e = sym (ap head_of (bind_fault (demand 1 b le_u8) _ (demand_fault 1 b le_u8 e)))
 
-    pub zero_short : {f : Refusal} → number 4 at s ≡ fault (fault_is f) → Refused f ≡ head_of (prototype_head b at s)
+    pub zero_short : {f : Refusal} → number 4 at s ≡ fault (fault_is f) → Err f ≡ head_of (prototype_head b at s)
     unfolding prototype_head head_of
     zero_short e = sym (ap head_of (bind_fault (demand 0 b le_u32) _ (demand_fault 0 b le_u32 e)))
 
     module _ {m n : ℕ} {r : List ℕ} where
-      pub mark_not : number 1 at s ≡ ok m n r → (m ≡ 1 → ⊥) → Refused (refused_at undefined_prototype b) ≡ head_of (marked_head b at s)
+      pub mark_not : number 1 at s ≡ ok m n r → (m ≡ 1 → ⊥) → Err (refused_at undefined_prototype b) ≡ head_of (marked_head b at s)
       unfolding marked_head head_of
       mark_not e h = sym (ap head_of (bind_fault (demand 1 b le_u8) _ (demand_not 1 b le_u8 e h)))
 
@@ -76,7 +76,7 @@ module _ (at : ℕ) (s : List ℕ) where
       unfolding marked_head
       mark_one e h = sym (ap head_of (bind_ok (demand 1 b le_u8) (λ m. named_head) (demand_ok 1 b le_u8 e h)))
 
-      pub zero_not : number 4 at s ≡ ok m n r → (m ≡ 0 → ⊥) → Refused (refused_at undefined_prototype b) ≡ head_of (prototype_head b at s)
+      pub zero_not : number 4 at s ≡ ok m n r → (m ≡ 0 → ⊥) → Err (refused_at undefined_prototype b) ≡ head_of (prototype_head b at s)
       unfolding prototype_head head_of
       zero_not e h = sym (ap head_of (bind_fault (demand 0 b le_u32) _ (demand_not 0 b le_u32 e h)))
 

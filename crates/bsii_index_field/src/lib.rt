@@ -14,53 +14,40 @@ ghost use Rattle.bsii_index_record.specs.Records.{Width};
 ghost use Rattle.bsii_index_field.specs.Looks.{Looked, LookedUp};
 
 use crate::blocks::{block_field, block_head};
-use crate::prototypes::{Prototype, prototype_parser};
-use bsii_base38::char_pairs;
-use bsii_file_field::fields::FieldReply;
-use bsii_index_record::{RecordAt, WIDTH, record_at};
-use bsii_string::answers::{ABSENT, INPUT_LONG, LENGTH_LIMIT, Num, Parsed, refused};
+use crate::prototypes::prototype_parser;
+use bsii_base38::CharPairs;
+use bsii_file_field::answers::Field;
+use bsii_format::Cause;
+use bsii_index_record::{WIDTH, record_at};
+use bsii_string::answers::{LENGTH_LIMIT, Refusal, refused};
 use bsii_string::numbers::le_u32;
 
 // The field in the block at `at`, under the prototype at `prototype`.
-fn look(s: &[u8], version: u32, at: usize, prototype: usize, name: &[u8]) -> FieldReply
+fn look(s: &[u8], version: u32, at: usize, prototype: usize, name: &[u8]) -> Result<Field, Refusal>
     ensures { Looked version s.now at prototype name.now result }
 {
-    let under = prototype_parser(s, prototype, at);
-    match under {
-        Prototype::Refused(f) => FieldReply::Refused(f),
-        Prototype::Prototype { id, fields } => {
-            let chars = char_pairs();
-            let head = block_head(&chars, s, at, id);
-            match head {
-                Parsed::Fault(f) => FieldReply::Refused(f),
-                Parsed::Next(start) => block_field(&chars, s, version, fields, start, name),
-            }
-        }
-    }
+    let under = prototype_parser(s, prototype, at)?;
+    let chars = CharPairs::new();
+    let start = block_head(&chars, s, at, under.id)?;
+    block_field(&chars, s, version, under.fields, start, name)
 }
 
 // The answer by an index of numbers of `width` bytes. The length and the number of fields of a record are not looked at.
-fn look_up(file: &[u8], index: &[u8], width: usize, k: usize, name: &[u8]) -> FieldReply
+fn look_up(file: &[u8], index: &[u8], width: usize, k: usize, name: &[u8]) -> Result<Field, Refusal>
     requires { Width width }
     ensures { LookedUp width file.now index.now k name.now result }
 {
     if LENGTH_LIMIT < file.len() {
-        return FieldReply::Refused(refused(INPUT_LONG, 0));
+        return Err(refused(Cause::InputLong, 0));
     }
-    let record = record_at(index, width, k);
-    match record {
-        RecordAt::NoRecord => FieldReply::Refused(refused(ABSENT, 0)),
-        RecordAt::Record(r) => {
-            let version = le_u32(file, 4);
-            match version {
-                Num::Short(f) => FieldReply::Refused(f),
-                Num::Got(v, _) => look(file, v, r.offset, r.prototype, name),
-            }
-        }
-    }
+    let Some(record) = record_at(index, width, k) else {
+        return Err(refused(Cause::Absent, 0));
+    };
+    let (version, _) = le_u32(file, 4)?;
+    look(file, version, record.offset, record.prototype, name)
 }
 
-pub fn field_by_index(file: &[u8], index: &[u8], k: usize, name: &[u8]) -> FieldReply
+pub fn field_by_index(file: &[u8], index: &[u8], k: usize, name: &[u8]) -> Result<Field, Refusal>
     ensures reply { field_is file.now result ≡ index_field_call index_width file.now index.now k name.now }
 {
     look_up(file, index, WIDTH, k, name)
@@ -70,16 +57,8 @@ pub fn field_by_index(file: &[u8], index: &[u8], k: usize, name: &[u8]) -> Field
 pub fn part_by_index<'a>(file: &'a [u8], index: &[u8], k: usize, name: &[u8]) -> &'a [u8]
     ensures part { result.now ≡ part_of (index_field_call index_width file.now index.now k name.now) }
 {
-    let reply = look_up(file, index, WIDTH, k, name);
-    match reply {
-        FieldReply::Refused(_) => return &file[0..0],
-        FieldReply::Field {
-            type_id: _,
-            part,
-            part_size,
-        } => {
-            let end = part + part_size;
-            return &file[part..end];
-        }
-    }
+    let Ok(field) = look_up(file, index, WIDTH, k, name) else {
+        return &file[0..0];
+    };
+    field.bytes(file)
 }

@@ -102,15 +102,21 @@ unfolding index_record_bytes
 same_lacks w at s r h =
     same_cut (index_record_bytes w r) (take (4 * w) (drop at s)) (simp (length-append, length-take, length-drop, le_length) (omega arith))
 
+abbrev pub same_number : ℕ → ℕ → List ℕ → ℕ → Bool
+same_number w at s n = same (le w n) (take w (drop at s))
+
 pub same_record : (w at : ℕ) (s : List ℕ) (r : IndexRecord) → same (index_record_bytes w r) (take (4 * w) (drop at s))
-    ≡ same (le w r.offset) (take w (drop at s))
-    && (same (le w r.size) (take w (drop (at + w) s))
-    && (same (le w r.prototype) (take w (drop (at + 2 * w) s)) && same (le w r.fields) (take w (drop (at + 3 * w) s))))
+    ≡ ((same_number w at s r.offset && same_number w (at + w) s r.size) && same_number w (at + 2 * w) s r.prototype)
+    && same_number w (at + 3 * w) s r.fields
 unfolding index_record_bytes
 same_record w at s r =
     let v : 4 * w ≡ w + (w + (w + w)) = omega arith in
     let x : at + w + w ≡ at + 2 * w = omega arith in
     let y : at + 2 * w + w ≡ at + 3 * w = omega arith in
+    let a = same_number w at s r.offset in
+    let b = same_number w (at + w) s r.size in
+    let c = same_number w (at + 2 * w) s r.prototype in
+    let d = same_number w (at + 3 * w) s r.fields in
     rw (
       v,
       same_next w r.offset at (w + (w + w)) (le w r.size ++ (le w r.prototype ++ le w r.fields)) s,
@@ -119,13 +125,14 @@ same_record w at s r =
       same_next w r.prototype (at + 2 * w) w (le w r.fields) s,
       y,
     )
+    (and_assoc a b (c && d) ∙ and_assoc (a && b) c d)
 
--- an answer r about the next number
-pub agrees : {r a b : Bool} → r ≡ a → r ≡ true → a && b ≡ b
-agrees {r} {a} {b} e h = ap (λ (x : Bool). x && b) (sym e ∙ h)
+-- an answer r so far, and what `&&` makes of it and of the next number
+pub goes_on : {r a v b : Bool} → r ≡ a → r ≡ true → v ≡ b → v ≡ a && b
+goes_on {r} {a} {v} {b} e h f = f ∙ ap (λ (x : Bool). x && b) (sym h ∙ e)
 
-pub differs : {r a : Bool} (b : Bool) → r ≡ a → r ≡ false → a && b ≡ false
-differs {r} b e h = ap (λ (x : Bool). x && b) (sym e ∙ h)
+pub ends_there : {r a v : Bool} (b : Bool) → r ≡ a → r ≡ false → v ≡ r → v ≡ a && b
+ends_there b e h f = f ∙ h ∙ ap (λ (x : Bool). x && b) (sym h ∙ e)
 
 -- ---- stored
 

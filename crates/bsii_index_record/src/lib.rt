@@ -1,4 +1,5 @@
-// The records of an index: read, compared and written. A number has `width` bytes, the low one first; a record has four numbers.
+// The records of an index: read, compared and written. A number has `width` bytes, the low one first; a record has four numbers. The width
+// is a number with `Width` beside it: all definitions speak of a number of bytes, so a struct with that invariant would be no plainer.
 #![tactic(auto)]
 
 ghost use Rattle.std.specs.Prelude.{◌≡◌, ◌+◌, ◌*◌, ◌≤◌, ◌++◌, length, take, drop};
@@ -15,18 +16,12 @@ use bsii_string::numbers::left;
 pub const WIDTH: usize = 3;
 
 // A block's offset and length, and its prototype's offset and number of fields.
-#[derive(Drop)]
+#[derive(Clone, Copy)]
 pub struct IndexRecord {
     pub offset: usize,
     pub size: usize,
     pub prototype: usize,
     pub fields: usize,
-}
-
-#[derive(Drop)]
-pub enum RecordAt {
-    Record(IndexRecord),
-    NoRecord,
 }
 
 // The number at `at`. Its bytes are taken from the last one on.
@@ -35,25 +30,23 @@ fn number_at(s: &[u8], at: usize, width: usize) -> usize
     ensures { result ≡ little_endian (take width (drop at s.now)) }
 {
     let mut n: usize = 0;
-    let mut left = width;
-    while 0 < left {
-        left -= 1;
-        n = n * 256 + (s[at + left] as usize);
+    for i in (0..width).rev() {
+        n = n * 256 + usize::from(s[at + i]);
     }
     n
 }
 
 // Record number k, if all its bytes are there. A product of k might not fit, so it is compared with a quotient.
-pub fn record_at(index: &[u8], width: usize, k: usize) -> RecordAt
+pub fn record_at(index: &[u8], width: usize, k: usize) -> Option<IndexRecord>
     requires { Width width }
     ensures { found_is result ≡ record_at width index.now k }
 {
     let size = 4 * width;
     if index.len() / size <= k {
-        return RecordAt::NoRecord;
+        return None;
     }
     let at = k * size;
-    RecordAt::Record(IndexRecord {
+    Some(IndexRecord {
         offset: number_at(index, at, width),
         size: number_at(index, at + width, width),
         prototype: number_at(index, at + 2 * width, width),
@@ -69,13 +62,11 @@ fn number_is(s: &[u8], at: usize, width: usize, n: usize) -> bool
         return false;
     }
     let mut rest = n;
-    let mut i = 0;
-    while i < width {
+    for i in 0..width {
         if s[at + i] != (rest % 256) as u8 {
             return false;
         }
         rest = rest / 256;
-        i += 1;
     }
     true
 }
@@ -88,16 +79,10 @@ pub fn record_is(index: &[u8], at: usize, width: usize, entry: IndexRecord) -> b
     if left(index, at) < 4 * width {
         return false;
     }
-    if !number_is(index, at, width, entry.offset) {
-        return false;
-    }
-    if !number_is(index, at + width, width, entry.size) {
-        return false;
-    }
-    if !number_is(index, at + 2 * width, width, entry.prototype) {
-        return false;
-    }
-    number_is(index, at + 3 * width, width, entry.fields)
+    number_is(index, at, width, entry.offset)
+        && number_is(index, at + width, width, entry.size)
+        && number_is(index, at + 2 * width, width, entry.prototype)
+        && number_is(index, at + 3 * width, width, entry.fields)
 }
 
 // One record more of a file. Of the `number` records in front of it, the first `agreed` stand at the front of the index.
@@ -114,16 +99,15 @@ pub fn agree(index: &[u8], width: usize, agreed: usize, number: usize, entry: In
     agreed
 }
 
+// Not by `to_le_bytes`, which has eight bytes: a number may have any width here.
 fn put_number(out: &mut [u8], at: usize, width: usize, n: usize)
     requires { at + width ≤ length out.old }
     ensures { out.new ≡ sets out.old at (le width n) }
 {
     let mut rest = n;
-    let mut i = 0;
-    while i < width {
+    for i in 0..width {
         out[at + i] = (rest % 256) as u8;
         rest = rest / 256;
-        i += 1;
     }
 }
 

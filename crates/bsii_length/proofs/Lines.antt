@@ -6,6 +6,7 @@ use mathlib.Core.Option.{Option, none, some, map}
 use mathlib.Core.List.{List, [], ◌∷◌}
 use lib.ListN.{length, length-append}
 use lib.Dec.{eqb}
+use Rattle.bsii_format.specs.declared.Cause.{Cause}
 use Rattle.bsii_format.specs.Replies.{Reply, gives, refuses, unlisted_type, enum_value}
 use Rattle.bsii_format.specs.Reader.{◌<$>◌, Consumed}
 use Rattle.bsii_format.specs.Digits.{decimal}
@@ -108,10 +109,10 @@ joined_size (gives a) (gives b) = rw length-append (omega arith)
 joined_size (gives a) (refuses f) = omega arith
 joined_size (refuses f) b = omega arith
 
-or_refuse_size : (n at : ℕ) (o : Option (List ℕ)) → answered (or_refuse n at o) ≤ size o
+or_refuse_size : (c : Cause) (at : ℕ) (o : Option (List ℕ)) → answered (or_refuse c at o) ≤ size o
 unfolding or_refuse
-or_refuse_size n at none = omega arith
-or_refuse_size n at (some t) = omega arith
+or_refuse_size c at none = omega arith
+or_refuse_size c at (some t) = omega arith
 
 abbrev pub ShortFields : List (Consumed ValuePrototype) → Type 0
 ShortFields = Every (Consumed ValuePrototype) (λ f. ShortField f.value)

@@ -8,6 +8,7 @@ use mathlib.Core.List.{List, [], ◌∷◌}
 use lib.ListN.{length, take, drop, get_or, length-drop}
 use lib.Seq.{get_or-drop, length-take-le}
 use lib.Dec.{leb, leb→le}
+use Rattle.bsii_format.specs.declared.Cause.{Cause}
 use Rattle.bsii_format.specs.Replies.{not_utf8}
 use Rattle.bsii_format.specs.Reader.{ok, fault_at, Reader, after, ◌>>=◌, success, fail, ◌<$>◌, bytes, exhausted, verify, Consumed, consumed, repeat}
 use Rattle.bsii_format.specs.Numbers.{little_endian, number}
@@ -56,9 +57,9 @@ success_takes {A} {P} a p = record {
   taken = λ at s v at' r i e. ok_move (λ v at' r. Taken A P s v r) e (record { size = 0; long = sym (zero-add (length s)); rest = i; holds = p });
 }
 
-pub fail_takes : {A : Type 0} {P : A → ℕ → Type 0} (n : ℕ) → Takes A (fail n) P
+pub fail_takes : {A : Type 0} {P : A → ℕ → Type 0} (c : Cause) → Takes A (fail c) P
 unfolding fail
-fail_takes n = record { taken = λ at s v at' r i e. fault≢ok e }
+fail_takes c = record { taken = λ at s v at' r i e. fault≢ok e }
 
 pub exhausted_takes : {A : Type 0} {P : A → ℕ → Type 0} (n : ℕ) → Takes A (exhausted n) P
 unfolding exhausted
@@ -80,11 +81,11 @@ pub cond_takes : {A : Type 0} {P : A → ℕ → Type 0} (b : Bool) {R S : Reade
 cond_takes true h k = h
 cond_takes false h k = k
 
-pub verify_takes : {A : Type 0} {P : A → ℕ → Type 0} (p : A → Bool) (n : ℕ) {R : Reader A} → Takes A R P → Takes A (verify p n R) P
+pub verify_takes : {A : Type 0} {P : A → ℕ → Type 0} (p : A → Bool) (c : Cause) {R : Reader A} → Takes A R P → Takes A (verify p c R) P
 unfolding verify
-verify_takes p n {R} h = record {
+verify_takes p c {R} h = record {
   taken = λ at s v at' r i e.
-      let q = after_ok (R at s) (λ a at₁ s₁. cond (p a) (ok a at₁ s₁) (fault_at n at)) e in
+      let q = after_ok (R at s) (λ a at₁ s₁. cond (p a) (ok a at₁ s₁) (fault_at c at)) e in
       h.taken at s v at' r i (q.3 ∙ (cond_ok (p q.0) (ok q.0 q.1 q.2) _ q.4).1);
 }
 

@@ -23,9 +23,9 @@ use Rattle.bsii_definition.specs.declared.pairs.Definition.{Definition}
 use Rattle.bsii_window.specs.Window.{Wrote}
 use Rattle.bsii_window.proofs.Laws.{then, being, same}
 use Rattle.bsii_window.proofs.Loops.{begin, end}
-use Rattle.bsii_write_value.specs.Lines.{name_of, LinesAre, SingleWritten, IndexedWritten}
+use Rattle.std.specs.Prelude.{Some, None, Option as Answer}
+use Rattle.bsii_write_value.specs.Lines.{name_of, lines, LinesAre, SingleWritten, IndexedWritten}
 use Rattle.bsii_write_value.specs.declared.values.Lines.{Lines}
-use Rattle.bsii_write_value.specs.declared.values.Lines.TheVariants.{Next, NotInList as Absent}
 use Rattle.bsii_lines.specs.Lines.{VectorWritten, ArrayWritten, FieldWritten}
 
 -- ---- texts one behind the other
@@ -70,7 +70,7 @@ go_start s start k d count old to h r = record {
 }
 
 module _ (s : List ℕ) (start : ℕ) (k : Kind) (d : Definition) (count : ℕ) (old : List ℕ) (to at here i : ℕ) (out : List ℕ) (g : Going s start k d count old to at here i out) where
-  pub go_done : count ≤ i → VectorWritten s start k d count old to (Next at here) out
+  pub go_done : count ≤ i → VectorWritten s start k d count old to (lines at here) out
   unfolding repeat success element_lines append
   go_done h = record {
     writes = λ l n e f q.
@@ -82,8 +82,8 @@ module _ (s : List ℕ) (start : ℕ) (k : Kind) (d : Definition) (count : ℕ) 
   }
     where
       finish : (l : List (Consumed Element)) (n : ℕ) (f : ValuePrototype) (done : List ℕ) → Wrote old to done here out → some (done ++ []) ≡ element_lines f.name f.enum_values 0 l → at ≡ n
-          → LinesAre old to (element_lines f.name f.enum_values 0 l) n (Next at here) out
-      finish l n f done w e p = subst (λ (o : Option (List ℕ)). LinesAre old to o n (Next at here) out) e (p, being (sym (append-nil done)) w)
+          → LinesAre old to (element_lines f.name f.enum_values 0 l) n (lines at here) out
+      finish l n f done w e p = subst (λ (o : Option (List ℕ)). LinesAre old to o n (lines at here) out) e (p, being (sym (append-nil done)) w)
 
   -- the next element of those that are left
   module _ (h : i < count) {l : List (Consumed Element)} {n : ℕ} (e : repeat count (consumed (element_parser k)) start (drop start s) ≡ ok l n (drop n s)) (f : ValuePrototype) (q : Describes s d f) where
@@ -116,7 +116,7 @@ module _ (s : List ℕ) (start : ℕ) (k : Kind) (d : Definition) (count : ℕ) 
               ∙ x.text;
         }
 
-  pub go_absent : i < count → {new : List ℕ} → IndexedWritten s at k d i out here Absent new → VectorWritten s start k d count old to Absent new
+  pub go_absent : i < count → {new : List ℕ} → IndexedWritten s at k d i out here None new → VectorWritten s start k d count old to None new
   unfolding append
   go_absent h {new} w = record {
     writes = λ l n e f q.
@@ -126,12 +126,12 @@ module _ (s : List ℕ) (start : ℕ) (k : Kind) (d : Definition) (count : ℕ) 
     size = w.size ∙ g.size;
   }
     where
-      stop : {o : Option (List ℕ)} (done : List ℕ) (v more : Option (List ℕ)) (n m : ℕ) (name : List ℕ) → LinesAre out here (map (field_line name) v) m Absent new
-          → append (some done) (append (map (field_line name) v) more) ≡ o → LinesAre old to o n Absent new
-      stop done none more n m name a e = subst (λ (o : Option (List ℕ)). LinesAre old to o n Absent new) e tt
+      stop : {o : Option (List ℕ)} (done : List ℕ) (v more : Option (List ℕ)) (n m : ℕ) (name : List ℕ) → LinesAre out here (map (field_line name) v) m None new
+          → append (some done) (append (map (field_line name) v) more) ≡ o → LinesAre old to o n None new
+      stop done none more n m name a e = subst (λ (o : Option (List ℕ)). LinesAre old to o n None new) e tt
       stop done (some v) more n m name a e = absurd a
 
-  pub go_on : i < count → {next r : ℕ} {new : List ℕ} → IndexedWritten s at k d i out here (Next next r) new → Going s start k d count old to next r (i + 1) new
+  pub go_on : i < count → {next r : ℕ} {new : List ℕ} → IndexedWritten s at k d i out here (lines next r) new → Going s start k d count old to next r (i + 1) new
   go_on h {next} {r} {new} w = record {
     rest = λ l n e f q.
         let x = next' h e f q in
@@ -141,7 +141,7 @@ module _ (s : List ℕ) (start : ℕ) (k : Kind) (d : Definition) (count : ℕ) 
   }
     where
       on : (l : List (Consumed Element)) (n : ℕ) (f : ValuePrototype) (done : List ℕ) → Wrote old to done here out → (v : Option (List ℕ)) (m : ℕ) (others : List (Consumed Element))
-          → repeat (count - (i + 1)) (consumed (element_parser k)) m (drop m s) ≡ ok others n (drop n s) → LinesAre out here (map (field_line (indexed f.name i)) v) m (Next next r) new
+          → repeat (count - (i + 1)) (consumed (element_parser k)) m (drop m s) ≡ ok others n (drop n s) → LinesAre out here (map (field_line (indexed f.name i)) v) m (lines next r) new
           → append (some done) (append (map (field_line (indexed f.name i)) v) (element_lines f.name f.enum_values (i + 1) others)) ≡ element_lines f.name f.enum_values 0 l
           → Rest s k old to count next r (i + 1) new l n f
       on l n f done w none m others b c e = absurd c
@@ -155,12 +155,12 @@ module _ (s : List ℕ) (start : ℕ) (k : Kind) (d : Definition) (count : ℕ) 
 
 -- ---- the whole value
 
-lines_behind : {old : List ℕ} {to p : ℕ} {mid x : List ℕ} → Wrote old to x p mid → (o : Option (List ℕ)) (n : ℕ) (r : Lines) (new : List ℕ) → LinesAre mid p o n r new → LinesAre old to (append (some x) o) n r new
+lines_behind : {old : List ℕ} {to p : ℕ} {mid x : List ℕ} → Wrote old to x p mid → (o : Option (List ℕ)) (n : ℕ) (r : Answer Lines) (new : List ℕ) → LinesAre mid p o n r new → LinesAre old to (append (some x) o) n r new
 unfolding append
-lines_behind w none n (Next at r) new h = absurd h
-lines_behind w none n Absent new h = tt
-lines_behind w (some t) n (Next at r) new h = (h.0, then w h.1)
-lines_behind w (some t) n Absent new h = absurd h
+lines_behind w none n (Some l) new h = absurd h
+lines_behind w none n None new h = tt
+lines_behind w (some t) n (Some l) new h = (h.0, then w h.1)
+lines_behind w (some t) n None new h = absurd h
 
 elements : (s : List ℕ) (at : ℕ) (k : Kind) {count first : ℕ} → number 4 at (drop at s) ≡ ok count first (drop first s) → {v : Value} {n : ℕ} → shape_parser (some (many k)) at (drop at s) ≡ ok v n (drop n s)
     → (l : List (Consumed Element)) × (array l ≡ v) × (repeat count (consumed (element_parser k)) first (drop first s) ≡ ok l n (drop n s))
@@ -170,31 +170,31 @@ elements s at k e f =
     (q.0, q.1, sym (bind_ok (number 4) (λ n. repeat n (consumed (element_parser k))) e) ∙ q.2)
 
 module _ (s : List ℕ) (at : ℕ) (k : Kind) (d : Definition) {old : List ℕ} {to : ℕ} where
-  pub array_short : {x : Fault} → number 4 at (drop at s) ≡ fault x → ArrayWritten value_text s at k d old to Absent old
-  array_short e = record { writes = λ v n f g q. fault≢ok (sym (many_short k at (drop at s) e) ∙ f); size = refl }
+  pub array_short : {x : Fault} → fault x ≡ number 4 at (drop at s) → ArrayWritten value_text s at k d old to None old
+  array_short e = record { writes = λ v n f g q. fault≢ok (sym (many_short k at (drop at s) (sym e)) ∙ f); size = refl }
 
-  module _ {count first : ℕ} (e : number 4 at (drop at s) ≡ ok count first (drop first s)) where
-    pub array_lines : {p : ℕ} {mid : List ℕ} → Wrote old to (field_line (name_of s d) (decimal count)) p mid → {r : Lines} {new : List ℕ} → VectorWritten s first k d count mid p r new
+  module _ {count first : ℕ} (e : ok count first (drop first s) ≡ number 4 at (drop at s)) where
+    pub array_lines : {p : ℕ} {mid : List ℕ} → Wrote old to (field_line (name_of s d) (decimal count)) p mid → {r : Answer Lines} {new : List ℕ} → VectorWritten s first k d count mid p r new
         → ArrayWritten value_text s at k d old to r new
     unfolding value_text
     array_lines w {r} {new} h = record {
       writes = λ v n f g q.
-          let x = elements s at k e f in
+          let x = elements s at k (sym e) f in
           let line = being (ap₂ (λ (y : List ℕ) (c : ℕ). field_line y (decimal c)) q.name (sym (row_length count (consumed (element_parser k)) first (drop first s) x.2))) w in
           subst (λ (v : Value). LinesAre old to (value_text g v) n r new) x.1 (lines_behind line (element_lines g.name g.enum_values 0 x.0) n r new (h.writes x.0 n x.2 g q));
       size = h.size ∙ same w;
     }
 
 module _ {version : ℕ} (s : List ℕ) (at type : ℕ) (d : Definition) {old : List ℕ} {to : ℕ} where
-  pub field_unlisted : shape_of version type ≡ none → FieldWritten value_text version s at type d old to Absent old
+  pub field_unlisted : none ≡ shape_of version type → FieldWritten value_text version s at type d old to None old
   unfolding value_parser shape_parser fail
-  field_unlisted e = record { writes = λ v n f g q. fault≢ok (ap (λ (o : Option Shape). shape_parser o at (drop at s)) (sym e) ∙ f); size = refl }
+  field_unlisted e = record { writes = λ v n f g q. fault≢ok (ap (λ (o : Option Shape). shape_parser o at (drop at s)) e ∙ f); size = refl }
 
-  pub field_array : {k : Kind} → shape_of version type ≡ some (many k) → {r : Lines} {new : List ℕ} → ArrayWritten value_text s at k d old to r new → FieldWritten value_text version s at type d old to r new
+  pub field_array : {k : Kind} → shape_of version type ≡ some (many k) → {r : Answer Lines} {new : List ℕ} → ArrayWritten value_text s at k d old to r new → FieldWritten value_text version s at type d old to r new
   unfolding value_parser
   field_array e w = record { writes = λ v n f. w.writes v n (ap (λ (o : Option Shape). shape_parser o at (drop at s)) (sym e) ∙ f); size = w.size }
 
-  pub field_single : {k : Kind} → shape_of version type ≡ some (one k) → {r : Lines} {new : List ℕ} → SingleWritten s at k d old to r new → FieldWritten value_text version s at type d old to r new
+  pub field_single : {k : Kind} → shape_of version type ≡ some (one k) → {r : Answer Lines} {new : List ℕ} → SingleWritten s at k d old to r new → FieldWritten value_text version s at type d old to r new
   unfolding value_parser shape_parser value_text
   field_single {k} e {r} {new} h = record {
     writes = λ v n f g q.

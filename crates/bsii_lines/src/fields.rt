@@ -1,6 +1,5 @@
 // Fields.
 ghost use Rattle.bsii_format.specs.Text.{value_text};
-ghost use Rattle.bsii_base38.specs.Pairs.{CharPairs};
 ghost use Rattle.bsii_value.specs.Kinds.{kind_is};
 ghost use Rattle.bsii_definition.specs.Pairs.{InFile};
 ghost use Rattle.bsii_write_value.specs.Lines.{IndexedWritten};
@@ -9,12 +8,9 @@ ghost use Rattle.bsii_lines.specs.Lines.{VectorWritten, ArrayWritten, FieldWritt
 use bsii_base38::CharPairs;
 use bsii_definition::pairs::Definition;
 use bsii_line::lines::count_line;
-use bsii_string::answers::Num;
+use bsii_opening::openings::{Indexed, Plain};
 use bsii_string::numbers::le_u32;
 use bsii_value::types::{Kind, Shape, shape_of};
-use bsii_write_element::elements::{
-    write_id_element, write_number_element, write_string_element, write_word_element,
-};
 use bsii_write_value::values::{
     Lines, write_id_value, write_number, write_string_value, write_word,
 };
@@ -28,16 +24,15 @@ fn write_element(
     kind: Kind,
     d: Definition,
     i: u32,
-) -> Lines
-    requires in_file { InFile s.now d }
-    requires char_pairs { CharPairs chars.now }
+) -> Option<Lines>
+    requires { InFile s.now d }
     ensures { IndexedWritten s.now at (kind_is kind) d i out.old to result out.new }
 {
     match kind {
-        Kind::Numbers(n) => return write_number_element(out, to, s, at, n, d, i),
-        Kind::String => return write_string_element(out, to, s, at, d, i),
-        Kind::EncodedString => return write_word_element(chars, out, to, s, at, d, i),
-        Kind::Id => return write_id_element(chars, out, to, s, at, d, i),
+        Kind::Numbers(n) => write_number(out, to, s, at, n, d, Indexed(i)),
+        Kind::String => write_string_value(out, to, s, at, d, Indexed(i)),
+        Kind::EncodedString => write_word(chars, out, to, s, at, d, Indexed(i)),
+        Kind::Id => write_id_value(chars, out, to, s, at, d, Indexed(i)),
     }
 }
 
@@ -51,26 +46,18 @@ fn write_vector_data_value(
     kind: Kind,
     d: Definition,
     count: u32,
-) -> Lines
-    requires in_file { InFile s.now d }
-    requires char_pairs { CharPairs chars.now }
+) -> Option<Lines>
+    requires { InFile s.now d }
     ensures { VectorWritten s.now start (kind_is kind) d count out.old to result out.new }
 {
     let mut at = start;
     let mut here = to;
-    let mut i: u32 = 0;
-    while i < count {
-        let line = write_element(chars, out, here, s, at, kind, d, i);
-        match line {
-            Lines::NotInList => return Lines::NotInList,
-            Lines::Next { at: next, to: end } => {
-                at = next;
-                here = end;
-            }
-        }
-        i += 1;
+    for i in 0..count {
+        let line = write_element(chars, out, here, s, at, kind, d, i)?;
+        at = line.at;
+        here = line.to;
     }
-    Lines::Next { at, to: here }
+    Some(Lines { at, to: here })
 }
 
 // The line of an array's count, and those of its elements.
@@ -82,21 +69,15 @@ fn write_array(
     at: usize,
     kind: Kind,
     d: Definition,
-) -> Lines
-    requires in_file { InFile s.now d }
-    requires char_pairs { CharPairs chars.now }
+) -> Option<Lines>
+    requires { InFile s.now d }
     ensures { ArrayWritten value_text s.now at (kind_is kind) d out.old to result out.new }
 {
-    let count = le_u32(s, at);
-    match count {
-        Num::Short(_) => return Lines::NotInList,
-        Num::Got(n, first) => {
-            let name = d.name;
-            let name_end = d.name_end;
-            let lines = count_line(out, to, &s[name..name_end], n);
-            return write_vector_data_value(chars, out, lines, s, first, kind, d, n);
-        }
-    }
+    let Ok((n, first)) = le_u32(s, at) else {
+        return None;
+    };
+    let lines = count_line(out, to, &s[d.name..d.name_end], n);
+    write_vector_data_value(chars, out, lines, s, first, kind, d, n)
 }
 
 // The value at an offset, of the type in force, under the last definition of its field.
@@ -109,21 +90,19 @@ pub fn write_field(
     version: u32,
     type_id: u32,
     d: Definition,
-) -> Lines
-    requires in_file { InFile s.now d }
-    requires char_pairs { CharPairs chars.now }
+) -> Option<Lines>
+    requires { InFile s.now d }
     ensures { FieldWritten value_text version s.now at type_id d out.old to result out.new }
 {
-    let shape = shape_of(version, type_id);
+    let shape = shape_of(version, type_id)?;
     match shape {
-        Shape::Unlisted => return Lines::NotInList,
         // Told apart here, a kind need not be read as a whole from where its parts were stored a moment before.
         Shape::One(kind) => match kind {
-            Kind::Numbers(n) => return write_number(out, to, s, at, n, d),
-            Kind::String => return write_string_value(out, to, s, at, d),
-            Kind::EncodedString => return write_word(chars, out, to, s, at, d),
-            Kind::Id => return write_id_value(chars, out, to, s, at, d),
+            Kind::Numbers(n) => write_number(out, to, s, at, n, d, Plain),
+            Kind::String => write_string_value(out, to, s, at, d, Plain),
+            Kind::EncodedString => write_word(chars, out, to, s, at, d, Plain),
+            Kind::Id => write_id_value(chars, out, to, s, at, d, Plain),
         },
-        Shape::Many(kind) => return write_array(chars, out, to, s, at, kind, d),
+        Shape::Many(kind) => write_array(chars, out, to, s, at, kind, d),
     }
 }

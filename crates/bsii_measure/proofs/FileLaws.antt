@@ -1,6 +1,6 @@
 -- The whole file: the walk behind its header, the frame of its text, and where the sum is the text's length.
 use mathlib.Core.Path.{◌≡◌, refl, sym, ap, ◌∙◌, subst}
-use Prim.Native.Nat.{ℕ, zero, suc, ◌+◌, ◌*◌, ◌/◌, ◌≤◌, ◌<◌}
+use Prim.Native.Nat.{ℕ, ◌+◌, ◌*◌, ◌/◌, ◌≤◌, ◌<◌}
 use native.Mathlib.Omega.{arith}
 use mathlib.Core.List.{List, []}
 use lib.ListN.{length, take, drop}
@@ -22,31 +22,29 @@ use Rattle.bsii_tree.specs.Table.{Linked}
 use Rattle.bsii_order.specs.Ordered.{Ordered}
 use Rattle.bsii_parse.specs.Walks.{Growing, read, unread, ReadTree}
 use Rattle.bsii_parse.specs.declared.walk.Totals.{Totals}
-use Rattle.bsii_parse.specs.declared.walk.Walked.{Walked}
-use Rattle.bsii_parse.specs.declared.walk.Walked.TheVariants.{Done as Read}
+use Rattle.std.specs.Prelude.{Ok, Err, Some, None, Result as Outcome, Option}
 use Rattle.bsii_parse.proofs.Records.{defined_length}
 use Rattle.bsii_parse.proofs.Tables.{bare_all}
-use Rattle.bsii_parse.proofs.Whole.{long_refused, header_refused, header, header_long, records_refused, records_read, file_parts, done≢stopped, tree_linked, tree_ordered, tree_stopped}
+use Rattle.bsii_parse.proofs.Whole.{long_refused, header_refused, header, header_long, records_refused, records_read, file_parts, tree_linked, tree_ordered, tree_stopped}
 use Rattle.bsii_measure_block.specs.Sums.{measure_of, plus, sum_is}
 use Rattle.bsii_measure_block.proofs.SumLaws.{measure_joined}
 use Rattle.bsii_measure.specs.InForce.{in_force_text}
-use Rattle.bsii_measure.specs.Walks.{TallyOf, SumWalks, walked, stopped}
-use Rattle.bsii_measure.specs.Files.{reading_of, BlocksSum, MeasuresTree, MeasuresFile}
+use Rattle.bsii_measure.specs.Walks.{TallyOf, measured_as, SumWalks, walked, stopped}
+use Rattle.bsii_measure.specs.Files.{BlocksSum, MeasuresTree, MeasuresFile}
 use Rattle.bsii_measure.specs.declared.walk.Tally.{Tally}
 use Rattle.bsii_measure.specs.declared.walk.Measuring.{Measuring}
-use Rattle.bsii_measure.specs.declared.walk.Measuring.TheVariants.{Done, Fault}
 use Rattle.bsii_measure.proofs.InForceLaws.{framed_last}
 
 -- ---- in front of the records
 
-pub measured_long : (s t : List ℕ) → length_limit < length s → MeasuresTree s t (Fault (refused_at input_long 0)) t
+pub measured_long : (s t : List ℕ) → length_limit < length s → MeasuresTree s t (Err (refused_at input_long 0)) t
 measured_long s t h = record { reads = unread (long_refused (length t) s h) refl; sums = λ f n e. tt }
 
 module _ (s t : List ℕ) (short : length s ≤ length_limit) where
-  pub measured_header : {f : Refusal} → header_parser 0 s ≡ fault (fault_is f) → MeasuresTree s t (Fault f) t
+  pub measured_header : {f : Refusal} → header_parser 0 s ≡ fault (fault_is f) → MeasuresTree s t (Err f) t
   measured_header e = record { reads = unread (header_refused s t short e) refl; sums = λ f n e. tt }
 
-  pub measured_walk : {v : ℕ} → header_parser 0 s ≡ ok v 8 (drop 8 s) → {r : Measuring} {t' : List ℕ} → SumWalks v s 8 t r t' → MeasuresTree s t r t'
+  pub measured_walk : {v : ℕ} → header_parser 0 s ≡ ok v 8 (drop 8 s) → {r : Outcome Measuring Refusal} {t' : List ℕ} → SumWalks v s 8 t r t' → MeasuresTree s t r t'
   unfolding bsii_file header placed_records
   measured_walk h {t' = t'} (walked q {rows = rows} {m = m} e k l tally fits) =
       let start : 8 ≡ length (take 8 s) = sym (length-take-le 8 s (header_long s t short h)) in
@@ -69,9 +67,9 @@ record Counted (s t : List ℕ) (a : Totals) : Type 0 where
   rows : a.rows ≡ distinct_ids (prototypes_of file.records)
   prototypes : a.prototypes ≡ length (prototypes_of file.records)
 
-counted : {s t : List ℕ} {x : Walked} {t' : List ℕ} → ReadTree s t x t' → {a : Totals} → x ≡ Read a → Counted s t a
+counted_of : {s t : List ℕ} {x : Outcome Totals Refusal} {t' : List ℕ} → ReadTree s t x t' → {a : Totals} → x ≡ Ok a → Counted s t a
 unfolding prototypes_of placed_records
-counted {s} {t} (read f {rows = rows} {n = n} e k l) z =
+counted_of {s} {t} (read f {rows = rows} {n = n} e k l) z =
     let all = defined_length f.records [] in
     subst (Counted s t) (read_is z) (record {
       file = f;
@@ -81,47 +79,48 @@ counted {s} {t} (read f {rows = rows} {n = n} e k l) z =
       prototypes = omega (arith, all);
     })
   where
-    read_is : {a b : Totals} → ◌≡◌ {A = Walked} (Read a) (Read b) → a ≡ b
+    read_is : {a b : Totals} → ◌≡◌ {A = Outcome Totals Refusal} (Ok a) (Ok b) → a ≡ b
     read_is e = cc
-counted (unread e l) z = done≢stopped (sym z)
+counted_of (unread e l) z = cc
+
+counted : {s t : List ℕ} {a : Totals} {t' : List ℕ} → ReadTree s t (Ok a) t' → Counted s t a
+counted r = counted_of r refl
 
 -- the frame has 13 bytes
-framed_sum : (to missing : ℕ) (x : Reply (List ℕ)) → sum_is to missing ≡ measure_of x → sum_is (to + 13) missing ≡ measure_of (joined (joined (gives file_opening) x) (gives closing))
+framed_sum : (to : ℕ) (missing : Option ℕ) (x : Reply (List ℕ)) → sum_is to missing ≡ measure_of x → sum_is (to + 13) missing ≡ measure_of (joined (joined (gives file_opening) x) (gives closing))
 unfolding file_opening closing measure_of
 framed_sum to missing x h =
-    go to missing ∙ ap (λ y. plus (plus (gives 11) y) (gives 2)) h ∙ ap (λ y. plus y (gives 2)) (sym (measure_joined (gives file_opening) x))
+    go missing ∙ ap (λ y. plus (plus (gives 11) y) (gives 2)) h ∙ ap (λ y. plus y (gives 2)) (sym (measure_joined (gives file_opening) x))
     ∙ sym (measure_joined (joined (gives file_opening) x) (gives closing))
   where
-    go : (to missing : ℕ) → sum_is (to + 13) missing ≡ plus (plus (gives 11) (sum_is to missing)) (gives 2)
-    go to zero = unfold sum_is plus in let z : to + 13 ≡ 11 + to + 2 = omega arith in ap gives z
-    go to (suc o) = unfold sum_is plus in refl
+    go : (missing : Option ℕ) → sum_is (to + 13) missing ≡ plus (plus (gives 11) (sum_is to missing)) (gives 2)
+    go None = unfold sum_is plus in let z : to + 13 ≡ 11 + to + 2 = omega arith in ap gives z
+    go (Some o) = unfold sum_is plus in refl
 
 abbrev pub with_frame : Tally → Tally
 with_frame m = record { text = record { to = m.text.to + 13; missing = m.text.missing }; steps = m.steps; largest = m.largest }
 
-module _ {s t : List ℕ} {r : Measuring} {t' : List ℕ} (w : MeasuresTree s t r t') where
-  pub measured_fault : {f : Refusal} → r ≡ Fault f → MeasuresFile s t (Fault f) t'
-  measured_fault z = record { reads = tree_stopped (ap reading_of z) w.reads; sums = λ f n e. tt }
+module _ {s t t' : List ℕ} where
+  pub measured_fault : {f : Refusal} → MeasuresTree s t (Err f) t' → MeasuresFile s t (Err f) t'
+  measured_fault w = record { reads = tree_stopped w.reads; sums = λ f n e. tt }
 
-  module _ {a : Totals} {m : Tally} (z : r ≡ Done a m) where
+  module _ {a : Totals} {m : Tally} (w : MeasuresTree s t (measured_as a m) t') where
     pub measured_linked : Linked s t' a.rows
-    measured_linked = tree_linked (ap reading_of z) w.reads
-
-    blocks : (f : BsiiFile) (n : ℕ) → parse (length t) s ≡ ok f n (drop n s) → BlocksSum f (Done a m)
-    blocks f n e = subst (BlocksSum f) z (w.sums f n e)
+    measured_linked = tree_linked w.reads
 
     pub measured_fits : m.text.to ≤ line_bound * length_limit
-    measured_fits = let c = counted w.reads (ap reading_of z) in (blocks c.file c.next c.reads).1
+    measured_fits = let c = counted w.reads in let b : BlocksSum c.file (measured_as a m) = w.sums c.file c.next c.reads in b.1
 
-    pub measured_file : {t'' : List ℕ} → Ordered s t' a.rows t'' → MeasuresFile s t (Done a (with_frame m)) t''
+    pub measured_file : {t'' : List ℕ} → Ordered s t' a.rows t'' → MeasuresFile s t (measured_as a (with_frame m)) t''
     unfolding steps_of
     measured_file o = record {
-      reads = tree_ordered (ap reading_of z) w.reads o;
+      reads = tree_ordered w.reads o;
       sums = λ f n e.
-          let tally = (blocks f n e).0 in
+          let blocks : BlocksSum f (measured_as a m) = w.sums f n e in
+          let tally = blocks.0 in
           record {
             text = λ rows.
-                let c = counted w.reads (ap reading_of z) in
+                let c = counted w.reads in
                 let same : c.file ≡ f = ok_val (sym c.reads ∙ e) in
                 let each = counts_once (prototypes_of c.file.records) (sym c.rows ∙ rows ∙ c.prototypes) in
                 let p = file_parts (length t) s e in

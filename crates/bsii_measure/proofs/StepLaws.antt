@@ -26,26 +26,25 @@ use Rattle.bsii_string.specs.declared.answers.Refusal.{Refusal}
 use Rattle.bsii_prototype.specs.Answers.{head_is}
 use Rattle.bsii_prototype.specs.declared.answers.Head.{Head as HeadAnswer}
 use Rattle.bsii_prototype.specs.declared.answers.Head.TheVariants.{Prototype as HeadPrototype, Block as HeadBlock}
+use Rattle.std.specs.Prelude.{Ok, Err, Some, Result as Outcome}
 use Rattle.bsii_block.specs.Blocks.{DefinedAt}
 use Rattle.bsii_table.specs.Table.{found_row}
-use Rattle.bsii_table.specs.declared.FoundRow.{FoundRow}
-use Rattle.bsii_table.specs.declared.FoundRow.TheVariants.{At}
+use Rattle.bsii_table.specs.declared.Row.{Row as FoundRow}
 use Rattle.bsii_table.proofs.Relation.{found_at}
 use Rattle.bsii_tree.specs.Table.{lookup_tree}
-use Rattle.bsii_parse.specs.Walks.{block_count, prototype_count, bare, past, Goes, behind_prototype, behind_block, StepMeets, passed as overRecord, ended as atEnd, refused as unread, Stepped, Defining, Carrying}
+use Rattle.bsii_parse.specs.Walks.{block_count, prototype_count, bare, past, Goes, behind_prototype, behind_block, PastRecord, StepMeets, passed as overRecord, ended as atEnd, refused as unread, Stepped, Defining, Carrying}
 use Rattle.bsii_parse.specs.declared.walk.Progress.{Progress}
 use Rattle.bsii_parse.specs.declared.walk.ReadStep.{ReadStep}
-use Rattle.bsii_parse.specs.declared.walk.ReadStep.TheVariants.{Prototype as WentPrototype, End as AtEnd, Refused as Unread}
+use Rattle.bsii_parse.specs.declared.walk.ReadStep.TheVariants.{Prototype as WentPrototype, End as AtEnd}
 use Rattle.bsii_parse.proofs.Records.{records_fault}
 use Rattle.bsii_parse.proofs.RecordSteps.{record_block_fault, record_block}
-use Rattle.bsii_parse.proofs.Passing.{values_exact, past_record}
+use Rattle.bsii_parse.proofs.Passing.{values_exact, past_record, head_law}
 use Rattle.bsii_walk.proofs.Parts.{BlockParts, block_parts_law}
 use Rattle.bsii_measure_block.specs.Sums.{measure_of, plus, sums, stops, BlockFits}
 use Rattle.bsii_measure_block.specs.Fields.{values_sum}
 use Rattle.bsii_measure_block.specs.Blocks.{block_sum, BlockSummed}
 use Rattle.bsii_measure_block.specs.declared.sums.Sum.{Sum}
 use Rattle.bsii_measure_block.specs.declared.sums.SummedBlock.{SummedBlock}
-use Rattle.bsii_measure_block.specs.declared.sums.SummedBlock.TheVariants.{Next, Fault}
 use Rattle.bsii_measure_block.proofs.SumLaws.{joined_none, plus_none}
 use Rattle.bsii_measure_block.proofs.ValueLaws.{sums≢stops}
 use Rattle.bsii_measure_block.proofs.BlockLaws.{block_text_law}
@@ -53,7 +52,7 @@ use Rattle.bsii_measure.specs.InForce.{in_force_text}
 use Rattle.bsii_measure.specs.Walks.{Standing, text_sum, SumMeets, passed, ended as endedSum, refused, SumStepped, SumDefining, SumCarrying}
 use Rattle.bsii_measure.specs.declared.walk.Tally.{Tally}
 use Rattle.bsii_measure.specs.declared.walk.SumStep.{SumStep}
-use Rattle.bsii_measure.specs.declared.walk.SumStep.TheVariants.{Go, End, Refused}
+use Rattle.bsii_measure.specs.declared.walk.SumStep.TheVariants.{Go, End}
 
 -- ---- what one record adds
 
@@ -88,15 +87,18 @@ with_prototype m = record { text = m.text; steps = m.steps + 1; largest = m.larg
 -- behind which record a step went on, where it went over a prototype
 went_over : {env : List (Placed Prototype)} {a q : Progress} {i : Record} {r : ReadStep} → Goes env a i r → r ≡ WentPrototype q → (x : Prototype) × (i ≡ prototype x) × (a ≡ q)
 went_over (behind_prototype {p = x}) z = (x, refl, cc)
-went_over (behind_block y f) z = let x : ◌≡◌ {A = ℕ} 0 1 = cc in absurd (omega arith)
+went_over (behind_block y f) z = cc
+
+ok_step : {a b : ReadStep} → ◌≡◌ {A = Outcome ReadStep Refusal} (Ok a) (Ok b) → a ≡ b
+ok_step e = cc
 
 module _ {version : ℕ} {s : List ℕ} {p : Progress} (m : Tally) {t : List ℕ} {env : List (Placed Prototype)} where
-  over_prototype_law : {r : ReadStep} {t' : List ℕ} → StepMeets version s p t env r t' → {q : Progress} → r ≡ WentPrototype q → Standing s p m t
-      → SumMeets version s p m t env (Go q (with_prototype m)) t'
+  over_prototype_law : {o : Outcome ReadStep Refusal} {t' : List ℕ} → StepMeets version s p t env o t' → {q : Progress} → o ≡ Ok (WentPrototype q) → Standing s p m t
+      → SumMeets version s p m t env (Ok (Go q (with_prototype m))) t'
   unfolding record_steps largest_in
   over_prototype_law {t' = t'} (overRecord (prototype x) {n = n} {rows = rows} w g) {q} z h =
-      let here : past p (prototype x) n rows ≡ q = (went_over g z).2 in
-      subst (λ q. SumMeets version s p m t env (Go q (with_prototype m)) t') here
+      let here : past p (prototype x) n rows ≡ q = (went_over g (ok_step z)).2 in
+      subst (λ q. SumMeets version s p m t env (Ok (Go q (with_prototype m))) t') here
       (passed (prototype x) w (record {
         text = prototype_adds (text_sum m) (bare env) p.at x;
         fits = omega (arith, h.fits, w.on);
@@ -104,33 +106,27 @@ module _ {version : ℕ} {s : List ℕ} {p : Progress} (m : Tally) {t : List ℕ
         few = omega (arith, h.few, w.on);
         largest = sym (max-zero m.largest);
       }))
-  over_prototype_law (overRecord (block b) w g) z h = let x : block b ≡ prototype _ = (went_over g z).1 in let y : ◌≡◌ {A = ℕ} 0 1 = cc in absurd (omega arith)
-  over_prototype_law (atEnd e) z h = let x : ◌≡◌ {A = ℕ} 0 1 = cc in absurd (omega arith)
-  over_prototype_law (unread e l) z h = let x : ◌≡◌ {A = ℕ} 0 1 = cc in absurd (omega arith)
+  over_prototype_law (overRecord (block b) w g) z h = let x : block b ≡ prototype _ = (went_over g (ok_step z)).1 in cc
+  over_prototype_law (atEnd e) z h = cc
+  over_prototype_law (unread e l) z h = cc
 
-  at_end : {r : ReadStep} {t' : List ℕ} → StepMeets version s p t env r t' → {n : ℕ} → r ≡ AtEnd n → SumMeets version s p m t env (End n) t'
-  at_end {t' = t'} w z = endedSum (subst (λ r. StepMeets version s p t env r t') z w)
+module _ {s : List ℕ} {p : Progress} (m : Tally) {t : List ℕ} {id fields : ℕ} {t' : List ℕ} where
+  pub sum_defined : {q : Progress} → Defining s p t false id fields (Ok (WentPrototype q)) t' → Standing s p m t → SumDefining s p m t id fields (Ok (Go q (with_prototype m))) t'
+  sum_defined d stands = record { steps = λ version env k name h. over_prototype_law m (d.steps version env k tt name h) refl stands }
 
-  at_fault : {r : ReadStep} {t' : List ℕ} → StepMeets version s p t env r t' → {f : Refusal} → r ≡ Unread f → SumMeets version s p m t env (Refused f) t'
-  at_fault {t' = t'} w z = refused (subst (λ r. StepMeets version s p t env r t') z w)
+  pub sum_undefined : {f : Refusal} → Defining s p t false id fields (Err f) t' → SumDefining s p m t id fields (Err f) t'
+  sum_undefined d = record { steps = λ version env k name h. refused (d.steps version env k tt name h) }
 
-module _ {s : List ℕ} {p : Progress} (m : Tally) {t : List ℕ} {id fields : ℕ} {r : ReadStep} {t' : List ℕ} (d : Defining s p t false id fields r t') where
-  pub sum_defined : {q : Progress} → r ≡ WentPrototype q → Standing s p m t → SumDefining s p m t id fields (Go q (with_prototype m)) t'
-  sum_defined z stands = record { steps = λ version env k name h. over_prototype_law m (d.steps version env k tt name h) z stands }
-
-  pub sum_undefined : {f : Refusal} → r ≡ Unread f → SumDefining s p m t id fields (Refused f) t'
-  sum_undefined z = record { steps = λ version env k name h. at_fault m (d.steps version env k tt name h) z }
-
-pub sum_unread : {version : ℕ} {s : List ℕ} {p : Progress} (m : Tally) {t : List ℕ} {id at : ℕ} {f : Refusal} → Carrying version s p t false id at (Unread f)
-    → SumCarrying version s p m t id at (Refused f)
-sum_unread m d = record { steps = λ env k h. at_fault m (d.steps env k tt h) refl }
+pub sum_unread : {version : ℕ} {s : List ℕ} {p : Progress} (m : Tally) {t : List ℕ} {id at : ℕ} {f : Refusal} → Carrying version s p t false id at (Err f)
+    → SumCarrying version s p m t id at (Err f)
+sum_unread m d = record { steps = λ env k h. refused (d.steps env k tt h) }
 
 module _ {version : ℕ} {s : List ℕ} {p : Progress} (m : Tally) {t : List ℕ} where
-  pub sum_ended : {n : ℕ} → Stepped version s p t false (AtEnd n) t → SumStepped version s p m t (End n) t
-  sum_ended d = record { steps = λ env k. at_end m (d.steps env k tt) refl }
+  pub sum_ended : {n : ℕ} → Stepped version s p t false (Ok (AtEnd n)) t → SumStepped version s p m t (Ok (End n)) t
+  sum_ended d = record { steps = λ env k. endedSum (d.steps env k tt) }
 
-  pub sum_refused : {f : Refusal} → Stepped version s p t false (Unread f) t → SumStepped version s p m t (Refused f) t
-  sum_refused d = record { steps = λ env k. at_fault m (d.steps env k tt) refl }
+  pub sum_refused : {f : Refusal} → Stepped version s p t false (Err f) t → SumStepped version s p m t (Err f) t
+  sum_refused d = record { steps = λ env k. refused (d.steps env k tt) }
 
 -- ---- where a block that was measured ends
 
@@ -173,17 +169,12 @@ module _ (version : ℕ) (before : Reply ℕ) (p : Prototype) (s : List ℕ) (at
 
 -- ---- a block
 
-at_offset : {version : ℕ} {s : List ℕ} {at : ℕ} {m : Sum} {z a : ℕ} → z ≡ a → {q x : SummedBlock} → q ≡ x → BlockSummed version s z at m q → BlockSummed version s a at m x
-at_offset {version} {s} {at} {m} {a = a} i {q} y w = subst (BlockSummed version s a at m) y (subst (λ o. BlockSummed version s o at m q) i w)
-
--- its steps do not wrap, and it does not end before it starts
-pub block_fits : {version : ℕ} {s : List ℕ} {o at : ℕ} {m : Sum} {q : SummedBlock} → BlockSummed version s o at m q → {n : ℕ} {sum : Sum} {values : ℕ} → q ≡ Next n sum values
-    → BlockFits s at (Next n sum values)
-block_fits {s = s} {at = at} w z = subst (BlockFits s at) z w.fine
+at_offset : {version : ℕ} {s : List ℕ} {at : ℕ} {m : Sum} {z a : ℕ} → z ≡ a → {q : Outcome SummedBlock Refusal} → BlockSummed version s z at m q → BlockSummed version s a at m q
+at_offset {version} {s} {at} {m} i {q} w = subst (λ o. BlockSummed version s o at m q) i w
 
 -- a block is a step, and so is each of its values
-abbrev pub with_block : Tally → Sum → ℕ → ℕ → Tally
-with_block m sum values largest = record { text = sum; steps = m.steps + 1 + values; largest = largest }
+abbrev pub with_block : Tally → SummedBlock → ℕ → Tally
+with_block m q largest = record { text = q.sum; steps = m.steps + 1 + q.values; largest = largest }
 
 -- where a block's own id starts and how many values it has, by the definition in force
 block_counts : (version : ℕ) (env : List Prototype) (s : List ℕ) (at n : ℕ) (b : DataBlock) → record_parser version env at (drop at s) ≡ ok (more (block b)) n (drop n s)
@@ -196,36 +187,36 @@ block_counts version env s at n b e found head =
     let place = ok_at (sym head ∙ w.head) in
     (omega (arith, long, place), ap (λ (p : Prototype). length p.fields) (some_is (sym found ∙ g.good.found)) ∙ values_length g.good.values)
 
-module _ {version : ℕ} {s : List ℕ} {p : Progress} {m : Tally} {t : List ℕ} {id at : ℕ} {r : FoundRow} (f : found_row r ≡ lookup_tree s t p.rows id)
-    {a b : ℕ} (e : r ≡ At a b) {z : ℕ} (i : z ≡ a) {q : SummedBlock} (w : BlockSummed version s z at m.text q) where
-  pub block_refused : {x : Refusal} → q ≡ Fault x → SumCarrying version s p m t id at (Refused x)
-  block_refused {x} y = record {
+module _ {version : ℕ} {s : List ℕ} {p : Progress} {m : Tally} {t : List ℕ} {id at : ℕ} {r : FoundRow} (f : found_row (Some r) ≡ lookup_tree s t p.rows id) {z : ℕ} (i : z ≡ r.in_force) where
+  pub block_refused : {x : Refusal} → BlockSummed version s z at m.text (Err x) → SumCarrying version s p m t id at (Err x)
+  block_refused w = record {
     steps = λ env k h.
-        let d = found_at (DefinedAt s) k.holds id e f in
-        let v = at_offset i y w in
+        let d = found_at (DefinedAt s) k.holds id refl f in
+        let v = at_offset i w in
         refused (unread
         (records_fault version (length t / 3) (bare env) p.at s
         (record_block_fault version (bare env) p.at (drop p.at s) h d.1 (sum_stops version (text_sum m) d.0 s at (v.is d.0 d.2))))
         refl);
   }
 
-  pub block_passed : {n : ℕ} {sum : Sum} {values : ℕ} → q ≡ Next n sum values → Standing s p m t → {largest : ℕ} → largest ≡ max m.largest (n - p.at)
-      → SumCarrying version s p m t id at (Go (record { at = n; rows = p.rows; blocks = p.blocks + 1; prototypes = p.prototypes }) (with_block m sum values largest))
+  pub block_passed : {q : SummedBlock} → BlockSummed version s z at m.text (Ok q) → Standing s p m t → {largest : ℕ} → largest ≡ max m.largest (q.at - p.at)
+      → SumCarrying version s p m t id at (Ok (Go (record { at = q.at; rows = p.rows; blocks = p.blocks + 1; prototypes = p.prototypes }) (with_block m q largest)))
   unfolding block_count prototype_count cons_prototype has_room record_steps largest_in
-  block_passed {n} {sum} {values} y stands {largest} l = record {
+  block_passed {q} w stands {largest} l = record {
     steps = λ env k h.
+        let n = q.at in
         let before = text_sum m in
-        let d = found_at (DefinedAt s) k.holds id e f in
-        let v = at_offset i y w in
-        let fine : BlockFits s at (Next n sum values) = v.fine in
+        let d = found_at (DefinedAt s) k.holds id refl f in
+        let v = at_offset i w in
+        let fine : BlockFits s at (Ok q) = v.fine in
         let u = record_block version (bare env) p.at (drop p.at s) h d.1 (sum_ends version before d.0 s at (v.is d.0 d.2)) in
         let head = h ∙ ap (λ j. ok (carrying j) at (drop at s)) (sym u.2) in
         let found = ap (λ j. get_prototype j (bare env)) u.2 ∙ d.1 in
-        let x = past_record (block u.0) u.1 refl k refl in
+        let x : PastRecord version s p t env (block u.0) n p.rows t = past_record (block u.0) u.1 refl k refl in
         let c = block_counts version (bare env) s p.at n u.0 u.1 found head in
-        let count : values ≡ length d.0.fields = v.counts d.0 d.2 in
+        let count : q.values ≡ length d.0.fields = v.counts d.0 d.2 in
         let long : n - p.at ≡ length (record_bytes (block u.0)) = omega (arith, x.long) in
-        subst (λ x. SumMeets version s p m t env (Go (record { at = n; rows = p.rows; blocks = p.blocks + 1; prototypes = x }) (with_block m sum values largest)) t) (add-zero p.prototypes)
+        subst (λ x. SumMeets version s p m t env (Ok (Go (record { at = n; rows = p.rows; blocks = p.blocks + 1; prototypes = x }) (with_block m q largest))) t) (add-zero p.prototypes)
         (passed (block u.0) x (record {
           text = block_adds version before (bare env) s p.at n u.0 (block_parts_law version (bare env) s p.at n u.0 u.1) found head (v.is d.0 d.2);
           fits = fine.2;
@@ -237,12 +228,12 @@ module _ {version : ℕ} {s : List ℕ} {p : Progress} {m : Tally} {t : List ℕ
 
 -- ---- a record by its head
 
-pub head_moves : (s : List ℕ) (at : ℕ) {h : HeadAnswer} → head_is s h ≡ head_parser at (drop at s) → {id next : ℕ} → h ≡ HeadBlock id next → at ≤ length s → (at ≤ next) × (next ≤ length s)
-head_moves s at e z i = let v = moved head_exact s at (sym e ∙ ap (head_is s) z) in (v.later, v.inside i)
+pub head_moves : (s : List ℕ) (at : ℕ) {h : HeadAnswer} → head_is s (Ok h) ≡ head_parser at (drop at s) → {id next : ℕ} → h ≡ HeadBlock id next → at ≤ length s → (at ≤ next) × (next ≤ length s)
+head_moves s at e z i = let v = moved head_exact s at (head_law s at e z) in (v.later, v.inside i)
 
-module _ {version : ℕ} {s : List ℕ} {p : Progress} {m : Tally} {t : List ℕ} {h : HeadAnswer} (e : head_is s h ≡ head_parser p.at (drop p.at s)) where
-  pub sum_defining : {id name next : ℕ} {r : SumStep} {t' : List ℕ} → h ≡ HeadPrototype id name next → SumDefining s p m t id next r t' → SumStepped version s p m t r t'
-  sum_defining z d = record { steps = λ env k. d.steps version env k _ (sym e ∙ ap (head_is s) z) }
+module _ {version : ℕ} {s : List ℕ} {p : Progress} {m : Tally} {t : List ℕ} {h : HeadAnswer} (e : head_is s (Ok h) ≡ head_parser p.at (drop p.at s)) where
+  pub sum_defining : {id name next : ℕ} {r : Outcome SumStep Refusal} {t' : List ℕ} → h ≡ HeadPrototype id name next → SumDefining s p m t id next r t' → SumStepped version s p m t r t'
+  sum_defining z d = record { steps = λ env k. d.steps version env k _ (head_law s p.at e z) }
 
-  pub sum_carrying : {id next : ℕ} {r : SumStep} → h ≡ HeadBlock id next → SumCarrying version s p m t id next r → SumStepped version s p m t r t
-  sum_carrying z d = record { steps = λ env k. d.steps env k (sym e ∙ ap (head_is s) z) }
+  pub sum_carrying : {id next : ℕ} {r : Outcome SumStep Refusal} → h ≡ HeadBlock id next → SumCarrying version s p m t id next r → SumStepped version s p m t r t
+  sum_carrying z d = record { steps = λ env k. d.steps env k (head_law s p.at e z) }

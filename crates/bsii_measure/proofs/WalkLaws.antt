@@ -19,21 +19,12 @@ use Rattle.bsii_parse.proofs.Along.{defs_from, Along, along_start, along_none, a
 use Rattle.bsii_measure_block.specs.Sums.{measure_of, plus, sum_is}
 use Rattle.bsii_measure_block.proofs.SumLaws.{measure_joined}
 use Rattle.bsii_measure.specs.InForce.{in_force_text}
-use Rattle.bsii_measure.specs.Walks.{Standing, text_sum, SumMeets, passed, ended, refused, SumStepped, SumWalks, walked, stopped}
+use Rattle.bsii_measure.specs.Walks.{Standing, text_sum, SumMeets, passed, ended, refused, SumStepped, measured_as, SumWalks, walked, stopped}
 use Rattle.bsii_measure.specs.declared.walk.Tally.{Tally}
 use Rattle.bsii_measure.specs.declared.walk.SumStep.{SumStep}
-use Rattle.bsii_measure.specs.declared.walk.SumStep.TheVariants.{Go, End, Refused}
-use Rattle.bsii_measure.specs.declared.walk.Measuring.TheVariants.{Done, Fault}
+use Rattle.bsii_measure.specs.declared.walk.SumStep.TheVariants.{Go, End}
+use Rattle.std.specs.Prelude.{Ok, Err, None, Result as Outcome}
 use Rattle.bsii_measure.proofs.InForceLaws.{in_force_append}
-
-go≢end : {P : Type 0} {q : Progress} {m : Tally} {n : ℕ} → ◌≡◌ {A = SumStep} (Go q m) (End n) → P
-go≢end e = let z : ◌≡◌ {A = ℕ} 0 1 = cc in absurd (omega arith)
-
-go≢refused : {P : Type 0} {q : Progress} {m : Tally} {f : Refusal} → ◌≡◌ {A = SumStep} (Go q m) (Refused f) → P
-go≢refused e = let z : ◌≡◌ {A = ℕ} 0 1 = cc in absurd (omega arith)
-
-end≢refused : {P : Type 0} {n : ℕ} {f : Refusal} → ◌≡◌ {A = SumStep} (End n) (Refused f) → P
-end≢refused e = let z : ◌≡◌ {A = ℕ} 0 1 = cc in absurd (omega arith)
 
 -- ---- one record more
 
@@ -58,7 +49,7 @@ pub record Walking (version : ℕ) (s : List ℕ) (start : ℕ) (t₀ : List ℕ
   pub largest : m.largest ≡ largest_in along.so
 
 abbrev pub nothing : Tally
-nothing = record { text = record { to = 0; missing = 0 }; steps = 0; largest = 0 }
+nothing = record { text = record { to = 0; missing = None }; steps = 0; largest = 0 }
 
 pub walking_start : {version : ℕ} (s : List ℕ) (start : ℕ) (t : List ℕ) → start ≤ length s
     → Walking version s start t (record { at = start; rows = 0; blocks = 0; prototypes = 0 }) nothing t
@@ -101,7 +92,7 @@ module _ {version : ℕ} {s : List ℕ} {start : ℕ} {t₀ : List ℕ} {p : Pro
       ∙ sym (measure_joined front here)
       ∙ ap measure_of (sym (in_force_append value_text [] start l (i ∷ [])) ∙ ap (in_force_text value_text [] start) (sym e))
 
-  going : {r : SumStep} {t' : List ℕ} → SumMeets version s p m t (defs_from start w.along.so) r t' → {q : Progress} {l : Tally} → r ≡ Go q l
+  going : {r : Outcome SumStep Refusal} {t' : List ℕ} → SumMeets version s p m t (defs_from start w.along.so) r t' → {q : Progress} {l : Tally} → r ≡ Ok (Go q l)
       → Onward version s start t₀ p q l t'
   going {t' = t'} (passed i {n = n} {rows = rows} {m' = m'} x adds) {q} {l} z =
       let a = along_passed w.along i x in
@@ -119,48 +110,48 @@ module _ {version : ℕ} {s : List ℕ} {start : ℕ} {t₀ : List ℕ} {p : Pro
         };
       }))
     where
-      go_progress : {p q : Progress} {m l : Tally} → ◌≡◌ {A = SumStep} (Go p m) (Go q l) → p ≡ q
+      go_progress : {p q : Progress} {m l : Tally} → ◌≡◌ {A = Outcome SumStep Refusal} (Ok (Go p m)) (Ok (Go q l)) → p ≡ q
       go_progress e = cc
 
-      go_sum : {p q : Progress} {m l : Tally} → ◌≡◌ {A = SumStep} (Go p m) (Go q l) → m ≡ l
+      go_sum : {p q : Progress} {m l : Tally} → ◌≡◌ {A = Outcome SumStep Refusal} (Ok (Go p m)) (Ok (Go q l)) → m ≡ l
       go_sum e = cc
-  going (ended e) z = go≢end (sym z)
-  going (refused e) z = go≢refused (sym z)
+  going (ended e) z = cc
+  going (refused e) z = cc
 
-  ending : {r : SumStep} {t' : List ℕ} → SumMeets version s p m t (defs_from start w.along.so) r t' → {n : ℕ} → r ≡ End n
-      → SumWalks version s start t₀ (Done (record { version = version; rows = p.rows; blocks = p.blocks; prototypes = p.prototypes; next = n }) (with_end m)) t'
-  ending (passed i x adds) z = go≢end z
-  ending (refused e) z = end≢refused (sym z)
+  ending : {r : Outcome SumStep Refusal} {t' : List ℕ} → SumMeets version s p m t (defs_from start w.along.so) r t' → {n : ℕ} → r ≡ Ok (End n)
+      → SumWalks version s start t₀ (measured_as (record { version = version; rows = p.rows; blocks = p.blocks; prototypes = p.prototypes; next = n }) (with_end m)) t'
+  ending (passed i x adds) z = cc
+  ending (refused e) z = cc
   ending {t' = t'} (ended {n = j} e) {n} z =
       let x = along_all w.along e refl in
       let here : j ≡ n = cc in
-      subst (λ k. SumWalks version s start t₀ (Done (totals k p.blocks p.prototypes) (with_end m)) t') here
-      (subst (λ k. SumWalks version s start t₀ (Done (totals j k p.prototypes) (with_end m)) t') (sym w.along.blocks)
-      (subst (λ k. SumWalks version s start t₀ (Done (totals j (block_count w.along.so) k) (with_end m)) t') (sym w.along.prototypes)
+      subst (λ k. SumWalks version s start t₀ (measured_as (totals k p.blocks p.prototypes) (with_end m)) t') here
+      (subst (λ k. SumWalks version s start t₀ (measured_as (totals j k p.prototypes) (with_end m)) t') (sym w.along.blocks)
+      (subst (λ k. SumWalks version s start t₀ (measured_as (totals j (block_count w.along.so) k) (with_end m)) t') (sym w.along.prototypes)
       (walked (record { records = w.along.so; end = x.end }) x.all x.kept x.size (record { text = w.sum; steps = ap (λ n. n + 1) w.steps; largest = w.largest }) (omega (arith, w.fits, w.along.inside)))))
     where
       totals : ℕ → ℕ → ℕ → Totals
       totals n b d = record { version = version; rows = p.rows; blocks = b; prototypes = d; next = n }
 
-  stopping : {r : SumStep} {t' : List ℕ} → SumMeets version s p m t (defs_from start w.along.so) r t' → {f : Refusal} → r ≡ Refused f
-      → SumWalks version s start t₀ (Fault f) t'
-  stopping (passed i x adds) z = go≢refused z
-  stopping (ended e) z = end≢refused z
+  stopping : {r : Outcome SumStep Refusal} {t' : List ℕ} → SumMeets version s p m t (defs_from start w.along.so) r t' → {f : Refusal} → r ≡ Err f
+      → SumWalks version s start t₀ (Err f) t'
+  stopping (passed i x adds) z = cc
+  stopping (ended e) z = cc
   stopping {t' = t'} (refused {f = y} e) {f} z =
-      let x = along_refused w.along e refl in
+      let x = along_refused w.along e in
       let here : y ≡ f = cc in
-      subst (λ k. SumWalks version s start t₀ (Fault k) t') here (stopped x.0 x.1)
+      subst (λ k. SumWalks version s start t₀ (Err k) t') here (stopped x.0 x.1)
 
-  module _ {r : SumStep} {t' : List ℕ} (k : SumStepped version s p m t r t') where
-    meets : SumMeets version s p m t (defs_from start w.along.so) r t'
-    meets = k.steps (defs_from start w.along.so) w.along.kept
+  module _ {t' : List ℕ} where
+    meets : {r : Outcome SumStep Refusal} → SumStepped version s p m t r t' → SumMeets version s p m t (defs_from start w.along.so) r t'
+    meets k = k.steps (defs_from start w.along.so) w.along.kept
 
-    pub walking_go : {q : Progress} {l : Tally} → r ≡ Go q l → Onward version s start t₀ p q l t'
-    walking_go z = going meets z
+    pub walking_go : {r : SumStep} → SumStepped version s p m t (Ok r) t' → {q : Progress} {l : Tally} → r ≡ Go q l → Onward version s start t₀ p q l t'
+    walking_go k z = going (meets k) (ap Ok z)
 
-    pub walking_end : {n : ℕ} → r ≡ End n
-        → SumWalks version s start t₀ (Done (record { version = version; rows = p.rows; blocks = p.blocks; prototypes = p.prototypes; next = n }) (with_end m)) t'
-    walking_end z = ending meets z
+    pub walking_end : {r : SumStep} → SumStepped version s p m t (Ok r) t' → {n : ℕ} → r ≡ End n
+        → SumWalks version s start t₀ (measured_as (record { version = version; rows = p.rows; blocks = p.blocks; prototypes = p.prototypes; next = n }) (with_end m)) t'
+    walking_end k z = ending (meets k) (ap Ok z)
 
-    pub walking_stop : {f : Refusal} → r ≡ Refused f → SumWalks version s start t₀ (Fault f) t'
-    walking_stop z = stopping meets z
+    pub walking_stop : {f : Refusal} → SumStepped version s p m t (Err f) t' → SumWalks version s start t₀ (Err f) t'
+    walking_stop k = stopping (meets k) refl

@@ -1,21 +1,21 @@
-// The walk over the records, up to the end record. What it calls for each record has no other caller, so that it is compiled into the loop.
-ghost use Rattle.std.specs.Prelude.{◌≡◌, ◌≤◌, max, length};
+// The walk over the records, up to the end record. What it calls for each record has no other caller, so that it is compiled into the loop. The steps are those of
+// bsii_parse's walk with a tally: one walk for both would need a trait with the tally's type and its laws, and be no plainer.
+ghost use Rattle.std.specs.Prelude.{◌≤◌, length};
 ghost use Rattle.bsii_format.specs.File.{length_limit};
-ghost use Rattle.bsii_base38.specs.Pairs.{CharPairs};
 ghost use Rattle.bsii_tree.specs.Table.{Named};
 ghost use Rattle.bsii_measure.specs.Walks.{Standing, SumDefining, SumCarrying, SumStepped, SumWalks};
 
 use bsii_base38::CharPairs;
+use bsii_format::Cause;
 use bsii_measure_block::blocks::block_summed;
-use bsii_measure_block::sums::{Sum, SummedBlock};
+use bsii_measure_block::sums::Sum;
 use bsii_parse::walk::{Progress, Totals};
-use bsii_prototype::answers::{Counted, Head};
+use bsii_prototype::answers::Head;
 use bsii_prototype::fields::fields_parser;
 use bsii_prototype::heads::head_parser;
-use bsii_string::answers::{Refusal, TABLE_FULL, UNDEFINED_PROTOTYPE, refused};
+use bsii_string::answers::{Refusal, refused};
 use bsii_string::numbers::size;
-use bsii_table::{FoundRow, word};
-use bsii_tree::{Defined, define, find};
+use bsii_tree::{define, find};
 
 // What the walk has added up: the text, the steps, one for each record and one for each value, and the bytes of the largest block.
 #[derive(Clone, Copy)]
@@ -25,27 +25,18 @@ pub struct Tally {
     pub largest: usize,
 }
 
-#[derive(Drop)]
+// A record was passed, or the records end.
+#[derive(Clone, Copy)]
 pub enum SumStep {
     Go(Progress, Tally),
     End(usize),
-    Refused(Refusal),
 }
 
 // What the whole walk has found and added up.
-#[derive(Drop)]
-pub enum Measuring {
-    Done(Totals, Tally),
-    Fault(Refusal),
-}
-
-fn larger(a: usize, b: usize) -> usize
-    ensures { result ≡ max a b }
-{
-    if a < b {
-        return b;
-    }
-    a
+#[derive(Clone, Copy)]
+pub struct Measuring {
+    pub totals: Totals,
+    pub tally: Tally,
 }
 
 // A prototype of this id, whose definitions start at `fields`. It has no text.
@@ -56,34 +47,26 @@ fn prototype_step(
     table: &mut [u32],
     id: u32,
     fields: usize,
-) -> SumStep
+) -> Result<SumStep, Refusal>
     requires { Standing s.now p tally table.old × Named s.now p.rows id p.at }
     ensures { SumDefining s.now p tally table.old id fields result table.new }
 {
-    let text = tally.text;
-    let list = fields_parser(s, fields);
-    match list {
-        Counted::Fault(f) => return SumStep::Refused(f),
-        Counted::Fields { count: _, next } => {
-            let defined = define(s, table, p.rows, id, word(p.at));
-            match defined {
-                Defined::Full => return SumStep::Refused(refused(TABLE_FULL, p.at)),
-                Defined::Rows(rows) => return SumStep::Go(
-                    Progress {
-                        at: next,
-                        rows,
-                        blocks: p.blocks,
-                        prototypes: p.prototypes + 1,
-                    },
-                    Tally {
-                        text,
-                        steps: tally.steps + 1,
-                        largest: tally.largest,
-                    },
-                ),
-            }
-        }
-    }
+    let list = fields_parser(s, fields)?;
+    let Some(rows) = define(s, table, p.rows, id, p.at as u32) else {
+        return Err(refused(Cause::TableFull, p.at));
+    };
+    Ok(SumStep::Go(
+        Progress {
+            at: list.next,
+            rows,
+            prototypes: p.prototypes + 1,
+            ..p
+        },
+        Tally {
+            steps: tally.steps + 1,
+            ..tally
+        },
+    ))
 }
 
 // A block of this id, whose own id starts at `id_at`, under the definition in force.
@@ -96,35 +79,26 @@ fn block_step(
     table: &[u32],
     id: u32,
     id_at: usize,
-) -> SumStep
-    requires standing { Standing s.now p tally table.now × (p.at ≤ id_at) × (id_at ≤ length s.now) }
-    requires char_pairs { CharPairs chars.now }
+) -> Result<SumStep, Refusal>
+    requires { Standing s.now p tally table.now × (p.at ≤ id_at) × (id_at ≤ length s.now) }
     ensures { SumCarrying version s.now p tally table.now id id_at result }
 {
-    let text = tally.text;
-    let found = find(s, table, p.rows, id);
-    match found {
-        FoundRow::Nothing => return SumStep::Refused(refused(UNDEFINED_PROTOTYPE, p.at)),
-        FoundRow::At { in_force, last: _ } => {
-            let block = block_summed(chars, s, version, size(in_force), id_at, text);
-            match block {
-                SummedBlock::Fault(f) => return SumStep::Refused(f),
-                SummedBlock::Next { at, sum, values } => return SumStep::Go(
-                    Progress {
-                        at,
-                        rows: p.rows,
-                        blocks: p.blocks + 1,
-                        prototypes: p.prototypes,
-                    },
-                    Tally {
-                        text: sum,
-                        steps: tally.steps + 1 + values,
-                        largest: larger(tally.largest, at - p.at),
-                    },
-                ),
-            }
-        }
-    }
+    let Some(row) = find(s, table, p.rows, id) else {
+        return Err(refused(Cause::UndefinedPrototype, p.at));
+    };
+    let block = block_summed(chars, s, version, size(row.in_force), id_at, tally.text)?;
+    Ok(SumStep::Go(
+        Progress {
+            at: block.at,
+            blocks: p.blocks + 1,
+            ..p
+        },
+        Tally {
+            text: block.sum,
+            steps: tally.steps + 1 + block.values,
+            largest: tally.largest.max(block.at - p.at),
+        },
+    ))
 }
 
 // The record at p.
@@ -135,26 +109,26 @@ fn record_step(
     p: Progress,
     tally: Tally,
     table: &mut [u32],
-) -> SumStep
-    requires standing { Standing s.now p tally table.old }
-    requires char_pairs { CharPairs chars.now }
+) -> Result<SumStep, Refusal>
+    requires { Standing s.now p tally table.old }
     ensures { SumStepped version s.now p tally table.old result table.new }
 {
-    let head = head_parser(s, p.at);
-    match head {
-        Head::End(next) => return SumStep::End(next),
-        Head::BadHead(f) => return SumStep::Refused(f),
-        Head::Prototype { id, name: _, next } => return prototype_step(
-            s, p, tally, table, id, next,
-        ),
-        Head::Block { id, next } => return block_step(chars, s, version, p, tally, table, id, next),
+    match head_parser(s, p.at)? {
+        Head::End(next) => Ok(SumStep::End(next)),
+        Head::Prototype { id, name: _, next } => prototype_step(s, p, tally, table, id, next),
+        Head::Block { id, next } => block_step(chars, s, version, p, tally, table, id, next),
     }
 }
 
 // The records of a version from `start` on, with an empty table.
-pub fn walk(chars: &CharPairs, s: &[u8], version: u32, start: usize, table: &mut [u32]) -> Measuring
-    requires s_in_bounds { (length s.now ≤ length_limit) × (start ≤ length s.now) }
-    requires char_pairs { CharPairs chars.now }
+pub fn walk(
+    chars: &CharPairs,
+    s: &[u8],
+    version: u32,
+    start: usize,
+    table: &mut [u32],
+) -> Result<Measuring, Refusal>
+    requires { (length s.now ≤ length_limit) × (start ≤ length s.now) }
     ensures { SumWalks version s.now start table.old result table.new }
 {
     let mut p = Progress {
@@ -164,32 +138,29 @@ pub fn walk(chars: &CharPairs, s: &[u8], version: u32, start: usize, table: &mut
         prototypes: 0,
     };
     let mut tally = Tally {
-        text: Sum { to: 0, missing: 0 },
+        text: Sum {
+            to: 0,
+            missing: None,
+        },
         steps: 0,
         largest: 0,
     };
     loop {
-        let step = record_step(chars, s, version, p, tally, table);
-        match step {
+        match record_step(chars, s, version, p, tally, table)? {
             SumStep::End(next) => {
-                let text = tally.text;
-                let steps = tally.steps + 1;
-                return Measuring::Done(
-                    Totals {
-                        version,
-                        rows: p.rows,
-                        blocks: p.blocks,
-                        prototypes: p.prototypes,
-                        next,
-                    },
-                    Tally {
-                        text,
-                        steps,
-                        largest: tally.largest,
-                    },
-                );
+                let totals = Totals {
+                    version,
+                    rows: p.rows,
+                    blocks: p.blocks,
+                    prototypes: p.prototypes,
+                    next,
+                };
+                let tally = Tally {
+                    steps: tally.steps + 1,
+                    ..tally
+                };
+                return Ok(Measuring { totals, tally });
             }
-            SumStep::Refused(f) => return Measuring::Fault(f),
             SumStep::Go(further, more) => {
                 p = further;
                 tally = more;

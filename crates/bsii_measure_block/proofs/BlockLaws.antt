@@ -26,21 +26,18 @@ use Rattle.bsii_length.proofs.Elements.{id_takes}
 use Rattle.bsii_string.specs.Answers.{end_of}
 use Rattle.bsii_block.specs.Blocks.{DefinedAt}
 use Rattle.bsii_string.specs.declared.answers.Refusal.{Refusal}
-use Rattle.bsii_string.specs.declared.answers.Parsed.{Parsed}
-use Rattle.bsii_string.specs.declared.answers.Parsed.TheVariants.{Next as ParsedTo, Fault as Unparsed}
 use Rattle.bsii_string.proofs.Ends.{next≢fault, next_same}
 use Rattle.bsii_prototype.specs.Entries.{unchecked_head}
 use Rattle.bsii_prototype.proofs.Beginnings.{head_past}
 use Rattle.bsii_walk.proofs.Naming.{head_ends, name_inside, standing}
 use Rattle.bsii_walk.proofs.Parts.{BlockParts}
-use Rattle.bsii_measure_string.specs.Measured.{measured}
-use Rattle.bsii_measure_string.specs.declared.answers.Measured.TheVariants.{Next as MeasuredTo, Fault as Unmeasured}
+use Rattle.bsii_measure_string.specs.Measured.{long_at, measured}
 use Rattle.bsii_measure_block.specs.Sums.{measure_of, plus, sum_is, sums, BlockFits, Room}
 use Rattle.bsii_measure_block.specs.Fields.{values_sum, ValuesSummed}
 use Rattle.bsii_measure_block.specs.Blocks.{framed_by, Framed, block_sum, BlockSummed}
 use Rattle.bsii_measure_block.specs.declared.sums.Sum.{Sum}
 use Rattle.bsii_measure_block.specs.declared.sums.SummedBlock.{SummedBlock}
-use Rattle.bsii_measure_block.specs.declared.sums.SummedBlock.TheVariants.{Next as NextBlock, Fault as BlockFault}
+use Rattle.std.specs.Prelude.{Ok, Err, Result as Answer}
 use Rattle.bsii_measure_block.proofs.SumLaws.{measure_joined, sum_more}
 use Rattle.bsii_measure_string.proofs.Measures.{measured_ok, measured_fault}
 
@@ -87,35 +84,33 @@ input_at s at h k = record { bytes = λ i. rw get_or-drop (h (at + i)); short = 
 pub record Begins (s : List ℕ) (o first at start long : ℕ) (sum : Sum) : Type 0 where
   pub frame : Framed sum o first long
   pub late : at ≤ start
-  pub positive : 0 < start
   pub room : Room s start (framed_by sum o first long)
 
-pub begins : {s : List ℕ} (o at : ℕ) {sum : Sum} → Room s at sum → ((i : ℕ) → get_or s i 0 < 256) → {h : Parsed} → h ≡ end_of (unchecked_head o (drop o s)) → {first : ℕ} → h ≡ ParsedTo first
-    → {start long : ℕ} → MeasuredTo start long ≡ measured id_size (id_parser at (drop at s)) → Begins s o first at start long sum
-begins {s} o at r b e z {start} {long} d =
+pub begins : {s : List ℕ} (o at : ℕ) {sum : Sum} → Room s at sum → ((i : ℕ) → get_or s i 0 < 256) → {first : ℕ} → Ok first ≡ end_of (unchecked_head o (drop o s))
+    → {start long : ℕ} → long_at start long ≡ measured id_size (id_parser at (drop at s)) → Begins s o first at start long sum
+begins {s} o at r b e {start = start} {long} d =
     let q = measured_ok id_exact id_size s at d in
     let m = moved id_exact s at q.reads in
     let t = id_takes.taken at (drop at s) q.value start (drop start s) (input_at s at b r.short) q.reads in
-    let n = name_inside s o e z in
+    let n = name_inside s o e refl in
     let l : at < start = omega (arith, t.long, length-drop at s, length-drop start s, t.holds.some, m.inside r.inside) in
     let u : long ≤ 65 * length_limit + 100 = omega (arith, q.long, t.long, length-drop at s, t.holds.text, r.short) in
     record {
       frame = record { begun = omega (arith, r.fits, r.inside, r.short); named = n.0; inside = omega (arith, n.1, r.short); short = omega arith };
       late = omega arith;
-      positive = omega arith;
       room = record { short = r.short; inside = m.inside r.inside; fits = omega (arith, r.fits, r.short, n.1) };
     }
 
 -- the definitions behind the head of the prototype that stands there
-listed : (s : List ℕ) (o : ℕ) {h : Parsed} → h ≡ end_of (unchecked_head o (drop o s)) → {first : ℕ} → h ≡ ParsedTo first → (p : Prototype) (x : DefinedAt s o p)
+listed : (s : List ℕ) (o : ℕ) {first : ℕ} → Ok first ≡ end_of (unchecked_head o (drop o s)) → (p : Prototype) (x : DefinedAt s o p)
     → fields_parser first (drop first s) ≡ ok (record { fields = p.fields; terminator = p.terminator }) x.next (drop x.next s)
-listed s o e z p x = ap (λ (k : ℕ). fields_parser k (drop k s)) (sym (next_same (sym (standing s o e p x) ∙ z))) ∙ x.list
+listed s o e p x = ap (λ (k : ℕ). fields_parser k (drop k s)) (next_same (standing s o e p x)) ∙ x.list
 
-module _ {version : ℕ} {s : List ℕ} {o at : ℕ} {sum : Sum} {h : Parsed} (e : h ≡ end_of (unchecked_head o (drop o s))) where
-  pub block_absent : {f : Refusal} → h ≡ Unparsed f → (x : Refusal) → BlockSummed version s o at sum (BlockFault x)
-  block_absent z x = record { is = λ p d. next≢fault (sym (standing s o e p d) ∙ z); counts = λ p d. tt; fine = tt }
+module _ {version : ℕ} {s : List ℕ} {o at : ℕ} {sum : Sum} where
+  pub block_absent : {f : Refusal} → Err f ≡ end_of (unchecked_head o (drop o s)) → (x : Refusal) → BlockSummed version s o at sum (Err x)
+  block_absent e x = record { is = λ p d. next≢fault (sym (standing s o e p d)); counts = λ p d. tt; fine = tt }
 
-  pub block_id_fault : {f : Refusal} → Unmeasured f ≡ measured id_size (id_parser at (drop at s)) → BlockSummed version s o at sum (BlockFault f)
+  pub block_id_fault : {f : Refusal} → Err f ≡ measured id_size (id_parser at (drop at s)) → BlockSummed version s o at sum (Err f)
   unfolding block_sum
   block_id_fault d = record {
     is = λ p x. sym (ap (block_sum value_text version (sum_is sum.to sum.missing) p) (measured_fault id_size (id_parser at (drop at s)) d));
@@ -123,24 +118,24 @@ module _ {version : ℕ} {s : List ℕ} {o at : ℕ} {sum : Sum} {h : Parsed} (e
     fine = tt;
   }
 
-  module _ {first : ℕ} (z : h ≡ ParsedTo first) {start long : ℕ} (d : MeasuredTo start long ≡ measured id_size (id_parser at (drop at s))) where
-    pub block_values : {r : SummedBlock} → at ≤ start → ValuesSummed version s first start (framed_by sum o first long) r → BlockSummed version s o at sum r
+  module _ {first : ℕ} (e : Ok first ≡ end_of (unchecked_head o (drop o s))) {start long : ℕ} (d : long_at start long ≡ measured id_size (id_parser at (drop at s))) where
+    pub block_values : {r : Answer SummedBlock Refusal} → at ≤ start → ValuesSummed version s first start (framed_by sum o first long) r → BlockSummed version s o at sum r
     unfolding block_sum closing
     block_values {r} late v = record {
       is = λ p x.
           let q = measured_ok id_exact id_size s at d in
-          let there : x.fields ≡ first = next_same (sym (standing s o e p x) ∙ z) in
+          let there : x.fields ≡ first = next_same (sym (standing s o e p x)) in
           let name = head_ends s o (head_past o (drop o s) x.head) in
           let opening = length (block_opening p.name q.value) in
           let all : (framed_by sum o first long).to ≡ sum.to + (opening + 2) = omega (arith, name.end, there, q.long, opening_size p.name q.value) in
-          v.is (record { fields = p.fields; terminator = p.terminator }) x.next (drop x.next s) (listed s o e z p x)
+          v.is (record { fields = p.fields; terminator = p.terminator }) x.next (drop x.next s) (listed s o e p x)
           ∙ ap (λ y. values_sum value_text y start p.fields (data_values_parser version p.fields start (drop start s)))
           (ap (λ m. sum_is m sum.missing) all ∙ sym (sum_more sum.to sum.missing (opening + 2)))
           ∙ sym (ap (block_sum value_text version (sum_is sum.to sum.missing) p) q.reads);
-      counts = λ p x. v.counts (record { fields = p.fields; terminator = p.terminator }) x.next (drop x.next s) (listed s o e z p x);
+      counts = λ p x. v.counts (record { fields = p.fields; terminator = p.terminator }) x.next (drop x.next s) (listed s o e p x);
       fine = widen r v.fine;
     }
       where
-        widen : (r : SummedBlock) → BlockFits s start r → BlockFits s at r
-        widen (NextBlock n more values) h = (omega (arith, h.0, late), h.1, h.2)
-        widen (BlockFault f) h = tt
+        widen : (r : Answer SummedBlock Refusal) → BlockFits s start r → BlockFits s at r
+        widen (Ok m) h = (omega (arith, h.0, late), h.1, h.2)
+        widen (Err f) h = tt

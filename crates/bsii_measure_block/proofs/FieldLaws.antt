@@ -1,6 +1,6 @@
 -- A field: what its value's lines, or an enum value's string, add to the sum.
-use mathlib.Core.Path.{◌≡◌, sym, ap, ◌∙◌, subst}
-use Prim.Native.Nat.{ℕ, ◌+◌, ◌-◌, ◌*◌, ◌≤◌, ◌<◌}
+use mathlib.Core.Path.{◌≡◌, sym, ap, ◌∙◌}
+use Prim.Native.Nat.{ℕ, ◌+◌, ◌-◌, ◌*◌, ◌≤◌}
 use native.Mathlib.Omega.{arith}
 use mathlib.Core.Option.{Option, none, some, map}
 use mathlib.Core.List.{List, [], ◌∷◌}
@@ -22,20 +22,18 @@ use Rattle.bsii_length.specs.Bounds.{line_bound}
 use Rattle.bsii_length.proofs.Elements.{string_text_length}
 use Rattle.bsii_string.specs.Answers.{fault_is}
 use Rattle.bsii_string.specs.declared.answers.Refusal.{Refusal}
+use Rattle.bsii_string.specs.declared.answers.Text.{Text}
+use Rattle.std.specs.Prelude.{Ok, Err, Some, None}
 use Rattle.bsii_prototype.proofs.Names.{number_front}
-use Rattle.bsii_definition.specs.Enums.{StringOf, StringInside}
+use Rattle.bsii_definition.specs.Enums.{StringOf}
 use Rattle.bsii_definition.specs.Pairs.{Describes, InFile}
-use Rattle.bsii_definition.specs.declared.enums.EnumString.{EnumString}
-use Rattle.bsii_definition.specs.declared.enums.EnumString.TheVariants.{Text, Absent}
 use Rattle.bsii_definition.specs.declared.pairs.Definition.{Definition}
 use Rattle.bsii_measure_string.specs.Measured.{value_size}
 use Rattle.bsii_measure_value.specs.Rows.{ValueFine, ValueMeasured}
 use Rattle.bsii_measure_string.specs.declared.answers.Measured.{Measured}
-use Rattle.bsii_measure_string.specs.declared.answers.Measured.TheVariants.{Next as MeasuredTo, Fault as Unmeasured}
-use Rattle.bsii_measure_block.specs.Sums.{measure_of, plus, sum_is, first_of, first_missing, sums, Room}
+use Rattle.bsii_measure_block.specs.Sums.{measure_of, plus, sum_is, first_missing, sums, Room}
 use Rattle.bsii_measure_block.specs.Fields.{field_sum, FieldSummed, EnumSummed}
 use Rattle.bsii_measure_block.specs.declared.sums.Sum.{Sum}
-use Rattle.bsii_measure_block.specs.declared.sums.Summed.TheVariants.{Next, Fault}
 use Rattle.bsii_measure_block.proofs.SumLaws.{sum_more, sum_missing}
 use Rattle.bsii_measure_string.proofs.Measures.{measured_ok, measured_fault}
 use Rattle.bsii_measure_value.proofs.TextSizes.{value_text_law, line_size_law}
@@ -58,37 +56,37 @@ module _ (version : ℕ) (s : List ℕ) (at : ℕ) (d : Definition) (sum : Sum) 
       ∙ sym (ap (λ o. sums n (plus (sum_is sum.to sum.missing) (measure_of (or_refuse enum_value at o)))) t)
       ∙ sym (ap (field_sum value_text (sum_is sum.to sum.missing) f at) e)
 
-  untexted : {v : _} → 0 < at → value_parser version d.type_id at (drop at s) ≡ ok v n (drop n s) → value_text f v ≡ none
-      → sums n (sum_is sum.to (first_of sum.missing at)) ≡ field_sum value_text (sum_is sum.to sum.missing) f at (value_parser version d.type_id at (drop at s))
+  untexted : {v : _} → value_parser version d.type_id at (drop at s) ≡ ok v n (drop n s) → value_text f v ≡ none
+      → sums n (sum_is sum.to (first_missing sum at).missing) ≡ field_sum value_text (sum_is sum.to sum.missing) f at (value_parser version d.type_id at (drop at s))
   unfolding field_sum or_refuse measure_of
-  untexted h e t =
-      ap (sums n) (sym (sum_missing sum.to sum.missing at h))
+  untexted e t =
+      ap (sums n) (sym (sum_missing sum.to sum.missing at))
       ∙ sym (ap (λ o. sums n (plus (sum_is sum.to sum.missing) (measure_of (or_refuse enum_value at o)))) t)
       ∙ sym (ap (field_sum value_text (sum_is sum.to sum.missing) f at) e)
 
 -- ---- a value by its measure
 
-module _ {version : ℕ} {s : List ℕ} {at : ℕ} (d : Definition) {sum : Sum} {r : Measured} (w : ValueMeasured version s at d.type_id (d.name_end - d.name) r) where
-  pub field_fault : {f : Refusal} → r ≡ Unmeasured f → FieldSummed version s at d sum (Fault f)
+module _ {version : ℕ} {s : List ℕ} {at : ℕ} (d : Definition) {sum : Sum} where
+  pub field_fault : {f : Refusal} → ValueMeasured version s at d.type_id (d.name_end - d.name) (Err f) → FieldSummed version s at d sum (Err f)
   unfolding field_sum
-  field_fault z = record {
+  field_fault w = record {
     is = λ f h.
         sym (ap (field_sum value_text (sum_is sum.to sum.missing) f at)
-        (measured_fault (value_size (d.name_end - d.name)) (value_parser version d.type_id at (drop at s)) (sym z ∙ w.is)));
+        (measured_fault (value_size (d.name_end - d.name)) (value_parser version d.type_id at (drop at s)) w.is));
     fine = tt;
   }
 
-  module _ {n long : ℕ} (z : r ≡ MeasuredTo n long) (room : Room s at sum) where
-    pub field_fits : (n ≤ length s) × (sum.to + long ≤ line_bound * n)
-    field_fits = let f : ValueFine s at (MeasuredTo n long) = subst (ValueFine s at) z w.fine in (f.1, omega (arith, room.fits, f.2))
+  module _ {m : Measured} (w : ValueMeasured version s at d.type_id (d.name_end - d.name) (Ok m)) (room : Room s at sum) where
+    pub field_fits : (m.at ≤ length s) × (sum.to + m.long ≤ line_bound * m.at)
+    field_fits = let f : ValueFine s at (Ok m) = w.fine in (f.1, omega (arith, room.fits, f.2))
 
-    pub field_next : (d.type_id ≡ 0x37 → ⊥) → InFile s d → FieldSummed version s at d sum (Next n (with_more sum long))
+    pub field_next : (d.type_id ≡ 0x37 → ⊥) → InFile s d → FieldSummed version s at d sum (Ok (record { at = m.at; sum = with_more sum m.long }))
     field_next other i = record {
       is = λ f h.
-          let q = measured_ok (value_exact version d.type_id) (value_size (d.name_end - d.name)) s at (sym z ∙ w.is) in
+          let q = measured_ok (value_exact version d.type_id) (value_size (d.name_end - d.name)) s at w.is in
           let t = value_text_law version d.type_id other f at (drop at s) q.reads in
-          texted version s at d sum f q.reads t.is (q.long ∙ ap (λ m. value_size m q.value) (sym (named s d f i h)) ∙ sym t.size);
-      fine = let f : ValueFine s at (MeasuredTo n long) = subst (ValueFine s at) z w.fine in (f.0, field_fits.0, field_fits.1);
+          texted version s at d sum f q.reads t.is (q.long ∙ ap (λ k. value_size k q.value) (sym (named s d f i h)) ∙ sym t.size);
+      fine = let f : ValueFine s at (Ok m) = w.fine in (f.0, field_fits.0, field_fits.1);
     }
 
 -- ---- an enum value
@@ -115,7 +113,7 @@ pub part_short : (s : List ℕ) (x y : ℕ) → length s ≤ length_limit → le
 part_short s x y h = simp (length-take, length-drop) (omega arith)
 
 module _ {s : List ℕ} {at : ℕ} (d : Definition) {sum : Sum} (typed : d.type_id ≡ 0x37) where
-  pub enum_fault : {f : Refusal} → number 4 at (drop at s) ≡ fault (fault_is f) → EnumSummed s at d sum (Fault f)
+  pub enum_fault : {f : Refusal} → number 4 at (drop at s) ≡ fault (fault_is f) → EnumSummed s at d sum (Err f)
   unfolding field_sum
   enum_fault e = record {
     in_version = λ version. record {
@@ -128,36 +126,30 @@ module _ {s : List ℕ} {at : ℕ} (d : Definition) {sum : Sum} (typed : d.type_
     moves : (next ≡ at + 4) × (next ≤ length s)
     moves = enum_next e room
 
-    module _ {r : EnumString} (w : StringOf s d.name_end d.type_id n r) where
-      pub enum_absent : r ≡ Absent → 0 < at → EnumSummed s at d sum (Next next (first_missing sum at))
-      enum_absent z h = record {
+    pub enum_absent : StringOf s d.name_end d.type_id n None → EnumSummed s at d sum (Ok (record { at = next; sum = first_missing sum at }))
+    enum_absent a = record {
+      in_version = λ version. record {
+        is = λ f k.
+            untexted version s at d sum f (ap (λ t. value_parser version t at (drop at s)) typed ∙ enum_value_law version s at e)
+            (enum_text_is f n _ (a.is f.enum_values k.end (drop k.end s) k.enums));
+        fine = (omega (arith, moves.0), moves.1, omega (arith, moves.0, room.fits));
+      };
+    }
+
+    module _ {x : Text} (a : StringOf s d.name_end d.type_id n (Some x)) where
+      -- a string's text is at most four times as long
+      pub enum_fits : InFile s d → {long : ℕ} → long ≡ length (string_text (take (x.next - x.start) (drop x.start s))) → d.name_end - d.name + 5 + long ≤ 5 * length_limit + 7
+      enum_fits i l = omega (arith, string_text_length (take (x.next - x.start) (drop x.start s)), part_short s x.start x.next room.short, l, i.inside, room.short)
+
+      pub enum_text : (i : InFile s d) {long : ℕ} → long ≡ length (string_text (take (x.next - x.start) (drop x.start s)))
+          → EnumSummed s at d sum (Ok (record { at = next; sum = with_more sum (d.name_end - d.name + 5 + long) }))
+      enum_text i {long} l = record {
         in_version = λ version. record {
           is = λ f k.
-              let a = subst (StringOf s d.name_end d.type_id n) z w in
-              untexted version s at d sum f h (ap (λ t. value_parser version t at (drop at s)) typed ∙ enum_value_law version s at e)
-              (enum_text_is f n _ (a.is f.enum_values k.end (drop k.end s) k.enums));
-          fine = (omega (arith, moves.0), moves.1, omega (arith, moves.0, room.fits));
+              let t = string_text (take (x.next - x.start) (drop x.start s)) in
+              let m : d.name_end - d.name + 5 + long ≡ length (field_line f.name t) = omega (arith, line_size_law f.name t, named s d f i k, l) in
+              texted version s at d sum f (ap (λ t. value_parser version t at (drop at s)) typed ∙ enum_value_law version s at e)
+              (enum_text_is f n _ (a.is f.enum_values k.end (drop k.end s) k.enums)) m;
+          fine = (omega (arith, moves.0), moves.1, omega (arith, moves.0, enum_fits i l, room.fits));
         };
       }
-
-      module _ {x y : ℕ} (z : r ≡ Text x y) where
-        pub enum_inside : (x ≤ y) × (y ≤ length s)
-        enum_inside = subst (StringInside s) z w.inside
-
-        -- a string's text is at most four times as long
-        pub enum_fits : InFile s d → {long : ℕ} → long ≡ length (string_text (take (y - x) (drop x s))) → d.name_end - d.name + 5 + long ≤ 5 * length_limit + 7
-        enum_fits i l = omega (arith, string_text_length (take (y - x) (drop x s)), part_short s x y room.short, l, i.inside, room.short)
-
-        pub enum_text : (i : InFile s d) {long : ℕ} → long ≡ length (string_text (take (y - x) (drop x s)))
-            → EnumSummed s at d sum (Next next (with_more sum (d.name_end - d.name + 5 + long)))
-        enum_text i {long} l = record {
-          in_version = λ version. record {
-            is = λ f k.
-                let a = subst (StringOf s d.name_end d.type_id n) z w in
-                let t = string_text (take (y - x) (drop x s)) in
-                let m : d.name_end - d.name + 5 + long ≡ length (field_line f.name t) = omega (arith, line_size_law f.name t, named s d f i k, l) in
-                texted version s at d sum f (ap (λ t. value_parser version t at (drop at s)) typed ∙ enum_value_law version s at e)
-                (enum_text_is f n _ (a.is f.enum_values k.end (drop k.end s) k.enums)) m;
-            fine = (omega (arith, moves.0), moves.1, omega (arith, moves.0, enum_fits i l, room.fits));
-          };
-        }

@@ -1,13 +1,14 @@
 -- Texts one behind the other, and their lengths.
 use mathlib.Core.Path.{◌≡◌, refl, ap}
-use Prim.Native.Nat.{ℕ, zero, suc, ◌+◌, ◌<◌}
+use Rattle.std.specs.Prelude.{Some, None, Option}
+use Rattle.std.specs.Option.{option_or}
+use Prim.Native.Nat.{ℕ, ◌+◌}
 use native.Mathlib.Nat.{add-zero, add_assoc}
-use native.Mathlib.Omega.{arith}
 use mathlib.Core.List.{List, [], append_assoc, append-nil}
 use lib.ListN.{length-append}
 use Rattle.bsii_format.specs.Replies.{Reply, gives, refuses, refusal, enum_value}
 use Rattle.bsii_format.specs.BlockText.{joined}
-use Rattle.bsii_measure_block.specs.Sums.{measure_of, plus, sum_is, first_of}
+use Rattle.bsii_measure_block.specs.Sums.{measure_of, plus, sum_is}
 
 pub joined_none : (a : Reply (List ℕ)) → joined a (gives []) ≡ a
 unfolding joined
@@ -46,23 +47,12 @@ plus_none (refuses f) = refl
 
 -- ---- the two numbers of a sum
 
-pub sum_more : (to missing m : ℕ) → plus (sum_is to missing) (gives m) ≡ sum_is (to + m) missing
+pub sum_more : (to : ℕ) (missing : Option ℕ) (m : ℕ) → plus (sum_is to missing) (gives m) ≡ sum_is (to + m) missing
 unfolding plus sum_is
-sum_more to zero m = refl
-sum_more to (suc o) m = refl
+sum_more to None m = refl
+sum_more to (Some o) m = refl
 
-pub sum_missing : (to missing at : ℕ) → 0 < at → plus (sum_is to missing) (refusal enum_value at) ≡ sum_is to (first_of missing at)
-unfolding plus sum_is first_of
-sum_missing to zero zero h = absurd (omega arith)
-sum_missing to zero (suc at) h = refl
-sum_missing to (suc o) at h = refl
-
-pub first_none : (missing at : ℕ) → missing ≡ 0 → at ≡ first_of missing at
-unfolding first_of
-first_none zero at h = refl
-first_none (suc o) at h = absurd (omega arith)
-
-pub first_some_law : (missing at : ℕ) → (missing ≡ 0 → ⊥) → missing ≡ first_of missing at
-unfolding first_of
-first_some_law zero at h = absurd (h refl)
-first_some_law (suc o) at h = refl
+pub sum_missing : (to : ℕ) (missing : Option ℕ) (at : ℕ) → plus (sum_is to missing) (refusal enum_value at) ≡ sum_is to (option_or missing (Some at))
+unfolding plus sum_is
+sum_missing to None at = refl
+sum_missing to (Some o) at = refl

@@ -1,5 +1,5 @@
 -- A block's values one by one: what a turn of the loop over them keeps.
-use mathlib.Core.Path.{◌≡◌, refl, sym, ap, ◌∙◌, subst}
+use mathlib.Core.Path.{◌≡◌, refl, sym, ap, ◌∙◌}
 use Prim.Native.Nat.{ℕ, ◌+◌, ◌-◌, ◌≤◌}
 use native.Mathlib.Omega.{arith}
 use mathlib.Core.Option.{Option}
@@ -27,8 +27,7 @@ use Rattle.bsii_measure_block.specs.Sums.{measure_of, plus, sum_is, Outcome, sum
 use Rattle.bsii_measure_block.specs.Fields.{field_sum, values_sum, FieldSummed, ValuesSummed}
 use Rattle.bsii_measure_block.specs.declared.sums.Sum.{Sum}
 use Rattle.bsii_measure_block.specs.declared.sums.Summed.{Summed}
-use Rattle.bsii_measure_block.specs.declared.sums.Summed.TheVariants.{Next, Fault}
-use Rattle.bsii_measure_block.specs.declared.sums.SummedBlock.TheVariants.{Next as NextBlock, Fault as BlockFault}
+use Rattle.std.specs.Prelude.{Ok, Err, Result as Answer}
 use Rattle.bsii_measure_block.proofs.SumLaws.{measure_joined, plus_assoc, plus_none}
 
 pub sums≢stops : {P : Type 0} {n : ℕ} {a : Reply ℕ} {f : replies.Fault} → ◌≡◌ {A = Outcome} (sums n a) (stops f) → P
@@ -110,8 +109,8 @@ module _ {version : ℕ} {s : List ℕ} {fields start : ℕ} {before : Sum} {fie
   from_here : List (Consumed ValuePrototype) → Outcome
   from_here fs = values_sum value_text (sum_is sum.to sum.missing) at fs (data_values_parser version fs at (drop at s))
 
-  pub adding_last : ((type a b next : ℕ) → Field type a b next ≡ entry_of (field + 8) (entry_with unchecked_str field (drop field s)) → ⊥)
-      → ValuesSummed version s fields start before (NextBlock at sum count)
+  pub adding_last : ((type a b next : ℕ) → Ok (Field type a b next) ≡ entry_of (field + 8) (entry_with unchecked_str field (drop field s)) → ⊥)
+      → ValuesSummed version s fields start before (Ok (record { at = at; sum = sum; values = count }))
   unfolding from_here
   adding_last e = record {
     is = λ l n t h.
@@ -121,32 +120,30 @@ module _ {version : ℕ} {s : List ℕ} {fields start : ℕ} {before : Sum} {fie
     fine = (i.later, i.room.inside, i.room.fits);
   }
 
-  module _ {type a b next : ℕ} (e : Field type a b next ≡ entry_of (field + 8) (entry_with unchecked_str field (drop field s)))
-      {r : Summed} (w : FieldSummed version s at (definition type a b) sum r) where
+  module _ {type a b next : ℕ} (e : Ok (Field type a b next) ≡ entry_of (field + 8) (entry_with unchecked_str field (drop field s))) where
     -- what the field's sum says of the definition that stands there
-    field_is_law : {l : Fields} {n : ℕ} {t : List ℕ} (y : FieldTurn s field type a b next l n t)
+    field_is_law : {r : Answer Summed Refusal} → FieldSummed version s at (definition type a b) sum r → {l : Fields} {n : ℕ} {t : List ℕ} (y : FieldTurn s field type a b next l n t)
         → summed_is r ≡ field_sum value_text (sum_is sum.to sum.missing) y.field at (value_parser version y.field.type_id at (drop at s))
-    field_is_law y =
+    field_is_law w y =
         w.is y.field (record { typed = y.typed; name = y.name; end = next; enums = y.enums })
         ∙ ap (λ k. field_sum value_text (sum_is sum.to sum.missing) y.field at (value_parser version k at (drop at s))) y.typed
 
-    pub adding_fault : {f : Refusal} → r ≡ Fault f → ValuesSummed version s fields start before (BlockFault f)
+    pub adding_fault : {f : Refusal} → FieldSummed version s at (definition type a b) sum (Err f) → ValuesSummed version s fields start before (Err f)
     unfolding from_here
-    adding_fault z = record {
+    adding_fault w = record {
       is = λ l n t h.
           let x = i.rest l n t h in
           let y = turn_field s field x.1 e in
-          value_stop value_text version (sum_is sum.to sum.missing) s at (with y.field (take (next - field) (drop field s))) y.rest.fields
-          (sym (ap summed_is z) ∙ field_is_law y)
+          value_stop value_text version (sum_is sum.to sum.missing) s at (with y.field (take (next - field) (drop field s))) y.rest.fields (field_is_law w y)
           ∙ ap from_here (sym y.fields) ∙ x.2;
       counts = λ l n t h. tt;
       fine = tt;
     }
 
-    pub adding_next : {end : ℕ} {more : Sum} → r ≡ Next end more → Adding version s fields start before next end more (count + 1)
+    pub adding_next : {m : Summed} → FieldSummed version s at (definition type a b) sum (Ok m) → Adding version s fields start before next m.at m.sum (count + 1)
     unfolding from_here
-    adding_next {end} {more} z =
-        let f : SumFits s at (Next end more) = subst (SumFits s at) z w.fine in
+    adding_next {m} w =
+        let f : SumFits s at (Ok m) = w.fine in
         record {
           rest = λ l n t h.
               let x = i.rest l n t h in
@@ -154,7 +151,7 @@ module _ {version : ℕ} {s : List ℕ} {fields start : ℕ} {before : Sum} {fie
                 y.rest,
                 y.more,
                 sym (value_sum value_text version (sum_is sum.to sum.missing) s at (with y.field (take (next - field) (drop field s))) y.rest.fields
-                    (sym (ap summed_is z) ∙ field_is_law y))
+                    (field_is_law w y))
                     ∙ ap from_here (sym y.fields) ∙ x.2,
                 omega (arith, x.3, ap length y.fields),
               );

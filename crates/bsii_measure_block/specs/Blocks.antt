@@ -1,5 +1,5 @@
 -- A block, measured.
-use Rattle.std.specs.Prelude.{◌≡◌, ℕ, ◌+◌, ◌-◌, ◌*◌, ◌≤◌, List, length, drop}
+use Rattle.std.specs.Prelude.{◌≡◌, ℕ, ◌+◌, ◌-◌, ◌*◌, ◌≤◌, List, length, drop, Result as Answer}
 use Rattle.std.proofs.Math.Option.{Option}
 use Rattle.bsii_format.specs.Replies.{Reply, gives}
 use Rattle.bsii_format.specs.Reader.{Result, ok, fault}
@@ -11,6 +11,7 @@ use Rattle.bsii_format.specs.File.{length_limit}
 use Rattle.bsii_format.specs.Text.{value_text}
 use Rattle.bsii_format.specs.BlockText.{block_opening, closing}
 use Rattle.bsii_length.specs.Bounds.{line_bound}
+use Rattle.bsii_string.specs.declared.answers.Refusal.{Refusal}
 use Rattle.bsii_block.specs.Blocks.{DefinedAt}
 use Rattle.bsii_measure_block.specs.Sums.{plus, sum_is, Outcome, stops, block_is, Counts, BlockFits}
 use Rattle.bsii_measure_block.specs.Fields.{values_sum}
@@ -34,7 +35,7 @@ block_sum text version before p (ok i at r) =
     values_sum text (plus before (gives (length (block_opening p.name i) + length closing))) at p.fields (data_values_parser version p.fields at r)
 block_sum text version before p (fault x) = stops x
 
-pub record BlockSummed (version : ℕ) (s : List ℕ) (o at : ℕ) (sum : Sum) (r : SummedBlock) : Type 0 where
+pub record BlockSummed (version : ℕ) (s : List ℕ) (o at : ℕ) (sum : Sum) (r : Answer SummedBlock Refusal) : Type 0 where
   pub is : (p : Prototype) → DefinedAt s o p → block_is r ≡ block_sum value_text version (sum_is sum.to sum.missing) p (id_parser at (drop at s))
   pub counts : (p : Prototype) → DefinedAt s o p → Counts (length p.fields) r
   pub fine : BlockFits s at r

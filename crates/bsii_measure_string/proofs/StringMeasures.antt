@@ -16,12 +16,12 @@ use Rattle.bsii_format.proofs.Parsers.{number_exact}
 use Rattle.bsii_format.proofs.Positions.{moved, bytes_at, bind_ok, verify_ok, verify_not, verify_fault}
 use Rattle.bsii_string.specs.Answers.{refused_at, end_of, unchecked_str}
 use Rattle.bsii_string.specs.declared.answers.Refusal.{Refusal}
-use Rattle.bsii_string.specs.declared.answers.Parsed.TheVariants.{Next as Ends, Fault as Stops}
 use Rattle.bsii_string.proofs.Ends.{next_ok, fault_at_law}
 use Rattle.bsii_string.proofs.Unchecked.{unchecked_str_exact}
-use Rattle.bsii_prototype.proofs.Names.{named, unchecked, number_front, bytes_front}
-use Rattle.bsii_measure_string.specs.Measured.{measured}
-use Rattle.bsii_measure_string.specs.declared.answers.Measured.TheVariants.{Next, Fault}
+use Rattle.bsii_prototype.proofs.Names.{named, number_front, bytes_front}
+use Rattle.bsii_prototype.specs.Strings.{unchecked}
+use Rattle.bsii_measure_string.specs.Measured.{long_at, measured}
+use Rattle.std.specs.Prelude.{Ok, Err}
 
 abbrev text_size : List ℕ → ℕ
 text_size t = length (string_text t)
@@ -33,14 +33,14 @@ module _ (s : List ℕ) (start next : ℕ) (h : start ≤ next) (l : next ≤ le
   reads = let z : start + (next - start) ≡ next = omega arith in bytes_at (next - start) s start (omega arith) ∙ ap (λ n. ok (take (next - start) (drop start s)) n (drop n s)) z
 
   pub part_refused : utf8 (take (next - start) (drop start s)) ≡ false → {f : Refusal} → f ≡ refused_at not_utf8 start
-      → Fault f ≡ measured text_size (verify utf8 not_utf8 (bytes (next - start)) start (drop start s))
+      → Err f ≡ measured text_size (verify utf8 not_utf8 (bytes (next - start)) start (drop start s))
   unfolding measured
-  part_refused b e = ap Fault e ∙ sym (ap (measured text_size) (verify_not utf8 not_utf8 (bytes (next - start)) reads b))
+  part_refused b e = ap Err e ∙ sym (ap (measured text_size) (verify_not utf8 not_utf8 (bytes (next - start)) reads b))
 
   pub part_next : utf8 (take (next - start) (drop start s)) ≡ true → {long : ℕ} → long ≡ length (string_text (take (next - start) (drop start s)))
-      → Next next long ≡ measured text_size (verify utf8 not_utf8 (bytes (next - start)) start (drop start s))
+      → long_at next long ≡ measured text_size (verify utf8 not_utf8 (bytes (next - start)) start (drop start s))
   unfolding measured
-  part_next b e = ap (λ m. Next next m) e ∙ sym (ap (measured text_size) (verify_ok utf8 not_utf8 (bytes (next - start)) reads b))
+  part_next b e = ap (λ m. long_at next m) e ∙ sym (ap (measured text_size) (verify_ok utf8 not_utf8 (bytes (next - start)) reads b))
 
 -- ---- with its length in front
 
@@ -53,15 +53,15 @@ str_stops at s {x} e = go (number 4 at s) e
     go (fault y) e = e
 
 module _ (s : List ℕ) (at : ℕ) where
-  pub string_fault : {f : Refusal} → Stops f ≡ end_of (unchecked_str at (drop at s)) → Fault f ≡ measured text_size (str_parser at (drop at s))
+  pub string_fault : {f : Refusal} → Err f ≡ end_of (unchecked_str at (drop at s)) → Err f ≡ measured text_size (str_parser at (drop at s))
   unfolding measured
   string_fault h = sym (ap (measured text_size) (str_stops at (drop at s) (fault_at_law (unchecked_str at (drop at s)) h)))
 
-  pub string_place : {n : ℕ} → Ends n ≡ end_of (unchecked_str at (drop at s)) → (at + 4 ≤ n) × (n ≤ length s)
+  pub string_place : {n : ℕ} → Ok n ≡ end_of (unchecked_str at (drop at s)) → (at + 4 ≤ n) × (n ≤ length s)
   string_place h = let q = next_ok unchecked_str_exact s at h in let w = named unchecked s at q.1 in (omega (arith, w.end), w.inside)
 
   -- what is left to do once the length is read
-  pub string_part : {n : ℕ} → Ends n ≡ end_of (unchecked_str at (drop at s)) → verify utf8 not_utf8 (bytes (n - (at + 4))) (at + 4) (drop (at + 4) s) ≡ str_parser at (drop at s)
+  pub string_part : {n : ℕ} → Ok n ≡ end_of (unchecked_str at (drop at s)) → verify utf8 not_utf8 (bytes (n - (at + 4))) (at + 4) (drop (at + 4) s) ≡ str_parser at (drop at s)
   unfolding str_parser unchecked_str ◌>>=◌
   string_part {n} h =
       let q = next_ok unchecked_str_exact s at h in

@@ -1,5 +1,5 @@
 -- A reader's result as its end and the length of a text of its value.
-use Rattle.std.specs.Prelude.{ℕ, suc, ◌+◌, List, [], ◌∷◌, length}
+use Rattle.std.specs.Prelude.{ℕ, suc, ◌+◌, List, [], ◌∷◌, length, Ok, Err, Result as Outcome}
 use Rattle.std.proofs.Math.Option.{get_or}
 use Rattle.bsii_format.specs.Reader.{Result, ok, fault, Consumed}
 use Rattle.bsii_format.specs.Values.{Element, Value, single, array}
@@ -7,12 +7,16 @@ use Rattle.bsii_format.specs.Digits.{decimal}
 use Rattle.bsii_format.specs.Text.{element_text}
 use Rattle.bsii_string.specs.Answers.{refusal_is}
 use Rattle.bsii_measure_string.specs.declared.answers.Measured.{Measured}
-use Rattle.bsii_measure_string.specs.declared.answers.Measured.TheVariants.{Next, Fault}
+use Rattle.bsii_string.specs.declared.answers.Refusal.{Refusal}
+
+-- an end and a length
+abbrev pub long_at : ℕ → ℕ → Outcome Measured Refusal
+long_at at long = Ok (record { at = at; long = long })
 
 -- `end_of` with a length
-unfoldable pub measured : {A : Type 0} → (A → ℕ) → Result A → Measured
-measured size (ok a at s) = Next at (size a)
-measured size (fault f) = Fault (refusal_is f)
+unfoldable pub measured : {A : Type 0} → (A → ℕ) → Result A → Outcome Measured Refusal
+measured size (ok a at s) = long_at at (size a)
+measured size (fault f) = Err (refusal_is f)
 
 -- An element that is no enum value; of one that is, 0: its text needs the list
 unfoldable pub element_size : Element → ℕ

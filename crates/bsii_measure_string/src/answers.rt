@@ -1,8 +1,6 @@
-// What the measuring readers answer: where what they read ends, and how long its text is; or a refusal.
-use bsii_string::answers::Refusal;
-
-#[derive(Drop)]
-pub enum Measured {
-    Next { at: usize, long: usize },
-    Fault(Refusal),
+// What the measuring readers answer: where what they read ends, and how long its text is.
+#[derive(Clone, Copy)]
+pub struct Measured {
+    pub at: usize,
+    pub long: usize,
 }

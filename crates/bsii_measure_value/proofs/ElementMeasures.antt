@@ -1,5 +1,5 @@
 -- Elements and rows of them, measured.
-use mathlib.Core.Path.{◌≡◌, refl, sym, ap, ◌∙◌, subst}
+use mathlib.Core.Path.{◌≡◌, refl, sym, ap, ◌∙◌}
 use Prim.Native.Nat.{ℕ, ◌+◌, ◌-◌, ◌*◌, ◌≤◌, ◌<◌}
 use native.Mathlib.Omega.{arith}
 use mathlib.Core.Option.{Option, none, some, get_or}
@@ -19,15 +19,10 @@ use Rattle.bsii_length.specs.Bounds.{element_bound, line_bound}
 use Rattle.bsii_length.proofs.Taken.{Bytes, Input, nil}
 use Rattle.bsii_length.proofs.Elements.{size, element_takes}
 use Rattle.bsii_string.specs.declared.answers.Refusal.{Refusal}
-use Rattle.bsii_value.specs.Kinds.{kind_is}
-use Rattle.bsii_value.specs.declared.types.Kind.{Kind as Code}
-use Rattle.bsii_value.specs.declared.types.Numeric.{Numeric as Number}
-use Rattle.bsii_value.specs.declared.types.Kind.TheVariants.{Numbers, String, EncodedString, Id}
-use Rattle.bsii_measure_string.specs.Measured.{measured, element_size, line_size, row_size}
-use Rattle.bsii_measure_string.specs.declared.answers.Measured.{Measured}
-use Rattle.bsii_measure_string.specs.declared.answers.Measured.TheVariants.{Next, Fault}
+use Rattle.bsii_measure_string.specs.Measured.{long_at, measured, element_size, line_size, row_size}
+use Rattle.std.specs.Prelude.{Err}
 use Rattle.bsii_measure_string.proofs.Measures.{measured_ok, measured_fault, measured_map, sum_start, sum_next, sum_fault, sum_done}
-use Rattle.bsii_measure_value.specs.Rows.{NoNumbers, RowMeasured}
+use Rattle.bsii_measure_value.specs.Rows.{RowMeasured}
 
 -- ---- by kind
 
@@ -42,13 +37,6 @@ word_element at s = sym (measured_map element_size word encoded_str_parser at s)
 pub id_element : (at : ℕ) (s : List ℕ) → measured (λ i. length (id_text i)) (id_parser at s) ≡ measured element_size (element_parser id at s)
 unfolding element_parser element_size element_text
 id_element at s = sym (measured_map element_size ident id_parser at s)
-
--- every case but that of numbers
-pub others : (k : Code) → ((n : Number) → k ≡ Numbers n → ⊥) → NoNumbers (kind_is k)
-others (Numbers n) h = absurd (h n refl)
-others String h = tt
-others EncodedString h = tt
-others Id h = tt
 
 -- ---- how long they can be
 
@@ -73,7 +61,7 @@ pub record Fine (s : List ℕ) (at n long : ℕ) : Type 0 where
   pub inside : n ≤ length s
 
 pub element_fine : (s : List ℕ) (at : ℕ) → Bytes s → length s ≤ length_limit → (k : Kind) {n long : ℕ}
-    → Next n long ≡ measured element_size (element_parser k at (drop at s)) → Fine s at n long
+    → long_at n long ≡ measured element_size (element_parser k at (drop at s)) → Fine s at n long
 unfolding element_size
 element_fine s at h l k {n} {long} e =
     let q = measured_ok (element_exact k) element_size s at e in
@@ -107,14 +95,14 @@ module _ (s : List ℕ) {start count : ℕ} {k : Kind} {name at long i : ℕ} (a
   pub adding_fits : length s ≤ length_limit → long ≤ line_bound * length_limit
   adding_fits l = omega (arith, a.inside, a.few)
 
-  pub adding_fault : i < count → {f : Refusal} → Fault f ≡ measured element_size (element_parser k at (drop at s)) → RowMeasured s start count k name (Fault f)
+  pub adding_fault : i < count → {f : Refusal} → Err f ≡ measured element_size (element_parser k at (drop at s)) → RowMeasured s start count k name (Err f)
   unfolding consumed after
   adding_fault h e = record {
     is = sum_fault (consumed (element_parser k)) (line_size name) s (count - i) at i long (omega arith) (rw (measured_fault element_size (element_parser k at (drop at s)) e)) ∙ a.sum;
     fine = tt;
   }
 
-  pub adding_next : i < count → name ≤ length_limit → {n more d : ℕ} → d ≡ length (decimal i) → d ≤ 20 → Next n more ≡ measured element_size (element_parser k at (drop at s)) → Fine s at n more
+  pub adding_next : i < count → name ≤ length_limit → {n more d : ℕ} → d ≡ length (decimal i) → d ≤ 20 → long_at n more ≡ measured element_size (element_parser k at (drop at s)) → Fine s at n more
       → Adding s start count k name n (long + (name + d + 7 + more)) (i + 1)
   adding_next h g {n} {more} {d} w t e f = record {
     upto = omega arith;
@@ -130,12 +118,8 @@ module _ (s : List ℕ) {start count : ℕ} {k : Kind} {name at long i : ℕ} (a
         rw (j, z) (sum_next (consumed (element_parser k)) (line_size name) s (count - i) at i long (omega arith) c ∙ a.sum);
   }
 
-  pub adding_done : count ≤ i → RowMeasured s start count k name (Next at long)
+  pub adding_done : count ≤ i → RowMeasured s start count k name (long_at at long)
   adding_done h = record {
     is = sum_done (consumed (element_parser k)) (line_size name) s (count - i) at i long (omega arith) ∙ a.sum;
     fine = (a.from, a.inside, a.few);
   }
-
--- at the case that was answered
-pub row_by : {s : List ℕ} {start count : ℕ} {k : Kind} {name : ℕ} {x r : Measured} → x ≡ r → RowMeasured s start count k name x → RowMeasured s start count k name r
-row_by {s} {start} {count} {k} {name} e h = subst (RowMeasured s start count k name) e h

@@ -19,14 +19,12 @@ use Rattle.bsii_format.proofs.Positions.{ended, ended_map, ended_consumed, ended
 use Rattle.bsii_length.proofs.Taken.{Bytes}
 use Rattle.bsii_string.specs.Answers.{end_of}
 use Rattle.bsii_string.specs.declared.answers.Refusal.{Refusal}
-use Rattle.bsii_string.specs.declared.answers.Parsed.{Parsed}
-use Rattle.bsii_string.specs.declared.answers.Parsed.TheVariants.{Next as Ends, Fault as Stops}
 use Rattle.bsii_string.proofs.Ends.{alike, next_ok, fault_at_law, next_same, next≢fault}
 use Rattle.bsii_value.proofs.NumberRows.{row_whole, row_cut}
 use Rattle.bsii_value.proofs.ElementTexts.{own_bytes, NoEnum}
 use Rattle.bsii_number_length.specs.Lengths.{NumericLength}
-use Rattle.bsii_measure_string.specs.Measured.{measured, element_size, line_size, row_size}
-use Rattle.bsii_measure_string.specs.declared.answers.Measured.TheVariants.{Next, Fault}
+use Rattle.bsii_measure_string.specs.Measured.{long_at, measured, element_size, line_size, row_size}
+use Rattle.std.specs.Prelude.{Ok, Err, Result as Outcome}
 use Rattle.bsii_measure_value.specs.Rows.{ElementLength, RowMeasured, RowLength}
 use Rattle.bsii_measure_value.proofs.ElementMeasures.{element_moves}
 use Rattle.bsii_measure_value.proofs.TextSizes.{element_text_law}
@@ -50,21 +48,21 @@ pub length_by : {raw : List ℕ} {k l : Numeric} {r : ℕ} → k ≡ l → Eleme
 length_by {raw} {r = r} e h = subst (λ k. ElementLength k raw r) e h
 
 module _ (s : List ℕ) (at : ℕ) (k : Numeric) where
-  pub numeric_fault : {f : Refusal} → Stops f ≡ end_of (element_parser (numbers k) at (drop at s)) → Fault f ≡ measured element_size (element_parser (numbers k) at (drop at s))
+  pub numeric_fault : {f : Refusal} → Err f ≡ end_of (element_parser (numbers k) at (drop at s)) → Err f ≡ measured element_size (element_parser (numbers k) at (drop at s))
   unfolding measured
   numeric_fault h = sym (ap (measured element_size) (fault_at_law (element_parser (numbers k) at (drop at s)) h))
 
-  pub numeric_place : Bytes s → length s ≤ length_limit → {n : ℕ} → Ends n ≡ end_of (element_parser (numbers k) at (drop at s)) → (at < n) × (n ≤ length s)
+  pub numeric_place : Bytes s → length s ≤ length_limit → {n : ℕ} → Ok n ≡ end_of (element_parser (numbers k) at (drop at s)) → (at < n) × (n ≤ length s)
   numeric_place b l h = element_moves s at b l (numbers k) (next_ok (element_exact (numbers k)) s at h).1
 
   -- by its own bytes
   reads_next : {e : Element} {n r : ℕ} → element_parser (numbers k) at (drop at s) ≡ ok e n (drop n s) → ElementLength k (take (n - at) (drop at s)) r
-      → Next n r ≡ measured element_size (element_parser (numbers k) at (drop at s))
+      → long_at n r ≡ measured element_size (element_parser (numbers k) at (drop at s))
   unfolding measured
-  reads_next {e} {n} f w = ap (λ m. Next n m) (w.is e (own_bytes (element_exact (numbers k)) s at f)) ∙ sym (ap (measured element_size) f)
+  reads_next {e} {n} f w = ap (λ m. long_at n m) (w.is e (own_bytes (element_exact (numbers k)) s at f)) ∙ sym (ap (measured element_size) f)
 
-  pub numeric_next : {n r : ℕ} → Ends n ≡ end_of (element_parser (numbers k) at (drop at s)) → ElementLength k (take (n - at) (drop at s)) r
-      → Next n r ≡ measured element_size (element_parser (numbers k) at (drop at s))
+  pub numeric_next : {n r : ℕ} → Ok n ≡ end_of (element_parser (numbers k) at (drop at s)) → ElementLength k (take (n - at) (drop at s)) r
+      → long_at n r ≡ measured element_size (element_parser (numbers k) at (drop at s))
   numeric_next h w = reads_next (next_ok (element_exact (numbers k)) s at h).1 w
 
   -- ---- one of a row, whose bytes are there
@@ -77,7 +75,7 @@ module _ (s : List ℕ) (at : ℕ) (k : Numeric) where
   there h = ended_ok (element_parser (numbers k) at (drop at s)) (element_ended ∙ numbers_at_law (arity k) (width k) s at h)
 
   pub there_next : {n r : ℕ} → arity k * width k ≤ length s - at → n ≡ at + arity k * width k → ElementLength k (take (n - at) (drop at s)) r
-      → Next n r ≡ measured element_size (element_parser (numbers k) at (drop at s))
+      → long_at n r ≡ measured element_size (element_parser (numbers k) at (drop at s))
   there_next {n} {r} h e w =
       let x = there h in
       reads_next (x.1 ∙ ap (λ i. ok x.0 i (drop i s)) (sym e)) w
@@ -103,36 +101,36 @@ module _ (s : List ℕ) (start count : ℕ) (k : Numeric) where
       ∙ repeat_repeat (number (width k)) count (arity k) start (drop start s)
 
   -- the end as the code computes it
-  module _ {p w : ℕ} {x : Parsed} (e : p ≡ count * arity k) (f : w ≡ width k) (h : x ≡ end_of (repeat p (number w) start (drop start s))) where
-    ends : x ≡ end_of (repeat (count * arity k) (number (width k)) start (drop start s))
-    ends = h ∙ ap₂ (λ p w. end_of (repeat p (number w) start (drop start s))) e f
+  module _ {p w : ℕ} (e : p ≡ count * arity k) (f : w ≡ width k) where
+    ends : {x : Outcome ℕ Refusal} → x ≡ end_of (repeat p (number w) start (drop start s)) → x ≡ end_of (repeat (count * arity k) (number (width k)) start (drop start s))
+    ends h = h ∙ ap₂ (λ p w. end_of (repeat p (number w) start (drop start s))) e f
 
-    pub row_fault : (name : ℕ) {f : Refusal} → x ≡ Stops f → RowMeasured s start count (numbers k) name (Fault f)
+    pub row_fault : {f : Refusal} → Err f ≡ end_of (repeat p (number w) start (drop start s)) → (name : ℕ) → RowMeasured s start count (numbers k) name (Err f)
     unfolding measured
-    row_fault name z = record {
+    row_fault h name = record {
       is =
           sym (ap (measured (row_size (line_size name) 0)) (fault_at_law (repeat count (consumed (element_parser (numbers k))) start (drop start s))
-          (sym z ∙ ends ∙ sym (alike (repeat count (consumed (element_parser (numbers k))) start (drop start s)) (repeat (count * arity k) (number (width k)) start (drop start s)) row_ended))));
+          (ends h ∙ sym (alike (repeat count (consumed (element_parser (numbers k))) start (drop start s)) (repeat (count * arity k) (number (width k)) start (drop start s)) row_ended))));
       fine = tt;
     }
 
     -- so the bytes of all elements are there
-    pub row_there : {n : ℕ} → x ≡ Ends n → start ≤ length s → (n ≡ start + count * (arity k * width k)) × (n ≤ length s)
+    pub row_there : {n : ℕ} → Ok n ≡ end_of (repeat p (number w) start (drop start s)) → start ≤ length s → (n ≡ start + count * (arity k * width k)) × (n ≤ length s)
     unfolding end_of
-    row_there {n} z l =
+    row_there {n} h l =
         let m = mul_assoc count (arity k) (width k) in
         ⊎_elim
-        (λ g. next≢fault (sym z ∙ ends ∙ sym (row_cut s start (count * arity k) (width k) refl refl g)))
-        (λ g. let q = next_same (sym z ∙ ends ∙ sym (row_whole s start (count * arity k) (width k) g)) in (omega (arith, q, m), omega (arith, q)))
+        (λ g. next≢fault (ends h ∙ sym (row_cut s start (count * arity k) (width k) refl refl g)))
+        (λ g. let q = next_same (ends h ∙ sym (row_whole s start (count * arity k) (width k) g)) in (omega (arith, q, m), omega (arith, q)))
         (lt_or_le (length s - start) (count * arity k * width k))
 
-  pub row_next : {name n r : ℕ} → n ≡ start + count * (arity k * width k) → RowLength s start count k name r → RowMeasured s start count (numbers k) name (Next n r)
-  row_next {name} {r = r} e h = subst (λ n. RowMeasured s start count (numbers k) name (Next n r)) (sym e) h
+  pub row_next : {name n r : ℕ} → n ≡ start + count * (arity k * width k) → RowLength s start count k name r → RowMeasured s start count (numbers k) name (long_at n r)
+  row_next {name} {r = r} e h = subst (λ n. RowMeasured s start count (numbers k) name (long_at n r)) (sym e) h
 
   -- the loop's end is the row's
-  pub row_end : {name at long i : ℕ} → count ≤ i → at + (count - i) * (arity k * width k) ≡ start + count * (arity k * width k) → RowMeasured s start count (numbers k) name (Next at long)
+  pub row_end : {name at long i : ℕ} → count ≤ i → at + (count - i) * (arity k * width k) ≡ start + count * (arity k * width k) → RowMeasured s start count (numbers k) name (long_at at long)
       → RowLength s start count k name long
   row_end {name} {at} {long} {i} h e w =
       let z : count - i ≡ 0 = omega arith in
       let y : at ≡ start + count * (arity k * width k) = omega (arith, e, ap (λ m. m * (arity k * width k)) z, zero-mul (arity k * width k)) in
-      subst (λ n. RowMeasured s start count (numbers k) name (Next n long)) y w
+      subst (λ n. RowMeasured s start count (numbers k) name (long_at n long)) y w

@@ -9,37 +9,32 @@ use bsii_digits::decimal_count;
 pub fn or_nil_length(n: u64, largest: u64) -> usize
     ensures { (result ≡ length (or_nil largest n)) × (result ≤ 20) }
 {
-    if n == largest {
-        return 3;
-    }
-    decimal_count(n)
+    if n == largest { 3 } else { decimal_count(n) }
 }
 
 // An i32 by its two's complement.
 pub fn i32_length(n: u32) -> usize
     ensures { (result ≡ length (int32_text n)) × (result ≤ 21) }
 {
-    let wide = n as u64;
-    if wide < 0x8000_0000 {
-        return decimal_count(wide);
+    if n < 0x8000_0000 {
+        decimal_count(n as u64)
+    } else {
+        1 + decimal_count(n.wrapping_neg() as u64)
     }
-    1 + decimal_count(0x1_0000_0000 - wide)
 }
 
 pub fn i64_length(n: u64) -> usize
     ensures { (result ≡ length (decimal_int (signed 0x8000_0000_0000_0000 n))) × (result ≤ 21) }
 {
     if n < 0x8000_0000_0000_0000 {
-        return decimal_count(n);
+        decimal_count(n)
+    } else {
+        1 + decimal_count(n.wrapping_neg())
     }
-    1 + decimal_count(0xffff_ffff_ffff_ffff - n + 1)
 }
 
 pub fn bool_length(n: u32) -> usize
     ensures { (result ≡ length (bool_text n)) × (result ≤ 5) }
 {
-    if n == 0 {
-        return 5;
-    }
-    4
+    if n == 0 { 5 } else { 4 }
 }

@@ -1,5 +1,4 @@
 // The first line of a block.
-ghost use Rattle.bsii_base38.specs.Pairs.{CharPairs};
 ghost use Rattle.bsii_opening.specs.Blocks.{OpeningWritten};
 
 use bsii_base38::CharPairs;
@@ -9,7 +8,6 @@ use bsii_write_id::ids::{store_id, write_id};
 
 // `NAME : ID {`, of the name's and the id's bytes. Inside the window, with room for the longest that it can be, it is stored.
 pub fn write_opening(chars: &CharPairs, out: &mut [u8], to: usize, name: &[u8], id: &[u8]) -> usize
-    requires { CharPairs chars.now }
     ensures { OpeningWritten name.now id.now out.old to result out.new }
 {
     if id.len() <= 2033 {

@@ -8,7 +8,7 @@ use mathlib.Core.Option.{Option}
 use mathlib.Core.List.{List, ◌++◌}
 use lib.ListN.{length, drop}
 use lib.Seq.{sets-eq}
-use Rattle.bsii_format.specs.Replies.{Reply, gives, output_short}
+use Rattle.bsii_format.specs.Replies.{Reply, output_short}
 use Rattle.bsii_format.specs.Values.{Value}
 use Rattle.bsii_format.specs.Prototypes.{ValuePrototype}
 use Rattle.bsii_format.specs.Blocks.{DataBlock}
@@ -24,16 +24,13 @@ use Rattle.bsii_walk.specs.Seek.{Readable}
 use Rattle.bsii_window.specs.Window.{Wrote}
 use Rattle.bsii_window.proofs.Laws.{written_in}
 use Rattle.bsii_text.specs.Records.{TextsAre, BsiiWritten}
-use Rattle.bsii_text.specs.declared.records.Texts.{Texts}
-use Rattle.bsii_text.specs.declared.records.Texts.TheVariants.{To, Refused as Not}
-use Rattle.bsii_forecast.specs.Foresees.{figures_of, Foresees, foreseen, unforeseen}
+use Rattle.std.specs.Prelude.{Ok, Err, Result as Outcome}
+use Rattle.bsii_forecast.specs.Foresees.{Foresees, foreseen, unforeseen}
 use Rattle.bsii_forecast.specs.declared.answers.Figures.{Figures}
-use Rattle.bsii_forecast.specs.declared.answers.Foreseen.{Foreseen}
-use Rattle.bsii_forecast.specs.declared.answers.Foreseen.TheVariants.{Figures as Told, Refused as Unforeseen}
 use Rattle.bsii_forecast.proofs.ForeseeLaws.{file_framed}
 use Rattle.bsii_output.specs.Answers.{text_is, TextWritten}
-use Rattle.bsii_output.specs.declared.text.TextReply.{TextReply}
-use Rattle.bsii_output.specs.declared.text.TextReply.TheVariants.{Text, Refused}
+use Rattle.bsii_output.specs.declared.text.Converted.{Converted}
+use Rattle.bsii_output.specs.declared.text.TextRefusal.{TextRefusal}
 
 -- a window that has room for the whole text
 whole : (old x : List ℕ) {r : ℕ} {new : List ℕ} → length x ≤ length old → Wrote old 0x8000_0000_0000_0000 x r new → new ≡ x ++ drop (length x) old
@@ -45,49 +42,42 @@ whole old x {new = new} h w =
 -- `text` gives the lines of a value; `prints` tells of a block and the records behind it whether it is in the text
 module _ (text : ValuePrototype → Value → Option (List ℕ)) (prints : DataBlock → List Record → Bool) where
   module _ (a : Figures) (s t old : List ℕ) where
-    pub text_short : {f : Refusal} → f ≡ refused_at output_short 0 → length old < a.text → TextWritten text prints a s t old (Refused f a.text) old
+    pub text_short : {f : Refusal} → f ≡ refused_at output_short 0 → length old < a.text → TextWritten text prints a s t old (Err (record { refusal = f; needed = a.text })) old
     text_short e h = record {
       answers = λ rooms last rest w x q z.
-          ap₂ (λ (f : Refusal) (n : ℕ). text_is (Refused f n) old) e z ∙ sym (write_short (converted a.steps) old x (omega (arith, z)));
+          ap₂ (λ (f : Refusal) (n : ℕ). text_is (Err (record { refusal = f; needed = n })) old) e z ∙ sym (write_short (converted a.steps) old x (omega (arith, z)));
     }
 
-    pub text_fits : a.text ≤ length old → {r : Texts} {t' new : List ℕ} → BsiiWritten text prints a.version s 8 t a.rows old r t' new
-        → TextWritten text prints a s t old (Text (record { length = a.text; steps = a.steps })) new
-    text_fits h {r} {t'} {new} b = record {
+    -- what has a text is not refused
+    pub text_unrefused : {f : Refusal} {t' new : List ℕ} → BsiiWritten text prints a.version s 8 t a.rows old (Err f) t' new → {r : Outcome Converted TextRefusal} → TextWritten text prints a s t old r new
+    text_unrefused {f} {t'} {new} b = record {
+      answers = λ rooms last rest w x q z. absurd (subst (λ (o : Reply (List ℕ)). TextsAre old 0x8000_0000_0000_0000 o (Err f) new) q (b.writes rooms last rest w).0);
+    }
+
+    pub text_fits : a.text ≤ length old → {n : ℕ} {t' new : List ℕ} → BsiiWritten text prints a.version s 8 t a.rows old (Ok n) t' new
+        → TextWritten text prints a s t old (Ok (record { length = a.text; steps = a.steps })) new
+    text_fits h {n} {t'} {new} b = record {
       answers = λ rooms last rest w x q z.
           let fits : length x ≤ length old = omega (arith, z) in
-          let is = go r x (subst (λ (o : Reply (List ℕ)). TextsAre old 0x8000_0000_0000_0000 o r new) q (b.writes rooms last rest w).0) fits in
-          ap₂ (λ (n : ℕ) (o : List ℕ). text_is (Text (record { length = n; steps = a.steps })) o) z is ∙ sym (write_fits (converted a.steps) old x fits);
+          let is = whole old x fits (subst (λ (o : Reply (List ℕ)). TextsAre old 0x8000_0000_0000_0000 o (Ok n) new) q (b.writes rooms last rest w).0) in
+          ap₂ (λ (n : ℕ) (o : List ℕ). text_is (Ok (record { length = n; steps = a.steps })) o) z is ∙ sym (write_fits (converted a.steps) old x fits);
     }
-      where
-        go : (r : Texts) (x : List ℕ) → TextsAre old 0x8000_0000_0000_0000 (gives x) r new → length x ≤ length old → new ≡ x ++ drop (length x) old
-        go (To n) x w l = whole old x l w
-        go (Not f) x w l = absurd w
 
 -- ---- the call: its text is `value_text` of every block
 
-pub call_refused : {s t : List ℕ} {r : Foreseen} {t' : List ℕ} → Foresees s t r t' → (out : List ℕ) {f : Refusal} → r ≡ Unforeseen f → text_is (Refused f 0) out ≡ text_call (length t) s out
+pub call_refused : {s t : List ℕ} {f : Refusal} {t' : List ℕ} → Foresees s t (Err f) t' → (out : List ℕ) → text_is (Err (record { refusal = f; needed = 0 })) out ≡ text_call (length t) s out
 unfolding text_call write_answer
-call_refused (foreseen f x e h w l) out z = let x : ◌≡◌ {A = ℕ} 0 1 = cc in absurd (omega arith)
-call_refused {s} {t} (unforeseen {f = g} e l) out {f} z =
-    let same : g ≡ f = cc in
-    ap (λ (f : Refusal). text_is (Refused f 0) out) (sym same) ∙ sym (ap (text_answer (steps_in (parse (length t) s)) out) e)
+call_refused {s} {t} (unforeseen e l) out = sym (ap (text_answer (steps_in (parse (length t) s)) out) e)
 
 -- the table that is left is what the writing walk starts from
-pub foreseen_readable : {s t : List ℕ} {r : Foreseen} {t' : List ℕ} → Foresees s t r t' → {a : Figures} → r ≡ Told a → Readable a.version s 8 t' a.rows
-foreseen_readable {s} {t} {t' = t'} (foreseen f x e h w l) {a} z =
-    let same : figures_of f x ≡ a = cc in
+pub foreseen_readable : {s t : List ℕ} {a : Figures} {t' : List ℕ} → Foresees s t (Ok a) t' → Readable a.version s 8 t' a.rows
+foreseen_readable {s} {t} {t' = t'} (foreseen f x e h w l) =
     let p = file_parts (length t) s e in
-    subst (λ (a : Figures). Readable a.version s 8 t' a.rows) same
-    (record { short = p.short; inside = p.inside; rooms = length t / 3; last = prototypes_of f.records; rest = f.records; standing = w })
-foreseen_readable (unforeseen e l) z = let x : ◌≡◌ {A = ℕ} 0 1 = cc in absurd (omega arith)
+    record { short = p.short; inside = p.inside; rooms = length t / 3; last = prototypes_of f.records; rest = f.records; standing = w }
 
-pub call_written : {s t : List ℕ} {r : Foreseen} {t' : List ℕ} → Foresees s t r t' → {a : Figures} → r ≡ Told a → {out : List ℕ} {reply : TextReply} {new : List ℕ}
+pub call_written : {s t : List ℕ} {a : Figures} {t' : List ℕ} → Foresees s t (Ok a) t' → {out : List ℕ} {reply : Outcome Converted TextRefusal} {new : List ℕ}
     → TextWritten value_text every_block a s t' out reply new → text_is reply new ≡ text_call (length t) s out
 unfolding text_call text_of of_file steps_in
-call_written {s} {t} {t' = t'} (foreseen f x e h w l) {a} z {out} {reply} {new} v =
-    let same : figures_of f x ≡ a = cc in
-    let v' = subst (λ (a : Figures). TextWritten value_text every_block a s t' out reply new) (sym same) v in
-    v'.answers (length t / 3) (prototypes_of f.records) f.records w x (sym (file_framed f (file_parts (length t) s e).header) ∙ h) refl
+call_written {s} {t} {t' = t'} (foreseen f x e h w l) v =
+    v.answers (length t / 3) (prototypes_of f.records) f.records w x (sym (file_framed f (file_parts (length t) s e).header) ∙ h) refl
     ∙ rw (e, h) refl
-call_written (unforeseen e l) z v = let x : ◌≡◌ {A = ℕ} 0 1 = cc in absurd (omega arith)

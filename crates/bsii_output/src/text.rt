@@ -6,9 +6,10 @@ ghost use Rattle.bsii_format.specs.Calls.{text_call, table_after};
 ghost use Rattle.bsii_walk.specs.Seek.{Readable};
 ghost use Rattle.bsii_output.specs.Answers.{text_is, TextWritten};
 
-use bsii_forecast::answers::{Figures, Foreseen};
+use bsii_forecast::answers::Figures;
 use bsii_forecast::forecast::foresee;
-use bsii_string::answers::{OUTPUT_SHORT, Refusal, refused};
+use bsii_format::Cause;
+use bsii_string::answers::{Refusal, refused};
 use bsii_table::clear;
 use bsii_text::records::write_bsii;
 
@@ -19,47 +20,54 @@ pub struct Converted {
     pub steps: usize,
 }
 
-// The conversion; or a refusal, with the needed length where it is 11, else 0.
+// A refusal, with the needed length where the output is too short, else 0.
 #[derive(Drop)]
-pub enum TextReply {
-    Text(Converted),
-    Refused { refusal: Refusal, needed: usize },
+pub struct TextRefusal {
+    pub refusal: Refusal,
+    pub needed: usize,
+}
+
+impl From<Refusal> for TextRefusal {
+    ghost from_gives = { λ f r. r ≡ record { refusal = f; needed = 0 } };
+
+    fn from(refusal: Refusal) -> TextRefusal {
+        TextRefusal { refusal, needed: 0 }
+    }
 }
 
 // The text of a file with these figures.
-fn write_foreseen(file: &[u8], table: &mut [u32], output: &mut [u8], figures: Figures) -> TextReply
+fn write_foreseen(
+    file: &[u8],
+    table: &mut [u32],
+    output: &mut [u8],
+    figures: Figures,
+) -> Result<Converted, TextRefusal>
     requires { Readable figures.version file.now 8 table.old figures.rows }
     ensures { TextWritten value_text every_block figures file.now table.old output.old result output.new }
 {
     if output.len() < figures.text {
-        return TextReply::Refused {
-            refusal: refused(OUTPUT_SHORT, 0),
+        return Err(TextRefusal {
+            refusal: refused(Cause::OutputShort, 0),
             needed: figures.text,
-        };
+        });
     }
-    write_bsii(output, file, figures.version, 8, table, figures.rows);
+    write_bsii(output, file, figures.version, 8, table, figures.rows)?;
     let converted = Converted {
         length: figures.text,
         steps: figures.steps,
     };
-    TextReply::Text(converted)
+    Ok(converted)
 }
 
 // The answer, with the table as it was left by the walks.
-fn write_text(file: &[u8], table: &mut [u32], output: &mut [u8]) -> TextReply
+fn write_text(file: &[u8], table: &mut [u32], output: &mut [u8]) -> Result<Converted, TextRefusal>
     ensures { text_is result output.new ≡ text_call (length table.old) file.now output.old }
 {
-    let foreseen = foresee(file, table);
-    match foreseen {
-        Foreseen::Refused(f) => return TextReply::Refused {
-            refusal: f,
-            needed: 0,
-        },
-        Foreseen::Figures(figures) => return write_foreseen(file, table, output, figures),
-    }
+    let figures = foresee(file, table)?;
+    write_foreseen(file, table, output, figures)
 }
 
-pub fn to_siin(file: &[u8], table: &mut [u32], output: &mut [u8]) -> TextReply
+pub fn to_siin(file: &[u8], table: &mut [u32], output: &mut [u8]) -> Result<Converted, TextRefusal>
     ensures reply { text_is result output.new ≡ text_call (length table.old) file.now output.old }
     ensures zeros { table.new ≡ table_after table.old }
 {

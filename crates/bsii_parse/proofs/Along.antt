@@ -20,9 +20,10 @@ use Rattle.bsii_parse.specs.Walks.{block_count, prototype_count, behind, records
 use Rattle.bsii_parse.specs.declared.walk.Progress.{Progress}
 use Rattle.bsii_parse.specs.declared.walk.ReadStep.{ReadStep}
 use Rattle.bsii_parse.specs.declared.walk.Under.{Under}
-use Rattle.bsii_parse.specs.declared.walk.ReadStep.TheVariants.{Prototype as WentPrototype, Block as WentBlock, End, Refused}
+use Rattle.bsii_parse.specs.declared.walk.ReadStep.TheVariants.{Prototype as WentPrototype, Block as WentBlock, End}
 use Rattle.bsii_parse.proofs.Records.{behind_behind, block_count_append, prototype_count_append}
 use Rattle.bsii_parse.proofs.Tables.{growing_none, bare_cons}
+use Rattle.std.specs.Prelude.{Ok, Err, Result as Outcome}
 
 abbrev size_of : Record → ℕ
 size_of r = length (record_bytes r)
@@ -99,22 +100,14 @@ abbrev Went : ReadStep → Progress → Type 0
 Went (WentPrototype p) q = p ≡ q
 Went (WentBlock p u) q = p ≡ q
 Went (End n) q = ⊥
-Went (Refused f) q = ⊥
 
 went : {env : List (Placed Prototype)} {p : Progress} {i : Record} {r : ReadStep} → Goes env p i r → {q : Progress} → Went r q → p ≡ q
 went behind_prototype e = e
 went (behind_block p f) e = e
 
 goes≢end : {P : Type 0} {env : List (Placed Prototype)} {p : Progress} {i : Record} {r : ReadStep} → Goes env p i r → {n : ℕ} → r ≡ End n → P
-goes≢end behind_prototype e = let z : ◌≡◌ {A = ℕ} 0 1 = cc in let f : ⊥ = omega arith in absurd f
-goes≢end (behind_block p f) e = let z : ◌≡◌ {A = ℕ} 0 1 = cc in let f : ⊥ = omega arith in absurd f
-
-goes≢refused : {P : Type 0} {env : List (Placed Prototype)} {p : Progress} {i : Record} {r : ReadStep} → Goes env p i r → {f : Refusal} → r ≡ Refused f → P
-goes≢refused behind_prototype e = let z : ◌≡◌ {A = ℕ} 0 1 = cc in let f : ⊥ = omega arith in absurd f
-goes≢refused (behind_block p f) e = let z : ◌≡◌ {A = ℕ} 0 1 = cc in let f : ⊥ = omega arith in absurd f
-
-end≢refused : {P : Type 0} {n : ℕ} {f : Refusal} → ◌≡◌ {A = ReadStep} (End n) (Refused f) → P
-end≢refused e = let z : ◌≡◌ {A = ℕ} 0 1 = cc in let f : ⊥ = omega arith in absurd f
+goes≢end behind_prototype e = cc
+goes≢end (behind_block p f) e = cc
 
 -- a record defines one id at most
 distinct_more : (i : Record) (env : List Prototype) → distinct_ids (define i env) ≤ suc (distinct_ids env)
@@ -185,22 +178,24 @@ module _ {version : ℕ} {s : List ℕ} {start : ℕ} {t₀ : List ℕ} {p : Pro
       more_prototypes (prototype x) b h k = unfold prototype_count in omega arith
       more_prototypes (block x) b h k = unfold prototype_count in omega arith
 
-  along_step : {r : ReadStep} {t' : List ℕ} → StepMeets version s p t (defs_from start a.so) r t' → {q : Progress} → Went r q
+  along_step : {o : Outcome ReadStep Refusal} {r : ReadStep} {t' : List ℕ} → StepMeets version s p t (defs_from start a.so) o t' → o ≡ Ok r → {q : Progress} → Went r q
       → Further version s start t₀ p a.so r q t'
-  along_step {r} {t' = t'} (passed i w goes) z =
+  along_step {r = r} {t'} (passed i {r = x} w goes) e z =
       let b = along_passed i w in
-      subst (λ q. Further version s start t₀ p a.so r q t') (went goes z)
-      (record { on = w.on; along = b.0; one = i; so_far = b.1; long = w.long; counts = refl; goes = goes })
-  along_step (ended e) z = absurd z
-  along_step (refused e l) z = absurd z
+      let y : x ≡ r = cc in
+      let g = subst (Goes (defs_from start a.so) (past p i _ _) i) y goes in
+      subst (λ q. Further version s start t₀ p a.so r q t') (went g z)
+      (record { on = w.on; along = b.0; one = i; so_far = b.1; long = w.long; counts = refl; goes = g })
+  along_step {r = r} (ended {n = n} x) e {q} z = let y : r ≡ End n = cc in absurd (subst (λ r. Went r q) y z)
+  along_step (refused x l) e z = cc
 
-  pub along_prototype : {r : ReadStep} {t' : List ℕ} → StepMeets version s p t (defs_from start a.so) r t' → {q : Progress} → r ≡ WentPrototype q
+  pub along_prototype : {r : ReadStep} {t' : List ℕ} → StepMeets version s p t (defs_from start a.so) (Ok r) t' → {q : Progress} → r ≡ WentPrototype q
       → Further version s start t₀ p a.so r q t'
-  along_prototype m {q} z = along_step m (subst (λ r. Went r q) (sym z) refl)
+  along_prototype m {q} z = along_step m refl (subst (λ r. Went r q) (sym z) refl)
 
-  pub along_block : {r : ReadStep} {t' : List ℕ} → StepMeets version s p t (defs_from start a.so) r t' → {q : Progress} {u : Under} → r ≡ WentBlock q u
+  pub along_block : {r : ReadStep} {t' : List ℕ} → StepMeets version s p t (defs_from start a.so) (Ok r) t' → {q : Progress} {u : Under} → r ≡ WentBlock q u
       → Further version s start t₀ p a.so r q t'
-  along_block m {q} z = along_step m (subst (λ r. Went r q) (sym z) refl)
+  along_block m {q} z = along_step m refl (subst (λ r. Went r q) (sym z) refl)
 
   -- at the end record
   pub record Ends (n : ℕ) (t' : List ℕ) : Type 0 where
@@ -209,22 +204,29 @@ module _ {version : ℕ} {s : List ℕ} {start : ℕ} {t₀ : List ℕ} {p : Pro
     pub kept : Growing s t' p.rows (defs_from start a.so)
     pub size : length t' ≡ length t₀
 
-  pub along_all : {r : ReadStep} {t' : List ℕ} → StepMeets version s p t (defs_from start a.so) r t' → {n : ℕ} → r ≡ End n → Ends n t'
-  along_all (passed i w goes) z = goes≢end goes z
-  along_all (refused e l) z = end≢refused (sym z)
-  along_all (ended {l = l} {n = m} e) {n} z =
+  all_of : {o : Outcome ReadStep Refusal} {t' : List ℕ} → StepMeets version s p t (defs_from start a.so) o t' → {n : ℕ} → o ≡ Ok (End n) → Ends n t'
+  all_of (passed i {r = x} w goes) {n} z = let y : x ≡ End n = cc in goes≢end goes y
+  all_of (refused e l) z = cc
+  all_of (ended {l = l} {n = m} e) {n} z =
       let here : m ≡ n = cc in
       subst (λ k. Ends k t) here (record { end = l; all = from_here e ∙ last l m; kept = a.kept; size = a.size })
     where
       last : (l : List ℕ) (m : ℕ) → behind a.so (ok (record { records = []; end = l }) m (drop m s)) ≡ ok (record { records = a.so; end = l }) m (drop m s)
       last l m = unfold behind in ap (λ w. ok (record { records = w; end = l }) m (drop m s)) (append-nil a.so)
 
-  pub along_refused : {r : ReadStep} {t' : List ℕ} → StepMeets version s p t (defs_from start a.so) r t' → {f : Refusal} → r ≡ Refused f
+  pub along_all : {r : ReadStep} {t' : List ℕ} → StepMeets version s p t (defs_from start a.so) (Ok r) t' → {n : ℕ} → r ≡ End n → Ends n t'
+  along_all m z = all_of m (ap Ok z)
+
+  refused_of : {o : Outcome ReadStep Refusal} {t' : List ℕ} → StepMeets version s p t (defs_from start a.so) o t' → {f : Refusal} → o ≡ Err f
       → (records_at version (length t₀ / 3) [] start s ≡ fault (fault_is f)) × (length t' ≡ length t₀)
   unfolding behind
-  along_refused (passed i w goes) z = goes≢refused goes z
-  along_refused (ended e) z = end≢refused z
-  along_refused (refused {f = x} e l) {f} z = let same : x ≡ f = cc in (from_here e ∙ ap (λ w. fault (fault_is w)) same, l ∙ a.size)
+  refused_of (passed i w goes) z = cc
+  refused_of (ended e) z = cc
+  refused_of (refused {f = x} e l) {f} z = let same : x ≡ f = cc in (from_here e ∙ ap (λ w. fault (fault_is w)) same, l ∙ a.size)
+
+  pub along_refused : {f : Refusal} {t' : List ℕ} → StepMeets version s p t (defs_from start a.so) (Err f) t'
+      → (records_at version (length t₀ / 3) [] start s ≡ fault (fault_is f)) × (length t' ≡ length t₀)
+  along_refused m = refused_of m refl
 
   -- where the whole is accepted, what is left is, and stands behind what was passed
   pub along_accepted : {q : Records} {n : ℕ} {u : List ℕ} → records_at version (length t₀ / 3) [] start s ≡ ok q n u

@@ -11,15 +11,15 @@ use Rattle.bsii_string.specs.declared.answers.Refusal.{Refusal}
 use Rattle.bsii_derived.specs.Index.{index_from, agreeing}
 use Rattle.bsii_index_record.specs.Records.{record_is, Agrees}
 use Rattle.bsii_index_record.specs.declared.IndexRecord.{IndexRecord}
-use Rattle.bsii_parse.specs.Walks.{block_count, StepMeets, Stepped, index_at, Compares, walked, stopped}
+use Rattle.bsii_parse.specs.Walks.{block_count, StepMeets, Stepped, index_at, compared_as, Compares, walked, stopped}
 use Rattle.bsii_parse.specs.declared.walk.Progress.{Progress}
 use Rattle.bsii_parse.specs.declared.walk.Under.{Under}
 use Rattle.bsii_parse.specs.declared.walk.ReadStep.{ReadStep}
-use Rattle.bsii_parse.specs.declared.walk.ReadStep.TheVariants.{Prototype as WentPrototype, Block as WentBlock, End, Refused as StepRefused}
+use Rattle.bsii_parse.specs.declared.walk.ReadStep.TheVariants.{Prototype as WentPrototype, Block as WentBlock, End}
 use Rattle.bsii_parse.specs.declared.walk.Totals.{Totals}
-use Rattle.bsii_parse.specs.declared.walk.Compared.TheVariants.{Read, Refused}
 use Rattle.bsii_parse.proofs.Along.{defs_from, Along, along_start, along_none, along_prototype, along_block, along_all, along_refused}
 use Rattle.bsii_parse.proofs.Passed.{entry_of, past_prototype, past_block}
+use Rattle.std.specs.Prelude.{Ok, Err}
 
 pub record Comparing (version : ℕ) (s : List ℕ) (start : ℕ) (t₀ i : List ℕ) (w : ℕ) (p : Progress) (t : List ℕ) (agreed : ℕ) : Type 0 where
   pub along : Along version s start t₀ p t
@@ -37,8 +37,8 @@ module _ {version : ℕ} {s : List ℕ} {start : ℕ} {t₀ i : List ℕ} {w : �
   pub comparing_few : length s ≤ length_limit → p.blocks ≤ length_limit
   comparing_few h = omega (arith, c.along.counted, c.along.inside)
 
-  module _ {r : ReadStep} {t' : List ℕ} (k : Stepped version s p t false r t') where
-    pub comparing_meets : StepMeets version s p t (defs_from start c.along.so) r t'
+  module _ {r : ReadStep} {t' : List ℕ} (k : Stepped version s p t false (Ok r) t') where
+    pub comparing_meets : StepMeets version s p t (defs_from start c.along.so) (Ok r) t'
     comparing_meets = k.steps (defs_from start c.along.so) c.along.kept tt
 
     pub comparing_prototype : {q : Progress} → r ≡ WentPrototype q → Comparing version s start t₀ i w q t' agreed
@@ -58,12 +58,12 @@ module _ {version : ℕ} {s : List ℕ} {start : ℕ} {t₀ i : List ℕ} {w : �
         record { along = f.along; agrees = g.next l c.agrees c.number ∙ ap (λ b. agreeing w b i) (sym more); number = n ∙ ap length (sym more) }
 
     pub comparing_end : {n : ℕ} → r ≡ End n
-        → Compares version s start t₀ i w (Read (record { version = version; rows = p.rows; blocks = p.blocks; prototypes = p.prototypes; next = n }) agreed) t'
+        → Compares version s start t₀ i w (compared_as (record { version = version; rows = p.rows; blocks = p.blocks; prototypes = p.prototypes; next = n }) agreed) t'
     comparing_end {n} z =
         let x = along_all c.along comparing_meets z in
-        subst (λ k. Compares version s start t₀ i w (Read (totals n p.blocks p.prototypes) k) t') (sym c.agrees)
-        (subst (λ k. Compares version s start t₀ i w (Read (totals n k p.prototypes) here) t') (sym c.along.blocks)
-        (subst (λ k. Compares version s start t₀ i w (Read (totals n (block_count c.along.so) k) here) t') (sym c.along.prototypes)
+        subst (λ k. Compares version s start t₀ i w (compared_as (totals n p.blocks p.prototypes) k) t') (sym c.agrees)
+        (subst (λ k. Compares version s start t₀ i w (compared_as (totals n k p.prototypes) here) t') (sym c.along.blocks)
+        (subst (λ k. Compares version s start t₀ i w (compared_as (totals n (block_count c.along.so) k) here) t') (sym c.along.prototypes)
         (walked (record { records = c.along.so; end = x.end }) x.all x.kept x.size)))
       where
         totals : ℕ → ℕ → ℕ → Totals
@@ -72,5 +72,5 @@ module _ {version : ℕ} {s : List ℕ} {start : ℕ} {t₀ i : List ℕ} {w : �
         here : ℕ
         here = agreeing w (index_at start c.along.so) i
 
-    pub comparing_stop : {f : Refusal} → r ≡ StepRefused f → Compares version s start t₀ i w (Refused f) t'
-    comparing_stop z = let x = along_refused c.along comparing_meets z in stopped x.0 x.1
+  pub comparing_stop : {f : Refusal} {t' : List ℕ} → Stepped version s p t false (Err f) t' → Compares version s start t₀ i w (Err f) t'
+  comparing_stop k = let x = along_refused c.along (k.steps (defs_from start c.along.so) c.along.kept tt) in stopped x.0 x.1

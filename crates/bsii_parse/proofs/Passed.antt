@@ -20,6 +20,7 @@ use Rattle.bsii_parse.specs.declared.walk.ReadStep.TheVariants.{Prototype as Wen
 use Rattle.bsii_parse.proofs.Along.{defs_from, Along, Further, along_prototype, along_block}
 use Rattle.bsii_index_record.specs.Records.{record_is}
 use Rattle.bsii_index_record.specs.declared.IndexRecord.{IndexRecord}
+use Rattle.std.specs.Prelude.{Ok}
 
 abbrev pub entry_of : ℕ → ℕ → Under → IndexRecord
 entry_of at next u = record { offset = at; size = next - at; prototype = u.offset; fields = u.fields }
@@ -33,14 +34,14 @@ record OverBlock (env : List (Placed Prototype)) (i : Record) (u : Under) : Type
   under : record { offset = by.offset; fields = length by.it.fields } ≡ u
 
 over_block_law : {env : List (Placed Prototype)} {p q : Progress} {i : Record} {r : ReadStep} {u : Under} → Goes env q i r → r ≡ WentBlock p u → OverBlock env i u
-over_block_law behind_prototype z = let x : ◌≡◌ {A = ℕ} 0 1 = cc in let f : ⊥ = omega arith in absurd f
+over_block_law behind_prototype z = cc
 over_block_law {u = u} (behind_block {b = b} by e) z =
     let x : record { offset = by.offset; fields = length by.it.fields } ≡ u = cc in
     record { b = b; by = by; is = refl; found = e; under = x }
 
 over_prototype_law : {env : List (Placed Prototype)} {p q : Progress} {i : Record} {r : ReadStep} → Goes env q i r → r ≡ WentPrototype p → (x : Prototype) × (i ≡ prototype x)
 over_prototype_law (behind_prototype {p = p}) z = (p, refl)
-over_prototype_law (behind_block by e) z = let x : ◌≡◌ {A = ℕ} 0 1 = cc in let f : ⊥ = omega arith in absurd f
+over_prototype_law (behind_block by e) z = cc
 
 module _ {version : ℕ} {s : List ℕ} {start : ℕ} {t₀ : List ℕ} {p : Progress} {t : List ℕ} (a : Along version s start t₀ p t)
     {r : ReadStep} {q : Progress} {t' : List ℕ} (f : Further version s start t₀ p a.so r q t') where
@@ -73,7 +74,7 @@ module _ {version : ℕ} {s : List ℕ} {start : ℕ} {t₀ : List ℕ} {p : Pro
 -- ---- a step moves on, so the loop ends
 
 module _ {version : ℕ} {s : List ℕ} {start : ℕ} {t₀ : List ℕ} {p : Progress} {t : List ℕ} (a : Along version s start t₀ p t)
-    {r : ReadStep} {t' : List ℕ} (m : StepMeets version s p t (defs_from start a.so) r t') {q : Progress} where
+    {r : ReadStep} {t' : List ℕ} (m : StepMeets version s p t (defs_from start a.so) (Ok r) t') {q : Progress} where
   pub prototype_less : r ≡ WentPrototype q → length s - q.at < length s - p.at
   prototype_less z = let f = along_prototype a m z in omega (arith, f.on, f.along.inside)
 

@@ -1,7 +1,6 @@
 -- The table against the definitions so far, with their offsets.
 use mathlib.Core.Path.{◌≡◌, refl, sym, ap, ◌∙◌}
 use Prim.Native.Nat.{ℕ, ◌+◌}
-use native.Mathlib.Omega.{arith}
 use mathlib.Core.Bool.{Bool, true, false, cond}
 use mathlib.Core.Option
 use mathlib.Core.Option.{Option, none, some}
@@ -15,8 +14,7 @@ use Rattle.bsii_format.specs.File.{Record, prototype, block, define, define_all,
 use Rattle.bsii_format.specs.Calls.{Placed, placed, cons_prototype, prototypes_in}
 use Rattle.bsii_table.specs.Rows.{Row, offsets, lookup_from}
 use Rattle.bsii_table.specs.Table.{found_row}
-use Rattle.bsii_table.specs.declared.FoundRow.{FoundRow}
-use Rattle.bsii_table.specs.declared.FoundRow.TheVariants.{At}
+use Rattle.bsii_table.specs.declared.Row.{Row as FoundRow}
 use Rattle.bsii_tree.specs.Table.{lookup_tree, Puts, Named}
 use Rattle.bsii_tree.proofs.Ids.{head_id}
 use Rattle.bsii_tree.proofs.Relation.{grows_none, offsets_same}
@@ -25,6 +23,7 @@ use Rattle.bsii_order.proofs.Rows.{order_holds}
 use Rattle.bsii_parse.specs.declared.walk.Progress.{Progress}
 use Rattle.bsii_block.specs.Blocks.{DefinedAt}
 use Rattle.bsii_parse.specs.Walks.{bare, Growing, Kept, Ready}
+use Rattle.std.specs.Prelude.{Some}
 
 -- an empty table holds no definition, whatever its words
 pub growing_none : (s t : List ℕ) → Growing s t 0 []
@@ -79,23 +78,20 @@ bare_find id (p ∷ env) =
     ∙ sym (cond_map (λ (q : Placed Prototype). q.it) (eqb id p.it.id) p (find_by (λ (q : Placed Prototype). q.it.id) id env))
 
 -- the definition that a look-up of the tree finds, with its offset
-pub placed_at : {s t : List ℕ} {rows : ℕ} {env : List (Placed Prototype)} → Growing s t rows env → (id : ℕ) {r : FoundRow} {a b : ℕ} → r ≡ At a b
-    → found_row r ≡ lookup_tree s t rows id → {p : Prototype} → get_prototype id (bare env) ≡ some p
-    → (q : Placed Prototype) × (find_by (λ (q : Placed Prototype). q.it.id) id env ≡ some q) × (q.offset ≡ a) × (q.it ≡ p)
-placed_at {s} {t} {rows} {env} k id {r} {a} {b} e f {p} g = go (find_by (λ (q : Placed Prototype). q.it.id) id env) refl
+pub placed_at : {s t : List ℕ} {rows : ℕ} {env : List (Placed Prototype)} → Growing s t rows env → (id : ℕ) {r : FoundRow}
+    → found_row (Some r) ≡ lookup_tree s t rows id → {p : Prototype} → get_prototype id (bare env) ≡ some p
+    → (q : Placed Prototype) × (find_by (λ (q : Placed Prototype). q.it.id) id env ≡ some q) × (q.offset ≡ r.in_force) × (q.it ≡ p)
+placed_at {s} {t} {rows} {env} k id {r} f {p} g = go (find_by (λ (q : Placed Prototype). q.it.id) id env) refl
   where
-    row : lookup_tree s t rows id ≡ some (offsets a b)
-    row = sym f ∙ ap found_row e
+    row : lookup_tree s t rows id ≡ some (offsets r.in_force r.last)
+    row = sym f
 
     go : (o : Option (Placed Prototype)) → find_by (λ (q : Placed Prototype). q.it.id) id env ≡ o
-        → (q : Placed Prototype) × (find_by (λ (q : Placed Prototype). q.it.id) id env ≡ some q) × (q.offset ≡ a) × (q.it ≡ p)
-    go none h =
-        let x : none ≡ some p = sym (bare_find id env ∙ ap (Option.map (λ (q : Placed Prototype). q.it)) h) ∙ g in
-        let z : ◌≡◌ {A = ℕ} 0 1 = cc in
-        absurd (omega arith)
+        → (q : Placed Prototype) × (find_by (λ (q : Placed Prototype). q.it.id) id env ≡ some q) × (q.offset ≡ r.in_force) × (q.it ≡ p)
+    go none h = let x : none ≡ some p = sym (bare_find id env ∙ ap (Option.map (λ (q : Placed Prototype). q.it)) h) ∙ g in cc
     go (some q) h =
         let x : some q.it ≡ some p = sym (bare_find id env ∙ ap (Option.map (λ (q : Placed Prototype). q.it)) h) ∙ g in
-        let y : some b ≡ some q.offset =
+        let y : some r.last ≡ some q.offset =
         sym (ap (Option.map (λ (r : Row). r.last)) row) ∙ k.offsets id ∙ ap (Option.map (λ (q : Placed Prototype). q.offset)) h in
         let w = offsets_same s t rows id row in
         (q, h, cc, cc)

@@ -19,18 +19,15 @@ use Rattle.bsii_derived.specs.Index.{index_of, agreeing}
 use Rattle.bsii_prototype.proofs.Names.{number_front}
 use Rattle.bsii_string.specs.Answers.{fault_is, refused_at}
 use Rattle.bsii_string.specs.declared.answers.Refusal.{Refusal}
-use Rattle.bsii_parse.specs.Walks.{block_count, records_at, Growing, totals_of, index_at, Compares, walked, stopped, ComparesFile, compared, uncompared, read, unread, ReadTree, ReadFile}
+use Rattle.bsii_parse.specs.Walks.{block_count, records_at, Growing, totals_of, index_at, compared_as, Compares, walked, stopped, ComparesFile, compared, uncompared, read, unread, ReadTree, ReadFile}
 use Rattle.bsii_tree.specs.Table.{Linked}
 use Rattle.bsii_order.specs.Ordered.{Ordered}
 use Rattle.bsii_parse.specs.Answers.{reading_is}
 use Rattle.bsii_parse.specs.declared.walk.Totals.{Totals}
 use Rattle.bsii_parse.specs.declared.walk.Compared.{Compared}
-use Rattle.bsii_parse.specs.declared.walk.Compared.TheVariants.{Read as ReadCompared, Refused as NotCompared}
-use Rattle.bsii_parse.specs.declared.walk.Walked.{Walked}
-use Rattle.bsii_parse.specs.declared.walk.Walked.TheVariants.{Done, Fault as Stopped}
 use Rattle.bsii_parse.specs.declared.reading.Reading.{Reading}
-use Rattle.bsii_parse.specs.declared.reading.Reading.TheVariants.{Read, Refused}
 use Rattle.bsii_parse.proofs.Tables.{bare_all, kept_ordered}
+use Rattle.std.specs.Prelude.{Ok, Err, Result as Outcome}
 
 -- ---- in front of the records
 
@@ -40,7 +37,7 @@ long_refused words s h =
     let l : T (leb (length s) length_limit) → ⊥ = λ k. let z : length s ≤ length_limit = leb→le (length s) length_limit k in omega arith in
     rw (is_false (leb (length s) length_limit) l)
 
-pub file_long : (s t i : List ℕ) (w : ℕ) → length_limit < length s → ComparesFile s t i w (NotCompared (refused_at input_long 0)) t
+pub file_long : (s t i : List ℕ) (w : ℕ) → length_limit < length s → ComparesFile s t i w (Err (refused_at input_long 0)) t
 file_long s t i w h = uncompared (long_refused (length t) s h) refl
 
 header_empty : header_parser 0 [] ≡ fault_at invalid_header 0
@@ -52,7 +49,7 @@ module _ (s t : List ℕ) (short : length s ≤ length_limit) where
   unfolding bsii_parser ◌>>=◌ after consumed
   header_refused e = parse_short (length t) s short ∙ rw e
 
-  pub header_fault : (i : List ℕ) (w : ℕ) {f : Refusal} → header_parser 0 s ≡ fault (fault_is f) → ComparesFile s t i w (NotCompared f) t
+  pub header_fault : (i : List ℕ) (w : ℕ) {f : Refusal} → header_parser 0 s ≡ fault (fault_is f) → ComparesFile s t i w (Err f) t
   header_fault i w e = uncompared (header_refused e) refl
 
   module _ {v : ℕ} (h : header_parser 0 s ≡ ok v 8 (drop 8 s)) where
@@ -75,11 +72,11 @@ module _ (s t : List ℕ) (short : length s ≤ length_limit) where
     records_read q e = parse_is ∙ rw e
 
     -- the walk from the first record on is the file
-    pub file_walked : (i : List ℕ) (w : ℕ) {r : Compared} {t' : List ℕ} → Compares v s 8 t i w r t' → ComparesFile s t i w r t'
+    pub file_walked : (i : List ℕ) (w : ℕ) {r : Outcome Compared Refusal} {t' : List ℕ} → Compares v s 8 t i w r t' → ComparesFile s t i w r t'
     unfolding bsii_file header placed_records index_of
     file_walked i w {t' = t'} (walked q {rows = rows} {n = n} e k l) =
         let start : 8 ≡ length (take 8 s) = sym (length-take-le 8 s header_long) in
-        subst (λ x. ComparesFile s t i w (ReadCompared (totals_of v rows q.records n) (agreeing w x i)) t') (sym (ap (λ m. index_at m q.records) start))
+        subst (λ x. ComparesFile s t i w (compared_as (totals_of v rows q.records n) (agreeing w x i)) t') (sym (ap (λ m. index_at m q.records) start))
         (compared (bsii_file header q) (records_read q e) (subst (λ m. Growing s t' rows (prototypes_in (placed (λ r. length (record_bytes r)) m q.records) [])) start k) l)
     file_walked i w (stopped e l) = uncompared (records_refused e) l
 
@@ -129,14 +126,17 @@ blocks_counted size at [] = refl
 blocks_counted size at (prototype p ∷ l) = blocks_counted size (at + size (prototype p)) l
 blocks_counted size at (block b ∷ l) = ap suc (blocks_counted size (at + size (block b)) l)
 
--- what the reading call makes of the walk's answer
-unfoldable pub reported : Walked → Reading
-reported (Done t) = Read t.rows t.blocks t.next
-reported (Stopped f) = Refused f
+-- what the reading call makes of the walk's totals
+abbrev pub reported : Totals → Reading
+reported t = record { prototypes = t.rows; blocks = t.blocks; next = t.next }
 
-pub read_answer : {s t : List ℕ} {r : Walked} {t' : List ℕ} → ReadTree s t r t' → reading_is (reported r) ≡ reading_call (length t) s
-unfolding reading_call of_file reading_of blocks_of placed_records prototypes_of reported
-read_answer (read f {rows = rows} {n = n} e k l) =
+abbrev reported_of : Outcome Totals Refusal → Outcome Reading Refusal
+reported_of (Ok t) = Ok (reported t)
+reported_of (Err f) = Err f
+
+answer_of : {s t : List ℕ} {r : Outcome Totals Refusal} {t' : List ℕ} → ReadTree s t r t' → reading_is (reported_of r) ≡ reading_call (length t) s
+unfolding reading_call of_file reading_of blocks_of placed_records prototypes_of
+answer_of (read f {rows = rows} {n = n} e k l) =
     let rows_are : rows ≡ distinct_ids (define_all f.records []) =
     k.holds.count ∙ ap distinct_ids (bare_all (λ r. length (record_bytes r)) (length f.header.raw) f.records []) in
     let blocksAre = blocks_counted (λ r. length (record_bytes r)) (length f.header.raw) f.records in
@@ -144,44 +144,61 @@ read_answer (read f {rows = rows} {n = n} e k l) =
   where
     made : ℕ → ℕ → ReadingOf
     made a b = record { prototypes = a; blocks = b; next = n }
-read_answer (unread e l) = rw e
+answer_of (unread e l) = rw e
+
+module _ {s t t' : List ℕ} where
+  pub read_answer : {a : Totals} → ReadTree s t (Ok a) t' → reading_is (Ok (reported a)) ≡ reading_call (length t) s
+  read_answer r = answer_of r
+
+  pub unread_answer : {f : Refusal} → ReadTree s t (Err f) t' → reading_is (Err f) ≡ reading_call (length t) s
+  unread_answer r = answer_of r
 
 -- the table keeps its length, so that it is cleared whole
-pub read_size : {s t : List ℕ} {r : Walked} {t' : List ℕ} → ReadTree s t r t' → length t' ≡ length t
+pub read_size : {s t : List ℕ} {r : Outcome Totals Refusal} {t' : List ℕ} → ReadTree s t r t' → length t' ≡ length t
 read_size (read f e k l) = l
 read_size (unread e l) = l
 
 -- ---- without an index
 
-pub read≢refused : {P : Type 0} {a : Totals} {n : ℕ} {f : Refusal} → ◌≡◌ {A = Compared} (ReadCompared a n) (NotCompared f) → P
-read≢refused e = let z : ◌≡◌ {A = ℕ} 0 1 = cc in absurd (omega arith)
-
 module _ {s t i : List ℕ} {w : ℕ} where
-  pub tree_read : {r : Compared} {t' : List ℕ} → ComparesFile s t i w r t' → {a : Totals} {n : ℕ} → r ≡ ReadCompared a n → ReadTree s t (Done a) t'
-  tree_read {t' = t'} (compared f {rows = rows} {n = n} e k l) {a} z =
-      let x : totals_of f.header.value rows f.records n ≡ a = cc in subst (λ b. ReadTree s t (Done b) t') x (read f e k l)
-  tree_read (uncompared e l) z = read≢refused (sym z)
+  read_of : {r : Outcome Compared Refusal} {t' : List ℕ} → ComparesFile s t i w r t' → {c : Compared} → r ≡ Ok c → ReadTree s t (Ok c.totals) t'
+  read_of {t' = t'} (compared f {rows = rows} {n = n} e k l) {c} z =
+      let x : record { totals = totals_of f.header.value rows f.records n; agreed = agreeing w (index_of f) i } ≡ c = cc in
+      subst (λ (b : Compared). ReadTree s t (Ok b.totals) t') x (read f e k l)
+  read_of (uncompared e l) z = cc
 
-  pub tree_unread : {r : Compared} {t' : List ℕ} → ComparesFile s t i w r t' → {f : Refusal} → r ≡ NotCompared f → ReadTree s t (Stopped f) t'
-  tree_unread (compared f e k l) z = read≢refused z
-  tree_unread {t' = t'} (uncompared {f = x} e l) {f} z = let y : x ≡ f = cc in subst (λ g. ReadTree s t (Stopped g) t') y (unread e l)
+  unread_of : {r : Outcome Compared Refusal} {t' : List ℕ} → ComparesFile s t i w r t' → {f : Refusal} → r ≡ Err f → ReadTree s t (Err f) t'
+  unread_of (compared f e k l) z = cc
+  unread_of {t' = t'} (uncompared {f = x} e l) {f} z = let y : x ≡ f = cc in subst (λ g. ReadTree s t (Err g) t') y (unread e l)
+
+  pub tree_read : {c : Compared} {t' : List ℕ} → ComparesFile s t i w (Ok c) t' → ReadTree s t (Ok c.totals) t'
+  tree_read r = read_of r refl
+
+  pub tree_unread : {f : Refusal} {t' : List ℕ} → ComparesFile s t i w (Err f) t' → ReadTree s t (Err f) t'
+  tree_unread r = unread_of r refl
 
 -- ---- in the order of the ids
 
-pub done≢stopped : {P : Type 0} {w : Totals} {f : Refusal} → ◌≡◌ {A = Walked} (Done w) (Stopped f) → P
-done≢stopped e = let z : ◌≡◌ {A = ℕ} 0 1 = cc in absurd (omega arith)
-
 module _ {s t : List ℕ} where
-  pub tree_linked : {r : Walked} {t' : List ℕ} {w : Totals} → r ≡ Done w → ReadTree s t r t' → Linked s t' w.rows
-  tree_linked {t' = t'} {w = w} z (read f {rows = rows} e k l) = let q : rows ≡ w.rows = cc in subst (Linked s t') q k.holds.valid
-  tree_linked z (unread e l) = done≢stopped (sym z)
+  linked_of : {r : Outcome Totals Refusal} {t' : List ℕ} {w : Totals} → r ≡ Ok w → ReadTree s t r t' → Linked s t' w.rows
+  linked_of {t' = t'} {w = w} z (read f {rows = rows} e k l) = let q : rows ≡ w.rows = cc in subst (Linked s t') q k.holds.valid
+  linked_of z (unread e l) = cc
 
-  pub tree_ordered : {r : Walked} {t' t'' : List ℕ} {w : Totals} → r ≡ Done w → ReadTree s t r t' → Ordered s t' w.rows t'' → ReadFile s t (Done w) t''
-  tree_ordered {t' = t'} {t'' = t''} {w = w} z (read f {rows = rows} e k l) o =
+  ordered_of : {r : Outcome Totals Refusal} {t' t'' : List ℕ} {w : Totals} → r ≡ Ok w → ReadTree s t r t' → Ordered s t' w.rows t'' → ReadFile s t (Ok w) t''
+  ordered_of {t' = t'} {t'' = t''} {w = w} z (read f {rows = rows} e k l) o =
       let q : w.rows ≡ rows = cc in
       subst (λ r. ReadFile s t r t'') z (read f e (kept_ordered k (subst (λ n. Ordered s t' n t'') q o)) (o.size ∙ l))
-  tree_ordered z (unread e l) o = done≢stopped (sym z)
+  ordered_of z (unread e l) o = cc
 
-  pub tree_stopped : {r : Walked} {t' : List ℕ} {f : Refusal} → r ≡ Stopped f → ReadTree s t r t' → ReadFile s t (Stopped f) t'
-  tree_stopped z (read f e k l) = done≢stopped z
-  tree_stopped {t' = t'} z (unread e l) = subst (λ r. ReadFile s t r t') z (unread e l)
+  stopped_of : {r : Outcome Totals Refusal} {t' : List ℕ} {f : Refusal} → r ≡ Err f → ReadTree s t r t' → ReadFile s t (Err f) t'
+  stopped_of z (read f e k l) = cc
+  stopped_of {t' = t'} z (unread e l) = subst (λ r. ReadFile s t r t') z (unread e l)
+
+  pub tree_linked : {w : Totals} {t' : List ℕ} → ReadTree s t (Ok w) t' → Linked s t' w.rows
+  tree_linked r = linked_of refl r
+
+  pub tree_ordered : {w : Totals} {t' t'' : List ℕ} → ReadTree s t (Ok w) t' → Ordered s t' w.rows t'' → ReadFile s t (Ok w) t''
+  tree_ordered r o = ordered_of refl r o
+
+  pub tree_stopped : {f : Refusal} {t' : List ℕ} → ReadTree s t (Err f) t' → ReadFile s t (Err f) t'
+  tree_stopped r = stopped_of refl r

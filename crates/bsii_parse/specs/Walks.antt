@@ -1,32 +1,26 @@
 -- What the walks over a file's records know of it.
-use Rattle.std.specs.Prelude.{◌≡◌, ℕ, suc, ◌+◌, ◌/◌, ◌≤◌, ◌<◌, Bool, List, [], ◌∷◌, ◌++◌, map, length, drop}
+use Rattle.std.specs.Prelude.{◌≡◌, ℕ, suc, ◌+◌, ◌/◌, ◌≤◌, ◌<◌, Bool, List, [], ◌∷◌, ◌++◌, map, length, drop, Ok, Err, Result as Outcome}
 use Rattle.std.proofs.Math.Option
 use Rattle.std.proofs.Math.Option.{Option, some}
-use Rattle.bsii_format.specs.Replies.{table_full}
 use Rattle.bsii_format.specs.Reader.{Result, ok, fault}
-use Rattle.bsii_format.specs.Prototypes.{Prototype}
+use Rattle.bsii_format.specs.Prototypes.{Prototype, fields_parser}
 use Rattle.bsii_format.specs.Blocks.{DataBlock, find_by}
 use Rattle.bsii_format.specs.File.{Record, prototype, block, defining, carrying, head_parser, record_bytes, Records, records_from, BsiiFile, length_limit, parse}
 use Rattle.bsii_format.specs.Calls.{Placed, placed, placed_records, cons_prototype, prototypes_in}
 use Rattle.bsii_derived.specs.Index.{IndexRecord, index_from, index_of, agreeing}
-use Rattle.bsii_string.specs.Answers.{fault_is, refused_at}
+use Rattle.bsii_string.specs.Answers.{fault_is}
 use Rattle.bsii_string.specs.declared.answers.Refusal.{Refusal}
 use Rattle.bsii_prototype.specs.declared.answers.Counted.{Counted}
-use Rattle.bsii_prototype.specs.declared.answers.Counted.TheVariants.{Fields as Many, Fault as Bad}
+use Rattle.bsii_prototype.specs.Answers.{count_of}
 use Rattle.bsii_block.specs.Blocks.{DefinedAt, Assured}
 use Rattle.bsii_table.specs.Rows.{Row, lookup, Rows}
 use Rattle.bsii_table.specs.Relation.{Represents}
 use Rattle.bsii_tree.specs.Table.{Linked, lookup_tree}
-use Rattle.bsii_tree.specs.declared.Defined.{Defined}
-use Rattle.bsii_tree.specs.declared.Defined.TheVariants.{Rows as Held, Full}
 use Rattle.bsii_parse.specs.declared.walk.Progress.{Progress}
 use Rattle.bsii_parse.specs.declared.walk.ReadStep.{ReadStep}
-use Rattle.bsii_parse.specs.declared.walk.ReadStep.TheVariants.{Prototype as WentPrototype, Block as WentBlock, End, Refused}
+use Rattle.bsii_parse.specs.declared.walk.ReadStep.TheVariants.{Prototype as WentPrototype, Block as WentBlock, End}
 use Rattle.bsii_parse.specs.declared.walk.Totals.{Totals}
-use Rattle.bsii_parse.specs.declared.walk.Walked.{Walked}
-use Rattle.bsii_parse.specs.declared.walk.Walked.TheVariants.{Done, Fault as Stopped}
 use Rattle.bsii_parse.specs.declared.walk.Compared.{Compared}
-use Rattle.bsii_parse.specs.declared.walk.Compared.TheVariants.{Read as ReadCompared, Refused as NotCompared}
 
 -- ---- the reading walk
 
@@ -72,6 +66,10 @@ Kept s t rows env = Keeps s (Rows t rows) (lookup t rows) rows env
 
 -- ---- a step of the reading walk
 
+-- a list of definitions, with or without tests
+pub record KnownList (s : List ℕ) (fields : ℕ) (known : Bool) (r : Outcome Counted Refusal) : Type 0 where
+  pub counts : Assured known (fields_parser fields (drop fields s)) → r ≡ count_of (fields_parser fields (drop fields s))
+
 -- what it needs: the file within the length limit, a position in it, the table's tree, with no more rows than bytes passed
 pub record Ready (s : List ℕ) (p : Progress) (t : List ℕ) : Type 0 where
   pub short : length s ≤ length_limit
@@ -80,15 +78,6 @@ pub record Ready (s : List ℕ) (p : Progress) (t : List ℕ) : Type 0 where
   pub defined : p.prototypes ≤ p.at
   pub rows : Linked s t p.rows
   pub few : p.rows ≤ p.at
-
--- where it is behind a prototype up to n, by what became of its row, and behind a block under the prototype at o, by its end
-abbrev pub over_prototype : Progress → ℕ → Defined → ReadStep
-over_prototype p n (Held rows) = WentPrototype (record { at = n; rows = rows; blocks = p.blocks; prototypes = p.prototypes + 1 })
-over_prototype p n Full = Refused (refused_at table_full p.at)
-
-abbrev pub over_block : Progress → ℕ → Counted → ReadStep
-over_block p o (Many c n) = WentBlock (record { at = n; rows = p.rows; blocks = p.blocks + 1; prototypes = p.prototypes }) (record { offset = o; fields = c })
-over_block p o (Bad f) = Refused f
 
 -- how far the walk is behind the record i, which ends at n
 abbrev pub past : Progress → Record → ℕ → ℕ → Progress
@@ -111,21 +100,21 @@ pub record PastRecord (version : ℕ) (s : List ℕ) (p : Progress) (t : List �
   pub size : length t' ≡ length t
 
 -- a record was passed; or the records from here on are the end record; or they are refused
-pub data StepMeets (version : ℕ) (s : List ℕ) (p : Progress) (t : List ℕ) (env : List (Placed Prototype)) : ReadStep → List ℕ → Type 0 where
-  passed : (i : Record) {n rows : ℕ} {r : ReadStep} {t' : List ℕ} → PastRecord version s p t env i n rows t' → Goes env (past p i n rows) i r → StepMeets version s p t env r t'
-  ended : {l : List ℕ} {n : ℕ} → records_at version (length t / 3) (bare env) p.at s ≡ ok (record { records = []; end = l }) n (drop n s) → StepMeets version s p t env (End n) t
-  refused : {f : Refusal} {t' : List ℕ} → records_at version (length t / 3) (bare env) p.at s ≡ fault (fault_is f) → length t' ≡ length t → StepMeets version s p t env (Refused f) t'
+pub data StepMeets (version : ℕ) (s : List ℕ) (p : Progress) (t : List ℕ) (env : List (Placed Prototype)) : Outcome ReadStep Refusal → List ℕ → Type 0 where
+  passed : (i : Record) {n rows : ℕ} {r : ReadStep} {t' : List ℕ} → PastRecord version s p t env i n rows t' → Goes env (past p i n rows) i r → StepMeets version s p t env (Ok r) t'
+  ended : {l : List ℕ} {n : ℕ} → records_at version (length t / 3) (bare env) p.at s ≡ ok (record { records = []; end = l }) n (drop n s) → StepMeets version s p t env (Ok (End n)) t
+  refused : {f : Refusal} {t' : List ℕ} → records_at version (length t / 3) (bare env) p.at s ≡ fault (fault_is f) → length t' ≡ length t → StepMeets version s p t env (Err f) t'
 
 -- for every file, or for one that is known to be accepted
-pub record Stepped (version : ℕ) (s : List ℕ) (p : Progress) (t : List ℕ) (known : Bool) (r : ReadStep) (t' : List ℕ) : Type 0 where
+pub record Stepped (version : ℕ) (s : List ℕ) (p : Progress) (t : List ℕ) (known : Bool) (r : Outcome ReadStep Refusal) (t' : List ℕ) : Type 0 where
   pub steps : (env : List (Placed Prototype)) → Growing s t p.rows env → Assured known (records_at version (length t / 3) (bare env) p.at s) → StepMeets version s p t env r t'
 
 -- the same where the head is read already: a prototype's definitions start at `fields`, in every version, a block's id at `at`
-pub record Defining (s : List ℕ) (p : Progress) (t : List ℕ) (known : Bool) (id fields : ℕ) (r : ReadStep) (t' : List ℕ) : Type 0 where
+pub record Defining (s : List ℕ) (p : Progress) (t : List ℕ) (known : Bool) (id fields : ℕ) (r : Outcome ReadStep Refusal) (t' : List ℕ) : Type 0 where
   pub steps : (version : ℕ) (env : List (Placed Prototype)) → Growing s t p.rows env → Assured known (records_at version (length t / 3) (bare env) p.at s)
       → (name : List ℕ) → head_parser p.at (drop p.at s) ≡ ok (defining id name) fields (drop fields s) → StepMeets version s p t env r t'
 
-pub record Carrying (version : ℕ) (s : List ℕ) (p : Progress) (t : List ℕ) (known : Bool) (id at : ℕ) (r : ReadStep) : Type 0 where
+pub record Carrying (version : ℕ) (s : List ℕ) (p : Progress) (t : List ℕ) (known : Bool) (id at : ℕ) (r : Outcome ReadStep Refusal) : Type 0 where
   pub steps : (env : List (Placed Prototype)) → Growing s t p.rows env → Assured known (records_at version (length t / 3) (bare env) p.at s)
       → head_parser p.at (drop p.at s) ≡ ok (carrying id) at (drop at s) → StepMeets version s p t env r t
 
@@ -139,27 +128,31 @@ totals_of version rows l n = record { version = version; rows = rows; blocks = b
 abbrev pub index_at : ℕ → List Record → List IndexRecord
 index_at start l = index_from [] (placed (λ r. length (record_bytes r)) start l)
 
+-- and how many index records of its blocks stand at the front of an index
+abbrev pub compared_as : Totals → ℕ → Outcome Compared Refusal
+compared_as t n = Ok (record { totals = t; agreed = n })
+
 -- with an index of the bytes i, in numbers of w bytes, held against the blocks
-pub data Compares (version : ℕ) (s : List ℕ) (start : ℕ) (t i : List ℕ) (w : ℕ) : Compared → List ℕ → Type 0 where
+pub data Compares (version : ℕ) (s : List ℕ) (start : ℕ) (t i : List ℕ) (w : ℕ) : Outcome Compared Refusal → List ℕ → Type 0 where
   walked : (q : Records) {rows n : ℕ} {t' : List ℕ} → records_at version (length t / 3) [] start s ≡ ok q n (drop n s)
       → Growing s t' rows (prototypes_in (placed (λ r. length (record_bytes r)) start q.records) []) → length t' ≡ length t
-      → Compares version s start t i w (ReadCompared (totals_of version rows q.records n) (agreeing w (index_at start q.records) i)) t'
+      → Compares version s start t i w (compared_as (totals_of version rows q.records n) (agreeing w (index_at start q.records) i)) t'
   stopped : {f : Refusal} {t' : List ℕ} → records_at version (length t / 3) [] start s ≡ fault (fault_is f) → length t' ≡ length t
-      → Compares version s start t i w (NotCompared f) t'
+      → Compares version s start t i w (Err f) t'
 
-pub data ComparesFile (s t i : List ℕ) (w : ℕ) : Compared → List ℕ → Type 0 where
+pub data ComparesFile (s t i : List ℕ) (w : ℕ) : Outcome Compared Refusal → List ℕ → Type 0 where
   compared : (f : BsiiFile) {rows n : ℕ} {t' : List ℕ} → parse (length t) s ≡ ok f n (drop n s) → Growing s t' rows (prototypes_in (placed_records f) [])
-      → length t' ≡ length t → ComparesFile s t i w (ReadCompared (totals_of f.header.value rows f.records n) (agreeing w (index_of f) i)) t'
-  uncompared : {f : Refusal} {t' : List ℕ} → parse (length t) s ≡ fault (fault_is f) → length t' ≡ length t → ComparesFile s t i w (NotCompared f) t'
+      → length t' ≡ length t → ComparesFile s t i w (compared_as (totals_of f.header.value rows f.records n) (agreeing w (index_of f) i)) t'
+  uncompared : {f : Refusal} {t' : List ℕ} → parse (length t) s ≡ fault (fault_is f) → length t' ≡ length t → ComparesFile s t i w (Err f) t'
 
 -- `Table t' rows env` is what the table holds then
-pub data ReadAs (Table : List ℕ → ℕ → List (Placed Prototype) → Type 0) (s : List ℕ) (t : List ℕ) : Walked → List ℕ → Type 0 where
+pub data ReadAs (Table : List ℕ → ℕ → List (Placed Prototype) → Type 0) (s : List ℕ) (t : List ℕ) : Outcome Totals Refusal → List ℕ → Type 0 where
   read : (f : BsiiFile) {rows n : ℕ} {t' : List ℕ} → parse (length t) s ≡ ok f n (drop n s) → Table t' rows (prototypes_in (placed_records f) [])
-      → length t' ≡ length t → ReadAs Table s t (Done (totals_of f.header.value rows f.records n)) t'
-  unread : {f : Refusal} {t' : List ℕ} → parse (length t) s ≡ fault (fault_is f) → length t' ≡ length t → ReadAs Table s t (Stopped f) t'
+      → length t' ≡ length t → ReadAs Table s t (Ok (totals_of f.header.value rows f.records n)) t'
+  unread : {f : Refusal} {t' : List ℕ} → parse (length t) s ≡ fault (fault_is f) → length t' ≡ length t → ReadAs Table s t (Err f) t'
 
-abbrev pub ReadTree : List ℕ → List ℕ → Walked → List ℕ → Type 0
+abbrev pub ReadTree : List ℕ → List ℕ → Outcome Totals Refusal → List ℕ → Type 0
 ReadTree s t r t' = ReadAs (Growing s) s t r t'
 
-abbrev pub ReadFile : List ℕ → List ℕ → Walked → List ℕ → Type 0
+abbrev pub ReadFile : List ℕ → List ℕ → Outcome Totals Refusal → List ℕ → Type 0
 ReadFile s t r t' = ReadAs (Kept s) s t r t'

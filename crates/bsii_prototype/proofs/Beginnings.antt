@@ -1,28 +1,31 @@
 -- The header of a file and the heads of records, part by part.
-use mathlib.Core.Path.{◌≡◌, refl, ap, ap₂, ◌∙◌}
-use Prim.Native.Nat.{ℕ, zero, suc, ◌+◌, ◌-◌, ◌≤◌, ◌<◌}
-use native.Mathlib.Numerals.{add-one}
+use mathlib.Core.Path.{◌≡◌, refl, sym, ap, ap₂, ◌∙◌}
+use Prim.Native.Nat.{ℕ, zero, suc, ◌≤◌, ◌<◌}
 use native.Mathlib.Omega.{arith}
 use mathlib.Core.Bool.{Bool, true, false, cond, not, ◌&&◌}
 use mathlib.Core.List.{List, [], ◌∷◌}
-use lib.ListN.{length, take, drop, get_or, drop_of_length-le}
-use lib.Seq.{drop-cons, get_or-take, length-take-le}
+use lib.ListN.{take, drop}
 use lib.Dec.{leb, eqb}
-use borrow.Author.Tests.{eq-eqb, ne_eqb, le-leb, lt-leb}
+use lib.Pointwise.{pointwise}
+use mathlib.Core.Logic.{⊎_elim}
+use borrow.Author.Tests.{eqb-true, eqb-false, eq-eqb, ne_eqb, le-leb, lt-leb}
+use Rattle.bsii_format.proofs.Lists.{bool_cases}
 use Rattle.bsii_format.specs.Ascii.{ascii}
 use Rattle.bsii_format.specs.Replies.{Fault, invalid_header, bad_mark}
-use Rattle.bsii_format.specs.Reader.{Result, ok, fault, fault_at, short_at, after, ◌>>=◌, success, bytes, verify, same, tag}
+use Rattle.bsii_format.specs.Reader.{Result, ok, fault, fault_at, after, ◌>>=◌, success, bytes, verify, same, tag}
 use Rattle.bsii_format.specs.Numbers.{number, le_u8}
 use Rattle.bsii_format.specs.Strings.{str_parser}
 use Rattle.bsii_format.specs.File.{Head, ending, defining, carrying, mark_parser, head_parser, header_parser}
-use Rattle.bsii_format.proofs.Readers.{after_ok, cond_ok, ok_at, ok_rest}
-use Rattle.bsii_format.proofs.Positions.{bytes_at, bytes_short, bind_ok, bind_fault, verify_ok, verify_not, verify_fault}
+use Rattle.bsii_format.proofs.Readers.{bytes_exact, after_ok, cond_ok, ok_at, ok_rest}
+use Rattle.bsii_format.proofs.Positions.{bind_ok, bind_fault, verify_ok, verify_not, verify_fault}
 use Rattle.bsii_format.proofs.Follows.{again}
 use Rattle.bsii_string.specs.Answers.{unchecked_str, end_of}
-use Rattle.bsii_string.specs.declared.answers.Parsed.TheVariants.{Next}
+use Rattle.bsii_string.specs.declared.answers.Refusal.{Refusal}
+use Rattle.bsii_string.proofs.Ends.{next_ok, fault_at_law}
 use Rattle.bsii_string.proofs.Unchecked.{str_follows}
 use Rattle.bsii_prototype.specs.Entries.{marked_parser, unchecked_head}
 use Rattle.bsii_prototype.proofs.Names.{Front, bytes_front, number_front, bytes_join}
+use Rattle.std.specs.Prelude.{Ok, Err}
 
 -- ---- equal bytes
 
@@ -30,36 +33,17 @@ pub is_not : (b c : Bool) → not b ≡ c → b ≡ not c
 is_not true c e = ap not e
 is_not false c e = ap not e
 
--- too few bytes are not the same
-pub same_short : (s c : List ℕ) → length s < length c → same (take (length c) s) c ≡ false
+flip : (x y : ℕ) → eqb x y ≡ eqb y x
+flip x y =
+    ⊎_elim (λ t. t ∙ sym (eq-eqb y x (sym (eqb-true x y t)))) (λ f. f ∙ sym (ne_eqb y x (λ e. eqb-false x y f (sym e)))) (bool_cases (eqb x y))
+
+-- the library's comparison, element by element, is the format's
+pub same_pointwise : (c s : List ℕ) → pointwise eqb c s ≡ same s c
 unfolding same
-same_short [] [] h = absurd (omega arith)
-same_short [] (y ∷ c) h = refl
-same_short (x ∷ s) [] h = absurd (omega arith)
-same_short (x ∷ s) (y ∷ c) h = go (eqb x y) (same_short s c (omega arith))
-  where
-    go : (b : Bool) {q : Bool} → q ≡ false → (b && q) ≡ false
-    go true e = e
-    go false e = refl
-
-module _ (s c : List ℕ) (i : ℕ) (long : length c ≤ length s) where
-  same_step : i < length c → same (drop i (take (length c) s)) (drop i c) ≡ (eqb (get_or s i 0) (get_or c i 0) && same (drop (i + 1) (take (length c) s)) (drop (i + 1) c))
-  unfolding same
-  same_step h =
-      let k : i < length (take (length c) s) = rw (length-take-le (length c) s long) h in
-      rw (add-one, drop-cons c i 0, drop-cons (take (length c) s) i 0 k, get_or-take)
-
-  pub same_more : i < length c → get_or s i 0 ≡ get_or c i 0 → same (drop i (take (length c) s)) (drop i c) ≡ same (drop (i + 1) (take (length c) s)) (drop (i + 1) c)
-  same_more h e = same_step h ∙ ap (λ (b : Bool). b && same (drop (i + 1) (take (length c) s)) (drop (i + 1) c)) (eq-eqb (get_or s i 0) (get_or c i 0) e)
-
-  pub same_not : i < length c → (get_or s i 0 ≡ get_or c i 0 → ⊥) → same (drop i (take (length c) s)) (drop i c) ≡ false
-  same_not h e = same_step h ∙ ap (λ (b : Bool). b && same (drop (i + 1) (take (length c) s)) (drop (i + 1) c)) (ne_eqb (get_or s i 0) (get_or c i 0) e)
-
-  pub same_done : length c ≤ i → same (drop i (take (length c) s)) (drop i c) ≡ true
-  unfolding same
-  same_done h =
-      let k : length (take (length c) s) ≤ i = rw (length-take-le (length c) s long) h in
-      rw (drop_of_length-le c h, drop_of_length-le (take (length c) s) k)
+same_pointwise [] [] = refl
+same_pointwise [] (y ∷ s) = refl
+same_pointwise (x ∷ c) [] = refl
+same_pointwise (x ∷ c) (y ∷ s) = ap₂ (λ (a b : Bool). a && b) (flip x y) (same_pointwise c s)
 
 -- ---- the header
 
@@ -158,18 +142,17 @@ module _ (at : ℕ) (s : List ℕ) {id : ℕ} {name : List ℕ} {next : ℕ} {re
   head_past e = let q = after_ok (number 4 at s) (λ k. cond (eqb k 0) marked_parser (success (carrying k))) e in past_zero q.3 (eqb q.0 0) q.4
 
 -- where a prototype's head was accepted, `fields_at` answers the place behind it
-pub head_next : (at : ℕ) (s : List ℕ) {id : ℕ} {name : List ℕ} {next : ℕ} {rest : List ℕ} → head_parser at s ≡ ok (defining id name) next rest → end_of (unchecked_head at s) ≡ Next next
+pub head_next : (at : ℕ) (s : List ℕ) {id : ℕ} {name : List ℕ} {next : ℕ} {rest : List ℕ} → head_parser at s ≡ ok (defining id name) next rest → end_of (unchecked_head at s) ≡ Ok next
 unfolding end_of
 head_next at s e = ap end_of (head_past at s e)
 
 -- ---- the second walk
 
 module _ (s : List ℕ) (at : ℕ) where
-  pub past_short : length s - at < 9 → unchecked_head at (drop at s) ≡ short_at at (9 - (length s - at))
-  unfolding unchecked_head
-  past_short h = bind_fault (bytes 9) (λ h. unchecked_str) (bytes_short 9 s at h)
+  pub past_short : {f : Refusal} → Err f ≡ end_of (bytes 9 at (drop at s)) → Err f ≡ end_of (unchecked_head at (drop at s))
+  unfolding unchecked_head end_of
+  past_short e = sym (ap end_of (bind_fault (bytes 9) (λ h. unchecked_str) (fault_at_law (bytes 9 at (drop at s)) e)))
 
-  module _ (h : 9 ≤ length s - at) where
-    pub past_string : unchecked_head at (drop at s) ≡ unchecked_str (at + 9) (drop (at + 9) s)
-    unfolding unchecked_head
-    past_string = bind_ok (bytes 9) (λ h. unchecked_str) (bytes_at 9 s at h)
+  pub past_string : {next : ℕ} → Ok next ≡ end_of (bytes 9 at (drop at s)) → unchecked_head at (drop at s) ≡ unchecked_str next (drop next s)
+  unfolding unchecked_head
+  past_string e = let r = next_ok (bytes_exact 9) s at e in bind_ok (bytes 9) (λ h. unchecked_str) r.1

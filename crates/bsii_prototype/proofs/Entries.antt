@@ -18,27 +18,28 @@ use Rattle.bsii_format.proofs.Positions.{bind_ok, bind_fault, ended_map}
 use Rattle.bsii_string.specs.Answers.{fault_is, refusal_is, end_of}
 use Rattle.bsii_string.proofs.Ends.{alike, next≢fault, fault_at_law}
 use Rattle.bsii_string.specs.declared.answers.Refusal.{Refusal}
-use Rattle.bsii_string.specs.declared.answers.Parsed.TheVariants.{Next, Fault}
-use Rattle.bsii_prototype.proofs.Names.{Text, named, number_front}
+use Rattle.bsii_prototype.specs.Strings.{Text, pair_exact}
+use Rattle.bsii_prototype.proofs.Names.{named, number_front}
 use Rattle.bsii_prototype.specs.Entries.{enum_value_with, enum_values_with, definition_with, entry_with}
 use Rattle.bsii_prototype.specs.Answers.{entry_of}
 use Rattle.bsii_prototype.specs.declared.answers.Entry.{Entry}
-use Rattle.bsii_prototype.specs.declared.answers.Entry.TheVariants.{Field, Last, Bad}
+use Rattle.bsii_prototype.specs.declared.answers.Entry.TheVariants.{Field, Last}
+use Rattle.std.specs.Prelude.{Ok, Err, Result as Outcome}
 
 -- ---- from an answer back to the result
 
-pub next_is : {A : Type 0} (q : Result A) {n : ℕ} → Next n ≡ end_of q → (v : A) × (r : List ℕ) × (q ≡ ok v n r)
+pub next_is : {A : Type 0} (q : Result A) {n : ℕ} → Ok n ≡ end_of q → (v : A) × (r : List ℕ) × (q ≡ ok v n r)
 unfolding end_of
 next_is (ok a i r) {n} e = let j : n ≡ i = cc in (a, r, ap (λ (k : ℕ). ok a k r) (sym j))
 next_is (fault f) e = next≢fault e
 
-pub field≢last : {P : Type 0} {t a b n m : ℕ} → ◌≡◌ {A = Entry} (Field t a b n) (Last m) → P
+pub field≢last : {P : Type 0} {t a b n m : ℕ} → ◌≡◌ {A = Outcome Entry Refusal} (Ok (Field t a b n)) (Ok (Last m)) → P
 field≢last e = let z : ◌≡◌ {A = ℕ} 0 1 = cc in let f : ⊥ = omega arith in absurd f
 
-pub field≢bad : {P : Type 0} {t a b n : ℕ} {f : Refusal} → ◌≡◌ {A = Entry} (Field t a b n) (Bad f) → P
+pub field≢bad : {P : Type 0} {t a b n : ℕ} {f : Refusal} → ◌≡◌ {A = Outcome Entry Refusal} (Ok (Field t a b n)) (Err f) → P
 field≢bad e = let z : ◌≡◌ {A = ℕ} 0 1 = cc in let f : ⊥ = omega arith in absurd f
 
-pub last≢bad : {P : Type 0} {m : ℕ} {f : Refusal} → ◌≡◌ {A = Entry} (Last m) (Bad f) → P
+pub last≢bad : {P : Type 0} {m : ℕ} {f : Refusal} → ◌≡◌ {A = Outcome Entry Refusal} (Ok (Last m)) (Err f) → P
 last≢bad e = let z : ◌≡◌ {A = ℕ} 0 1 = cc in let f : ⊥ = omega arith in absurd f
 
 pub record FieldIs (name : ℕ) (q : Result (Option ValuePrototype)) (t a b n : ℕ) : Type 0 where
@@ -49,7 +50,7 @@ pub record FieldIs (name : ℕ) (q : Result (Option ValuePrototype)) (t a b n : 
   pub start : a ≡ name
   pub end : b ≡ name + length definition.name
 
-pub field_is_law : (name : ℕ) (q : Result (Option ValuePrototype)) {t a b n : ℕ} → Field t a b n ≡ entry_of name q → FieldIs name q t a b n
+pub field_is_law : (name : ℕ) (q : Result (Option ValuePrototype)) {t a b n : ℕ} → Ok (Field t a b n) ≡ entry_of name q → FieldIs name q t a b n
 unfolding entry_of
 field_is_law name (ok none i r) e = field≢last e
 field_is_law name (ok (some d) i r) {t} {a} {b} {n} e =
@@ -57,13 +58,13 @@ field_is_law name (ok (some d) i r) {t} {a} {b} {n} e =
     record { definition = d; after = r; read = ap (λ (k : ℕ). ok (some d) k r) (sym j); typed = cc; start = cc; end = cc }
 field_is_law name (fault f) e = field≢bad e
 
-pub last_is_law : (name : ℕ) (q : Result (Option ValuePrototype)) {n : ℕ} → Last n ≡ entry_of name q → (r : List ℕ) × (q ≡ ok none n r)
+pub last_is_law : (name : ℕ) (q : Result (Option ValuePrototype)) {n : ℕ} → Ok (Last n) ≡ entry_of name q → (r : List ℕ) × (q ≡ ok none n r)
 unfolding entry_of
 last_is_law name (ok none i r) {n} e = let j : n ≡ i = cc in (r, ap (λ (k : ℕ). ok none k r) (sym j))
 last_is_law name (ok (some d) i r) e = field≢last (sym e)
 last_is_law name (fault f) e = last≢bad e
 
-pub bad_is : (name : ℕ) (q : Result (Option ValuePrototype)) {f : Refusal} → Bad f ≡ entry_of name q → q ≡ fault (fault_is f)
+pub bad_is : (name : ℕ) (q : Result (Option ValuePrototype)) {f : Refusal} → Err f ≡ entry_of name q → q ≡ fault (fault_is f)
 unfolding entry_of
 bad_is name (ok none i r) e = last≢bad (sym e)
 bad_is name (ok (some d) i r) e = field≢bad (sym e)
@@ -134,13 +135,9 @@ unfolding entry_with ◌>>=◌ after number ◌<$>◌ bytes
 entry_none S at = refl
 
 module _ {S : Reader (List ℕ)} (x : Exact (List ℕ) S) where
-  pub pair_exact : Exact EnumValue (enum_value_with S)
-  unfolding enum_value_with
-  pair_exact = bind_exact _ (number_exact 4) (λ n. bind_exact _ x (λ s. success_exact _))
-
   pub list_exact : (t : ℕ) → Exact (List EnumValue) (enum_values_with S t)
   unfolding enum_values_with
-  list_exact t = cond_exact (eqb t 0x37) (bind_exact _ (number_exact 4) (λ n. repeat_exact n pair_exact)) (success_exact [])
+  list_exact t = cond_exact (eqb t 0x37) (bind_exact _ (number_exact 4) (λ n. repeat_exact n (pair_exact x))) (success_exact [])
 
   pub definition_exact : (t : ℕ) → Exact (Option ValuePrototype) (definition_with S t)
   unfolding definition_with
@@ -153,26 +150,26 @@ module _ {S : Reader (List ℕ)} (x : Exact (List ℕ) S) where
 -- ---- the answers of the code
 
 module _ {S : Reader (List ℕ)} (x : Text S) (s : List ℕ) (at t : ℕ) where
-  pub name_bad : {f : Refusal} → Fault f ≡ end_of (S at (drop at s)) → Bad f ≡ entry_of (at + 4) (definition_with S t at (drop at s))
+  pub name_bad : {f : Refusal} → Err f ≡ end_of (S at (drop at s)) → Err f ≡ entry_of (at + 4) (definition_with S t at (drop at s))
   unfolding entry_of
   name_bad e = sym (ap (entry_of (at + 4)) (definition_cut S at (drop at s) t (fault_at_law (S at (drop at s)) e)))
 
-  module _ {m : ℕ} (e : Next m ≡ end_of (S at (drop at s))) where
+  module _ {m : ℕ} (e : Ok m ≡ end_of (S at (drop at s))) where
     string : (v : List ℕ) × (S at (drop at s) ≡ ok v m (drop m s))
     string = let q = next_is (S at (drop at s)) e in (q.0, q.2 ∙ ap (λ (l : List ℕ). ok q.0 m l) (named x s at q.2).rest)
 
     pub name_fits : at + 4 ≤ length s
     name_fits = let n = named x s at string.1 in omega (arith, n.end, n.inside)
 
-    pub list_bad : {f : Refusal} → Fault f ≡ end_of (enum_values_with S t m (drop m s)) → Bad f ≡ entry_of (at + 4) (definition_with S t at (drop at s))
+    pub list_bad : {f : Refusal} → Err f ≡ end_of (enum_values_with S t m (drop m s)) → Err f ≡ entry_of (at + 4) (definition_with S t at (drop at s))
     unfolding entry_of
     list_bad h = sym (ap (entry_of (at + 4)) (definition_bad S at (drop at s) t string.1 (fault_at_law (enum_values_with S t m (drop m s)) h)))
 
-    pub field_whole : {n : ℕ} → Next n ≡ end_of (enum_values_with S t m (drop m s)) → Field t (at + 4) m n ≡ entry_of (at + 4) (definition_with S t at (drop at s))
+    pub field_whole : {n : ℕ} → Ok n ≡ end_of (enum_values_with S t m (drop m s)) → Ok (Field t (at + 4) m n) ≡ entry_of (at + 4) (definition_with S t at (drop at s))
     unfolding entry_of
     field_whole {n} h =
         let q = next_is (enum_values_with S t m (drop m s)) h in
-        ap (λ (i : ℕ). Field t (at + 4) i n) (named x s at string.1).end
+        ap (λ (i : ℕ). Ok (Field t (at + 4) i n)) (named x s at string.1).end
         ∙ sym (ap (entry_of (at + 4)) (definition_whole S at (drop at s) t string.1 q.2))
 
 -- behind its type an entry that is not the last one is a definition

@@ -17,8 +17,10 @@ use Rattle.bsii_string.specs.Answers.{unchecked_str}
 use Rattle.bsii_prototype.specs.Entries.{enum_values_with, definition_with, entry_with}
 use Rattle.bsii_prototype.specs.Answers.{entry_of}
 use Rattle.bsii_prototype.specs.declared.answers.Entry.TheVariants.{Field}
-use Rattle.bsii_prototype.proofs.Names.{named, unchecked, number_front}
+use Rattle.bsii_prototype.proofs.Names.{named, number_front}
+use Rattle.bsii_prototype.specs.Strings.{unchecked}
 use Rattle.bsii_prototype.proofs.Entries.{entry_none, entry_exact, field_is_law}
+use Rattle.std.specs.Prelude.{Ok}
 
 last≢some : {P : Type 0} {d : ValuePrototype} {i n : ℕ} {q r : List ℕ} → ◌≡◌ {A = Result (Option ValuePrototype)} (ok none i q) (ok (some d) n r) → P
 last≢some e = let z : ◌≡◌ {A = ℕ} 0 1 = cc in let f : ⊥ = omega arith in absurd f
@@ -49,7 +51,7 @@ module _ (s : List ℕ) (at : ℕ) where
       go false e f = definition_end e f
 
   -- an entry has bytes of its own, and the name lies from a to b
-  pub field_inside : {t a b n : ℕ} → Field t a b n ≡ entry_of (at + 8) (entry_with unchecked_str at (drop at s)) → (at < n) × (n ≤ length s) × (a ≤ b) × (b ≤ length s)
+  pub field_inside : {t a b n : ℕ} → Ok (Field t a b n) ≡ entry_of (at + 8) (entry_with unchecked_str at (drop at s)) → (at < n) × (n ≤ length s) × (a ≤ b) × (b ≤ length s)
   field_inside e =
       let f = field_is_law (at + 8) (entry_with unchecked_str at (drop at s)) e in
       let m = moved_on (entry_exact unchecked.exact) (entry_none unchecked_str 0) s at f.read in

@@ -16,10 +16,10 @@ use Rattle.bsii_string.specs.Answers.{refusal_is}
 use Rattle.bsii_string.specs.declared.answers.Refusal.{Refusal}
 use Rattle.bsii_prototype.specs.Entries.{entry_with, fields_from_with, fields_with}
 use Rattle.bsii_prototype.specs.declared.answers.Counted.{Counted}
-use Rattle.bsii_prototype.specs.declared.answers.Counted.TheVariants.{Fields, Fault}
-use Rattle.bsii_prototype.specs.Answers.{entry_of, count_of}
-use Rattle.bsii_prototype.specs.declared.answers.Entry.TheVariants.{Field, Last, Bad}
+use Rattle.bsii_prototype.specs.Answers.{entry_of, counted, count_of}
+use Rattle.bsii_prototype.specs.declared.answers.Entry.TheVariants.{Field, Last}
 use Rattle.bsii_prototype.proofs.Entries.{entry_none, entry_exact, field_is_law, last_is_law, bad_is}
+use Rattle.std.specs.Prelude.{Ok, Err, Result as Outcome}
 
 -- what follows a result may be changed where it is the same behind that result
 after_same : {A B : Type 0} (q : Result A) (f g : A → Reader B) → ((a : A) (n : ℕ) (r : List ℕ) → q ≡ ok a n r → f a n r ≡ g a n r) → after q f ≡ after q g
@@ -90,13 +90,13 @@ module _ (S : Reader (List ℕ)) (x : Exact (List ℕ) S) where
 -- ---- counting
 
 -- the answer, with k definitions in front
-unfoldable pub count_from : ℕ → Result FieldList → Counted
-count_from k (ok l n r) = Fields (k + length l.fields) n
-count_from k (fault f) = Fault (refusal_is f)
+unfoldable pub count_from : ℕ → Result FieldList → Outcome Counted Refusal
+count_from k (ok l n r) = counted (k + length l.fields) n
+count_from k (fault f) = Err (refusal_is f)
 
 pub count_zero : (q : Result FieldList) → count_from 0 q ≡ count_of q
 unfolding count_from count_of
-count_zero (ok l n r) = ap (λ (k : ℕ). Fields k n) (zero-add (length l.fields))
+count_zero (ok l n r) = ap (λ (k : ℕ). counted k n) (zero-add (length l.fields))
 count_zero (fault f) = refl
 
 pub count_cons : (k : ℕ) (d : Consumed ValuePrototype) (R : Reader FieldList) (at : ℕ) (s : List ℕ) → count_from k ((cons_field d <$> R) at s) ≡ count_from (k + 1) (R at s)
@@ -104,16 +104,16 @@ unfolding ◌<$>◌ ◌>>=◌ count_from after success cons_field
 count_cons k d R at s = go (R at s)
   where
     go : (q : Result FieldList) → count_from k (after q (λ l. success (cons_field d l))) ≡ count_from (k + 1) q
-    go (ok l n r) = ap (λ (m : ℕ). Fields m n) (omega arith)
+    go (ok l n r) = ap (λ (m : ℕ). counted m n) (omega arith)
     go (fault f) = refl
 
 -- ---- one turn of a loop that counts
 
 module _ (S : Reader (List ℕ)) (x : Exact (List ℕ) S) (s : List ℕ) (at : ℕ) where
-  pub count_later : {t a b n : ℕ} → Field t a b n ≡ entry_of (at + 8) (entry_with S at (drop at s)) → (at < n) × (n ≤ length s)
+  pub count_later : {t a b n : ℕ} → Ok (Field t a b n) ≡ entry_of (at + 8) (entry_with S at (drop at s)) → (at < n) × (n ≤ length s)
   count_later e = moved_on (entry_exact x) (entry_none S 0) s at (field_is_law (at + 8) (entry_with S at (drop at s)) e).read
 
-  pub count_more : (k : ℕ) {t a b n : ℕ} → Field t a b n ≡ entry_of (at + 8) (entry_with S at (drop at s))
+  pub count_more : (k : ℕ) {t a b n : ℕ} → Ok (Field t a b n) ≡ entry_of (at + 8) (entry_with S at (drop at s))
       → count_from (k + 1) (fields_with S n (drop n s)) ≡ count_from k (fields_with S at (drop at s))
   count_more k {n = n} e =
       let f = field_is_law (at + 8) (entry_with S at (drop at s)) e in
@@ -122,13 +122,13 @@ module _ (S : Reader (List ℕ)) (x : Exact (List ℕ) S) (s : List ℕ) (at : �
       ap (λ (l : List ℕ). count_from (k + 1) (fields_with S n l)) (sym m.rest)
       ∙ sym (ap (count_from k) (fields_more S x at (drop at s) f.read) ∙ count_cons k d (fields_with S) n f.after)
 
-  pub count_last : (k : ℕ) {n : ℕ} → Last n ≡ entry_of (at + 8) (entry_with S at (drop at s)) → Fields k n ≡ count_from k (fields_with S at (drop at s))
+  pub count_last : (k : ℕ) {n : ℕ} → Ok (Last n) ≡ entry_of (at + 8) (entry_with S at (drop at s)) → counted k n ≡ count_from k (fields_with S at (drop at s))
   unfolding count_from
   count_last k {n} e =
       let f = last_is_law (at + 8) (entry_with S at (drop at s)) e in
       let z : k ≡ k + 0 = omega arith in
-      ap (λ (m : ℕ). Fields m n) z ∙ sym (ap (count_from k) (fields_last S x at (drop at s) f.1))
+      ap (λ (m : ℕ). counted m n) z ∙ sym (ap (count_from k) (fields_last S x at (drop at s) f.1))
 
-  pub count_bad : (k : ℕ) {f : Refusal} → Bad f ≡ entry_of (at + 8) (entry_with S at (drop at s)) → Fault f ≡ count_from k (fields_with S at (drop at s))
+  pub count_bad : (k : ℕ) {f : Refusal} → Err f ≡ entry_of (at + 8) (entry_with S at (drop at s)) → Err f ≡ count_from k (fields_with S at (drop at s))
   unfolding count_from
   count_bad k e = sym (ap (count_from k) (fields_bad S x at (drop at s) (bad_is (at + 8) (entry_with S at (drop at s)) e)))

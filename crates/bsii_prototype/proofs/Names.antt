@@ -8,13 +8,12 @@ use lib.Seq.{length-take-le, drop-drop}
 use lib.Dec.{leb, leb→le, le→leb}
 use Rattle.bsii_format.specs.Reader.{ok, Reader, ◌>>=◌, bytes}
 use Rattle.bsii_format.specs.Numbers.{little_endian, number}
-use Rattle.bsii_format.specs.Strings.{str_parser}
-use Rattle.bsii_format.proofs.Readers.{Exact, after_ok, cond_ok, map_ok, is_true, ok_val, ok_at, ok_rest}
-use Rattle.bsii_format.proofs.Parsers.{number_exact, str_exact}
+use Rattle.bsii_format.proofs.Readers.{after_ok, cond_ok, map_ok, is_true, ok_val, ok_at, ok_rest}
+use Rattle.bsii_format.proofs.Parsers.{number_exact}
 use Rattle.bsii_format.proofs.Positions.{moved}
-use Rattle.bsii_format.proofs.Follows.{Follows, Same, again, itself}
+use Rattle.bsii_format.proofs.Follows.{again}
 use Rattle.bsii_string.specs.Answers.{unchecked_str}
-use Rattle.bsii_string.proofs.Unchecked.{str_follows, unchecked_str_exact}
+use Rattle.bsii_prototype.specs.Strings.{Text}
 
 pub record Front (w at : ℕ) (s : List ℕ) (v : List ℕ) (n : ℕ) (r : List ℕ) : Type 0 where
   pub whole : w ≤ length s
@@ -44,16 +43,6 @@ bytes_join m w at s {n = n} {t = t} {r = r} f g =
     rw (is_true (leb (m + w) (length s)) (le→leb (m + w) (length s) b), p, d)
 
 -- ---- a reader of strings: what it accepts, `unchecked_str` reads
-
-pub record Text (S : Reader (List ℕ)) : Type 0 where
-  pub exact : Exact (List ℕ) S
-  pub follows : Follows Same S unchecked_str
-
-pub checked : Text str_parser
-checked = record { exact = str_exact; follows = str_follows }
-
-pub unchecked : Text unchecked_str
-unchecked = record { exact = unchecked_str_exact; follows = itself unchecked_str }
 
 -- the string v, read at `at`, lies from at + 4 to n
 pub record Named (s : List ℕ) (at : ℕ) (v : List ℕ) (n : ℕ) (r : List ℕ) : Type 0 where

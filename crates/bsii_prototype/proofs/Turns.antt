@@ -20,11 +20,13 @@ use Rattle.bsii_string.specs.Answers.{unchecked_str}
 use Rattle.bsii_string.specs.declared.answers.Refusal.{Refusal}
 use Rattle.bsii_prototype.specs.Entries.{enum_values_with, definition_with, entry_with, fields_with}
 use Rattle.bsii_prototype.specs.Answers.{entry_of, count_of}
-use Rattle.bsii_prototype.specs.declared.answers.Entry.TheVariants.{Field, Last, Bad}
+use Rattle.bsii_prototype.specs.declared.answers.Entry.TheVariants.{Field, Last}
 use Rattle.bsii_prototype.proofs.Unchecked.{entry_follows, fields_follow, checked_entry, checked_enum_values, checked_fields}
-use Rattle.bsii_prototype.proofs.Names.{named, checked, number_front}
+use Rattle.bsii_prototype.proofs.Names.{named, number_front}
+use Rattle.bsii_prototype.specs.Strings.{checked}
 use Rattle.bsii_prototype.proofs.Entries.{field≢last, field≢bad, last≢bad, entry_none}
 use Rattle.bsii_prototype.proofs.Lists.{fields_last, fields_more, fields_bad}
+use Rattle.std.specs.Prelude.{Ok, Err}
 
 -- every entry has bytes of its own, inside the file
 pub entry_moves : (s : List ℕ) (at : ℕ) {o : Option ValuePrototype} {n : ℕ} {r : List ℕ} → value_prototype_parser at (drop at s) ≡ ok o n r → (at < n) × (n ≤ length s)
@@ -133,14 +135,14 @@ module _ (s : List ℕ) (at : ℕ) {l : Fields} {n : ℕ} {r : List ℕ} (read :
       → entry_of (at + 8) (entry_with unchecked_str at (drop at s)) ≡ entry_of (at + 8) (ok o i q)
   unchecked_entry e = ap (entry_of (at + 8)) (again entry_follows at (drop at s) e)
 
-  pub turn_field : {t a b next : ℕ} → Field t a b next ≡ entry_of (at + 8) (entry_with unchecked_str at (drop at s)) → FieldTurn s at t a b next l n r
+  pub turn_field : {t a b next : ℕ} → Ok (Field t a b next) ≡ entry_of (at + 8) (entry_with unchecked_str at (drop at s)) → FieldTurn s at t a b next l n r
   unfolding entry_of cons_field
   turn_field {t} {a} {b} {next} e = go (turn s at read)
     where
       go : Turn s at l n r → FieldTurn s at t a b next l n r
       go (done f g) = field≢last (e ∙ unchecked_entry f)
       go (step d i m f g h) =
-          let z : Field t a b next ≡ Field d.type_id (at + 8) (at + 8 + length d.name) i = e ∙ unchecked_entry f in
+          let z : Ok (Field t a b next) ≡ Ok (Field d.type_id (at + 8) (at + 8 + length d.name) i) = e ∙ unchecked_entry f in
           let p = defined s at f in
           let ti : t ≡ d.type_id = cc in
           let ai : a ≡ at + 8 = cc in
@@ -161,16 +163,16 @@ module _ (s : List ℕ) (at : ℕ) {l : Fields} {n : ℕ} {r : List ℕ} (read :
             inside = p.inside;
           })
 
-  pub turn_last : {next : ℕ} → Last next ≡ entry_of (at + 8) (entry_with unchecked_str at (drop at s)) → (l.fields ≡ []) × (next ≡ n)
+  pub turn_last : {next : ℕ} → Ok (Last next) ≡ entry_of (at + 8) (entry_with unchecked_str at (drop at s)) → (l.fields ≡ []) × (next ≡ n)
   unfolding entry_of
   turn_last {next} e = go (turn s at read)
     where
       go : Turn s at l n r → (l.fields ≡ []) × (next ≡ n)
-      go (done f g) = let z : Last next ≡ Last n = e ∙ unchecked_entry f in (g, cc)
+      go (done f g) = let z : Ok (Last next) ≡ Ok (Last n) = e ∙ unchecked_entry f in (g, cc)
       go (step d i m f g h) = field≢last (sym (e ∙ unchecked_entry f))
 
   -- with no field there, the list is at its end
-  pub turn_none : ((t a b i : ℕ) → Field t a b i ≡ entry_of (at + 8) (entry_with unchecked_str at (drop at s)) → ⊥) → l.fields ≡ []
+  pub turn_none : ((t a b i : ℕ) → Ok (Field t a b i) ≡ entry_of (at + 8) (entry_with unchecked_str at (drop at s)) → ⊥) → l.fields ≡ []
   unfolding entry_of
   turn_none h = go (turn s at read)
     where
@@ -179,7 +181,7 @@ module _ (s : List ℕ) (at : ℕ) {l : Fields} {n : ℕ} {r : List ℕ} (read :
       go (step d i m f g k) = absurd (h d.type_id (at + 8) (at + 8 + length d.name) i (sym (unchecked_entry f)))
 
   -- what was accepted is not refused
-  pub turn_bad : {P : Type 0} {f : Refusal} → Bad f ≡ entry_of (at + 8) (entry_with unchecked_str at (drop at s)) → P
+  pub turn_bad : {P : Type 0} {f : Refusal} → Err f ≡ entry_of (at + 8) (entry_with unchecked_str at (drop at s)) → P
   unfolding entry_of
   turn_bad {P} e = go (turn s at read)
     where

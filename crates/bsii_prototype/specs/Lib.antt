@@ -2,3 +2,4 @@
 pub mod Entries
 pub mod Answers
 pub mod Accepted
+pub mod Strings

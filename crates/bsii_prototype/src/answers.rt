@@ -1,5 +1,4 @@
 // What the readers answer: specs/Answers says what each case means.
-use bsii_string::answers::Refusal;
 
 // How far behind a prototype's offset its name's bytes start: record number, mark, id and the name's length stand in front of them.
 pub const NAME: usize = 13;
@@ -14,14 +13,13 @@ pub enum Entry {
         next: usize,
     },
     Last(usize),
-    Bad(Refusal),
 }
 
 // A whole list of field definitions: how many, and the position behind its end.
-#[derive(Drop)]
-pub enum Counted {
-    Fields { count: usize, next: usize },
-    Fault(Refusal),
+#[derive(Clone, Copy)]
+pub struct Counted {
+    pub count: usize,
+    pub next: usize,
 }
 
 // How a record begins. A prototype's name lies from name to next, where its field definitions start.
@@ -30,12 +28,4 @@ pub enum Head {
     End(usize),
     Prototype { id: u32, name: usize, next: usize },
     Block { id: u32, next: usize },
-    BadHead(Refusal),
-}
-
-// The records of a file start at 8.
-#[derive(Drop)]
-pub enum Header {
-    Version(u32),
-    BadHeader(Refusal),
 }

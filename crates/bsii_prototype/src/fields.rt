@@ -1,105 +1,84 @@
-// Field definitions, checked.
+// Field definitions, by any way to pass their strings.
 ghost use Rattle.std.specs.Prelude.{◌≡◌, ◌+◌, drop};
-ghost use Rattle.bsii_format.specs.Reader.{repeat};
-ghost use Rattle.bsii_format.specs.Strings.{str_parser};
-ghost use Rattle.bsii_format.specs.Prototypes.{enum_value_parser, enum_values_parser, value_prototype_parser, fields_parser};
+ghost use Rattle.bsii_format.specs.Prototypes.{EnumValue as EnumValueRead, fields_parser};
 ghost use Rattle.bsii_string.specs.Answers.{end_of};
-ghost use Rattle.bsii_prototype.specs.Entries.{definition_with};
+ghost use Rattle.bsii_prototype.specs.Entries.{enum_value_with, enum_values_with, definition_with, entry_with, fields_with};
+ghost use Rattle.bsii_prototype.specs.Strings.{pair_exact};
 ghost use Rattle.bsii_prototype.specs.Answers.{entry_of, count_of};
 
 use crate::answers::{Counted, Entry};
-use bsii_string::answers::{Num, Parsed};
+use crate::strings::{Checked, Strings};
+use bsii_string::answers::Refusal;
 use bsii_string::numbers::le_u32;
-use bsii_string::strings::str_end;
+use bsii_string::rows::{Item, row_end};
+use std::marker::PhantomData;
 
-pub fn enum_value_parser(s: &[u8], at: usize) -> Parsed
-    ensures { result ≡ end_of (enum_value_parser at (drop at s.now)) }
+pub fn enum_value_with<S: Strings>(s: &[u8], at: usize) -> Result<usize, Refusal>
+    ensures { result ≡ end_of (enum_value_with S.reader at (drop at s.now)) }
 {
-    let value = le_u32(s, at);
-    match value {
-        Num::Short(f) => Parsed::Fault(f),
-        Num::Got(_, next) => str_end(s, next),
-    }
+    let (_, next) = le_u32(s, at)?;
+    S::end(s, next)
 }
 
-fn enum_list(s: &[u8], start: usize, count: u32) -> Parsed
-    ensures { result ≡ end_of (repeat count enum_value_parser start (drop start s.now)) }
-{
-    let mut left = count;
-    let mut at = start;
-    while 0 < left {
-        let pair = enum_value_parser(s, at);
-        match pair {
-            Parsed::Next(next) => {
-                at = next;
-            }
-            Parsed::Fault(f) => return Parsed::Fault(f),
-        }
-        left -= 1;
+// A pair of an enum list.
+#[derive(Drop)]
+struct EnumValue<S>(PhantomData<S>);
+
+impl<S: Strings> Item for EnumValue<S> {
+    ghost value = { EnumValueRead };
+
+    ghost reader = { λ _. enum_value_with S.reader };
+
+    ghost exact = { λ _. pair_exact S.text.exact };
+
+    fn end(&self, s: &[u8], at: usize) -> Result<usize, Refusal> {
+        enum_value_with::<S>(s, at)
     }
-    Parsed::Next(at)
 }
 
 // Only type 0x37 has an enum list.
-pub fn enum_values_parser(s: &[u8], at: usize, type_id: u32) -> Parsed
-    ensures { result ≡ end_of (enum_values_parser type_id at (drop at s.now)) }
+pub fn enum_values_with<S: Strings>(s: &[u8], at: usize, type_id: u32) -> Result<usize, Refusal>
+    ensures { result ≡ end_of (enum_values_with S.reader type_id at (drop at s.now)) }
 {
     if type_id != 0x37 {
-        return Parsed::Next(at);
+        return Ok(at);
     }
-    let count = le_u32(s, at);
-    match count {
-        Num::Short(f) => Parsed::Fault(f),
-        Num::Got(n, next) => enum_list(s, next, n),
-    }
+    let (n, next) = le_u32(s, at)?;
+    row_end(&EnumValue::<S>(PhantomData), s, next, n)
 }
 
 // What follows a definition's type. The name's bytes start behind its u32 length.
-fn definition_parser(s: &[u8], at: usize, type_id: u32) -> Entry
-    ensures { result ≡ entry_of (at + 4) (definition_with str_parser type_id at (drop at s.now)) }
+fn definition_with<S: Strings>(s: &[u8], at: usize, type_id: u32) -> Result<Entry, Refusal>
+    ensures { result ≡ entry_of (at + 4) (definition_with S.reader type_id at (drop at s.now)) }
 {
-    let string = str_end(s, at);
-    match string {
-        Parsed::Fault(f) => Entry::Bad(f),
-        Parsed::Next(name_end) => {
-            let list = enum_values_parser(s, name_end, type_id);
-            match list {
-                Parsed::Fault(f) => Entry::Bad(f),
-                Parsed::Next(next) => Entry::Field {
-                    type_id,
-                    name: at + 4,
-                    name_end,
-                    next,
-                },
-            }
-        }
-    }
+    let name_end = S::end(s, at)?;
+    let next = enum_values_with::<S>(s, name_end, type_id)?;
+    Ok(Entry::Field {
+        type_id,
+        name: at + 4,
+        name_end,
+        next,
+    })
 }
 
-pub fn value_prototype_parser(s: &[u8], at: usize) -> Entry
-    ensures { result ≡ entry_of (at + 8) (value_prototype_parser at (drop at s.now)) }
+pub fn entry_with<S: Strings>(s: &[u8], at: usize) -> Result<Entry, Refusal>
+    ensures { result ≡ entry_of (at + 8) (entry_with S.reader at (drop at s.now)) }
 {
-    let number = le_u32(s, at);
-    match number {
-        Num::Short(f) => Entry::Bad(f),
-        Num::Got(type_id, next) => {
-            if type_id == 0 {
-                return Entry::Last(next);
-            }
-            definition_parser(s, next, type_id)
-        }
+    let (type_id, next) = le_u32(s, at)?;
+    if type_id == 0 {
+        return Ok(Entry::Last(next));
     }
+    definition_with::<S>(s, next, type_id)
 }
 
 // Each definition has a byte at least, so the count stays below the position.
-pub fn fields_parser(s: &[u8], start: usize) -> Counted
-    ensures { result ≡ count_of (fields_parser start (drop start s.now)) }
+pub fn fields_with<S: Strings>(s: &[u8], start: usize) -> Result<Counted, Refusal>
+    ensures { result ≡ count_of (fields_with S.reader start (drop start s.now)) }
 {
     let mut count: usize = 0;
     let mut at = start;
     loop {
-        let entry = value_prototype_parser(s, at);
-        match entry {
+        match entry_with::<S>(s, at)? {
             Entry::Field {
                 type_id: _,
                 name: _,
@@ -109,8 +88,14 @@ pub fn fields_parser(s: &[u8], start: usize) -> Counted
                 at = next;
                 count += 1;
             }
-            Entry::Last(next) => return Counted::Fields { count, next },
-            Entry::Bad(f) => return Counted::Fault(f),
+            Entry::Last(next) => return Ok(Counted { count, next }),
         }
     }
+}
+
+// Each name is checked.
+pub fn fields_parser(s: &[u8], start: usize) -> Result<Counted, Refusal>
+    ensures { result ≡ count_of (fields_parser start (drop start s.now)) }
+{
+    fields_with::<Checked>(s, start)
 }

@@ -5,8 +5,9 @@ ghost use Rattle.bsii_format.specs.File.{mark_parser, head_parser, header_parser
 ghost use Rattle.bsii_prototype.specs.Answers.{head_is, header_is};
 ghost use Rattle.bsii_prototype.specs.Entries.{marked_parser};
 
-use crate::answers::{Head, Header};
-use bsii_string::answers::{BAD_MARK, INVALID_HEADER, Num, Str, refused};
+use crate::answers::Head;
+use bsii_format::Cause;
+use bsii_string::answers::{Refusal, refused};
 use bsii_string::numbers::{le_u8, le_u32};
 use bsii_string::strings::str_parser;
 
@@ -14,83 +15,51 @@ use bsii_string::strings::str_parser;
 pub fn tag(s: &[u8], c: &[u8]) -> bool
     ensures { result ≡ same (take (length c.now) s.now) c.now }
 {
-    if s.len() < c.len() {
-        return false;
-    }
-    let mut i = 0;
-    while i < c.len() {
-        if s[i] != c[i] {
-            return false;
-        }
-        i += 1;
-    }
-    true
+    s.starts_with(c)
 }
 
-pub fn header_parser(s: &[u8]) -> Header
+// The file's version. Its records start at 8.
+pub fn header_parser(s: &[u8]) -> Result<u32, Refusal>
     ensures { header_is s.now result ≡ header_parser 0 s.now }
 {
     if !tag(s, b"BSII") {
-        return Header::BadHeader(refused(INVALID_HEADER, 0));
+        return Err(refused(Cause::InvalidHeader, 0));
     }
-    let version = le_u32(s, 4);
-    match version {
-        Num::Short(f) => Header::BadHeader(f),
-        Num::Got(v, _) => Header::Version(v),
-    }
+    let (version, _) = le_u32(s, 4)?;
+    Ok(version)
 }
 
 // What follows the byte 1 of a prototype.
-fn defining_parser(s: &[u8], at: usize) -> Head
+fn defining_parser(s: &[u8], at: usize) -> Result<Head, Refusal>
     ensures { head_is s.now result ≡ mark_parser 1 at (drop at s.now) }
 {
-    let number = le_u32(s, at);
-    match number {
-        Num::Short(f) => Head::BadHead(f),
-        Num::Got(id, behind) => {
-            let string = str_parser(s, behind);
-            match string {
-                Str::Text { start, next } => Head::Prototype {
-                    id,
-                    name: start,
-                    next,
-                },
-                Str::Refused(f) => Head::BadHead(f),
-            }
-        }
-    }
+    let (id, behind) = le_u32(s, at)?;
+    let name = str_parser(s, behind)?;
+    Ok(Head::Prototype {
+        id,
+        name: name.start,
+        next: name.next,
+    })
 }
 
 // What follows a record number of zero.
-fn marked_parser(s: &[u8], at: usize) -> Head
+fn marked_parser(s: &[u8], at: usize) -> Result<Head, Refusal>
     ensures { head_is s.now result ≡ marked_parser at (drop at s.now) }
 {
-    let mark = le_u8(s, at);
+    let (mark, next) = le_u8(s, at)?;
     match mark {
-        Num::Short(no_mark) => Head::BadHead(no_mark),
-        Num::Got(m, next) => {
-            if m == 0 {
-                return Head::End(next);
-            }
-            if m == 1 {
-                return defining_parser(s, next);
-            }
-            Head::BadHead(refused(BAD_MARK, at))
-        }
+        0 => Ok(Head::End(next)),
+        1 => defining_parser(s, next),
+        _ => Err(refused(Cause::BadMark, at)),
     }
 }
 
-pub fn head_parser(s: &[u8], at: usize) -> Head
+pub fn head_parser(s: &[u8], at: usize) -> Result<Head, Refusal>
     ensures { head_is s.now result ≡ head_parser at (drop at s.now) }
 {
-    let number = le_u32(s, at);
-    match number {
-        Num::Short(f) => Head::BadHead(f),
-        Num::Got(n, next) => {
-            if n == 0 {
-                return marked_parser(s, next);
-            }
-            Head::Block { id: n, next }
-        }
+    let (id, next) = le_u32(s, at)?;
+    if id == 0 {
+        return marked_parser(s, next);
     }
+    Ok(Head::Block { id, next })
 }

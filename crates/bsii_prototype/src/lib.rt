@@ -9,3 +9,4 @@ pub mod answers;
 pub mod fields;
 pub mod heads;
 pub mod skip;
+pub mod strings;

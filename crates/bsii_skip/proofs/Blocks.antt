@@ -11,7 +11,7 @@ use Rattle.bsii_format.proofs.Parsers.{data_value_exact}
 use Rattle.bsii_format.proofs.Positions.{moved}
 use Rattle.bsii_format.proofs.Follows.{Follows, Any, map_follows, consumed_follows}
 use Rattle.bsii_string.specs.Answers.{end_of}
-use Rattle.bsii_string.specs.declared.answers.Parsed.TheVariants.{Next}
+use Rattle.std.specs.Prelude.{Ok}
 use Rattle.bsii_skip.specs.Unchecked.{unchecked_value}
 use Rattle.bsii_skip.proofs.Values.{next, value_follows}
 
@@ -19,7 +19,7 @@ pub data_value_follows : (version t : ℕ) → Follows Any (data_value_parser ve
 unfolding data_value_parser
 data_value_follows version t = map_follows (consumed_follows (value_follows version t)) (data_value t)
 
-pub data_value_same : (version t at : ℕ) (s : List ℕ) {v : DataValue} {n : ℕ} {r : List ℕ} → data_value_parser version t at s ≡ ok v n r → end_of (unchecked_value version t at s) ≡ Next n
+pub data_value_same : (version t at : ℕ) (s : List ℕ) {v : DataValue} {n : ℕ} {r : List ℕ} → data_value_parser version t at s ≡ ok v n r → end_of (unchecked_value version t at s) ≡ Ok n
 data_value_same version t = next (data_value_follows version t)
 
 -- the values l of the definitions f ∷ fs, read at `at` of the file s: the first one, and the others behind it
@@ -31,7 +31,7 @@ pub record Turn (version : ℕ) (f : Consumed ValuePrototype) (fs : List (Consum
   pub others : data_values_parser version fs end (drop end s) ≡ ok values n r
   pub both : l ≡ value ∷ values
   -- so the walk that checks nothing ends there
-  pub past : end_of (unchecked_value version f.value.type_id at (drop at s)) ≡ Next end
+  pub past : end_of (unchecked_value version f.value.type_id at (drop at s)) ≡ Ok end
 
 pub turn : {version : ℕ} (f : Consumed ValuePrototype) (fs : List (Consumed ValuePrototype)) (s : List ℕ) (at : ℕ) {l : List DataValue} {n : ℕ} {r : List ℕ}
     → data_values_parser version (f ∷ fs) at (drop at s) ≡ ok l n r → Turn version f fs s at l n r

@@ -12,14 +12,14 @@ use Rattle.bsii_format.specs.Types.{width, arity, Kind, numbers, string, encoded
 use Rattle.bsii_format.specs.Values.{Element, nums, str, word, ident, Value, single, array, element_parser, shape_parser, value_parser}
 use Rattle.bsii_format.proofs.Follows.{Follows, Any, ends, itself, map_follows, follows_map, consumed_follows, verify_follows, fail_follows, bind_same, cond_follows, repeat_follows}
 use Rattle.bsii_string.specs.Answers.{end_of, unchecked_str}
-use Rattle.bsii_string.specs.declared.answers.Parsed.TheVariants.{Next}
+use Rattle.std.specs.Prelude.{Ok}
 use Rattle.bsii_string.proofs.Ends.{answer}
 use Rattle.bsii_string.proofs.Unchecked.{str_follows}
 use Rattle.bsii_skip.specs.Unchecked.{skip, unchecked_word, unchecked_id, unchecked_element, unchecked_array, unchecked_shape, unchecked_value}
 
 -- the answer of a walk without the checks
 pub next : {A B : Type 0} {K : A → B → Type 0} {R : Reader A} {S : Reader B} → Follows K R S → (at : ℕ) (s : List ℕ) {v : A} {n : ℕ} {r : List ℕ} → R at s ≡ ok v n r
-    → end_of (S at s) ≡ Next n
+    → end_of (S at s) ≡ Ok n
 unfolding end_of
 next {S = S} h at s {n = n} {r = r} e = sym (answer (S at s) (ok tt n r) (ends h at s e))
 
@@ -56,19 +56,19 @@ value_follows version t = shape_follows (shape_of version t)
 
 -- ---- the answers
 
-pub str_same : (at : ℕ) (s : List ℕ) {v : List ℕ} {n : ℕ} {r : List ℕ} → str_parser at s ≡ ok v n r → end_of (unchecked_str at s) ≡ Next n
+pub str_same : (at : ℕ) (s : List ℕ) {v : List ℕ} {n : ℕ} {r : List ℕ} → str_parser at s ≡ ok v n r → end_of (unchecked_str at s) ≡ Ok n
 str_same = next str_follows
 
-pub id_same : (at : ℕ) (s : List ℕ) {v : Id} {n : ℕ} {r : List ℕ} → id_parser at s ≡ ok v n r → end_of (unchecked_id at s) ≡ Next n
+pub id_same : (at : ℕ) (s : List ℕ) {v : Id} {n : ℕ} {r : List ℕ} → id_parser at s ≡ ok v n r → end_of (unchecked_id at s) ≡ Ok n
 id_same = next id_follows
 
-pub element_same : (k : Kind) (at : ℕ) (s : List ℕ) {v : Element} {n : ℕ} {r : List ℕ} → element_parser k at s ≡ ok v n r → end_of (unchecked_element k at s) ≡ Next n
+pub element_same : (k : Kind) (at : ℕ) (s : List ℕ) {v : Element} {n : ℕ} {r : List ℕ} → element_parser k at s ≡ ok v n r → end_of (unchecked_element k at s) ≡ Ok n
 element_same k = next (element_follows k)
 
 pub elements_same : (k : Kind) (m at : ℕ) (s : List ℕ) {v : List Element} {n : ℕ} {r : List ℕ} → repeat m (element_parser k) at s ≡ ok v n r
-    → end_of (repeat m (unchecked_element k) at s) ≡ Next n
+    → end_of (repeat m (unchecked_element k) at s) ≡ Ok n
 elements_same k m = next (repeat_follows m (element_follows k))
 
 pub value_same : (version t at : ℕ) (s : List ℕ) {v : Value} {n : ℕ} {r : List ℕ} → value_parser version t at s ≡ ok v n r
-    → end_of (unchecked_value version t at s) ≡ Next n
+    → end_of (unchecked_value version t at s) ≡ Ok n
 value_same version t = next (value_follows version t)

@@ -1,2 +1,3 @@
 -- What is passed without a check.
 pub mod Unchecked
+pub mod Exact

@@ -6,35 +6,32 @@
 #![tactic(auto)]
 
 ghost use Rattle.std.specs.Prelude.{◌≡◌, drop};
-ghost use Rattle.bsii_format.specs.Replies.{unlisted_type};
 ghost use Rattle.bsii_format.specs.Reader.{repeat};
-ghost use Rattle.bsii_string.specs.Answers.{refused_at, end_of};
+ghost use Rattle.bsii_string.specs.Answers.{end_of};
 ghost use Rattle.bsii_value.specs.Kinds.{kind_is};
 ghost use Rattle.bsii_skip.specs.Unchecked.{unchecked_id, unchecked_element, unchecked_value};
+ghost use Rattle.bsii_skip.specs.Exact.{unchecked_element_exact};
 
-use bsii_string::answers::{Num, Parsed, UNLISTED_TYPE, refused};
+use bsii_format::Cause;
+use bsii_string::answers::{Refusal, refused};
 use bsii_string::numbers::{le_u8, le_u32, size};
+use bsii_string::rows::{Item, row_end};
 use bsii_string::strings::skip_str;
 use bsii_value::types::{Kind, Shape, arity, shape_of, width};
 use bsii_value::values::{numbers_end, numeric_end};
 
-pub fn skip_id(s: &[u8], at: usize) -> Parsed
+pub fn skip_id(s: &[u8], at: usize) -> Result<usize, Refusal>
     ensures { result ≡ end_of (unchecked_id at (drop at s.now)) }
 {
-    let count = le_u8(s, at);
-    match count {
-        Num::Short(f) => Parsed::Fault(f),
-        Num::Got(n, next) => {
-            if n == 0xff {
-                return numbers_end(s, next, 1, 8);
-            }
-            numbers_end(s, next, size(n), 8)
-        }
+    let (n, next) = le_u8(s, at)?;
+    if n == 0xff {
+        return numbers_end(s, next, 1, 8);
     }
+    numbers_end(s, next, size(n), 8)
 }
 
 // Numbers have nothing to check: their reader is the format's own.
-pub fn skip_element(s: &[u8], at: usize, kind: Kind) -> Parsed
+pub fn skip_element(s: &[u8], at: usize, kind: Kind) -> Result<usize, Refusal>
     ensures { result ≡ end_of (unchecked_element (kind_is kind) at (drop at s.now)) }
 {
     match kind {
@@ -45,57 +42,46 @@ pub fn skip_element(s: &[u8], at: usize, kind: Kind) -> Parsed
     }
 }
 
-// One element after the other, for kinds whose elements have no common length.
-fn skip_each(s: &[u8], start: usize, count: u32, kind: Kind) -> Parsed
-    ensures { result ≡ end_of (repeat count (unchecked_element (kind_is kind)) start (drop start s.now)) }
-{
-    let mut left = count;
-    let mut at = start;
-    while 0 < left {
-        let element = skip_element(s, at, kind);
-        match element {
-            Parsed::Next(next) => {
-                at = next;
-            }
-            Parsed::Fault(f) => return Parsed::Fault(f),
-        }
-        left -= 1;
+// An element of a row, for kinds whose elements have no common length.
+#[derive(Drop)]
+struct Element(Kind);
+
+impl Item for Element {
+    ghost value = { Unit {0} };
+
+    ghost reader = { λ e. unchecked_element (kind_is e.0) };
+
+    ghost exact = { λ e. unchecked_element_exact (kind_is e.0) };
+
+    fn end(&self, s: &[u8], at: usize) -> Result<usize, Refusal> {
+        skip_element(s, at, self.0)
     }
-    Parsed::Next(at)
 }
 
 // Numbers and words have one length each, so a product passes a row of them.
-pub fn skip_elements(s: &[u8], at: usize, count: u32, kind: Kind) -> Parsed
+pub fn skip_elements(s: &[u8], at: usize, count: u32, kind: Kind) -> Result<usize, Refusal>
     ensures { result ≡ end_of (repeat count (unchecked_element (kind_is kind)) at (drop at s.now)) }
 {
     match kind {
         Kind::Numbers(n) => numbers_end(s, at, size(count) * size(arity(n)), width(n)),
         Kind::EncodedString => numbers_end(s, at, size(count), 8),
-        _ => skip_each(s, at, count, kind),
+        _ => row_end(&Element(kind), s, at, count),
     }
 }
 
-// A type that is not listed has no length that could be guessed.
-fn unlisted(offset: usize) -> Parsed
-    ensures { result ≡ Parsed.Fault (refused_at unlisted_type offset) }
-{
-    Parsed::Fault(refused(UNLISTED_TYPE, offset))
-}
-
-// An array's count is read here and not in a function of its own: so this one stays short enough to be compiled into its callers.
-pub fn skip_value(s: &[u8], at: usize, version: u32, type_id: u32) -> Parsed
+// An array's count is read here and not in a function of its own: so this one stays short enough to be compiled into its callers. A type that is not
+// listed has no length that could be guessed.
+pub fn skip_value(s: &[u8], at: usize, version: u32, type_id: u32) -> Result<usize, Refusal>
     ensures { result ≡ end_of (unchecked_value version type_id at (drop at s.now)) }
 {
-    let shape = shape_of(version, type_id);
+    let Some(shape) = shape_of(version, type_id) else {
+        return Err(refused(Cause::UnlistedType, at));
+    };
     match shape {
         Shape::One(kind) => skip_element(s, at, kind),
         Shape::Many(kind) => {
-            let count = le_u32(s, at);
-            match count {
-                Num::Short(f) => Parsed::Fault(f),
-                Num::Got(n, next) => skip_elements(s, next, n, kind),
-            }
+            let (n, next) = le_u32(s, at)?;
+            skip_elements(s, next, n, kind)
         }
-        Shape::Unlisted => unlisted(at),
     }
 }

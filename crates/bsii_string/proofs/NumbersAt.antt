@@ -1,5 +1,5 @@
 -- The numbers at a position: what a row that is read holds, and where each stands.
-use mathlib.Core.Path.{◌≡◌, refl, sym, ap, ap₂, ◌∙◌}
+use mathlib.Core.Path.{◌≡◌, sym, ap, ap₂, ◌∙◌}
 use Prim.Native.Nat.{ℕ, zero, suc, ◌+◌, ◌*◌, ◌<◌}
 use native.Mathlib.Nat.{zero-mul, suc-mul}
 use native.Mathlib.Omega.{arith}
@@ -12,14 +12,16 @@ use Rattle.bsii_format.specs.Numbers.{little_endian, number}
 use Rattle.bsii_format.proofs.Readers.{repeat_exact, after_ok, map_ok, cond_ok, ok_val, ok_at, ok_rest}
 use Rattle.bsii_format.proofs.Parsers.{number_exact}
 use Rattle.bsii_string.specs.Answers.{num_of}
-use Rattle.bsii_string.specs.declared.answers.Num.{Num}
-use Rattle.bsii_string.specs.declared.answers.Num.TheVariants.{Got, Short}
-use Rattle.bsii_string.specs.NumbersAt.{num_is, or_zero, number_at, numbers_at}
+use Rattle.bsii_string.specs.NumbersAt.{or_zero, number_at, numbers_at}
+use Rattle.bsii_string.specs.declared.answers.Refusal.{Refusal}
+use Rattle.std.specs.Result.{MatchResult}
+use Rattle.std.specs.Prelude.{Ok, Err, Result as Outcome}
 
-pub value_of : (s : List ℕ) (n : Num) → num_is n ≡ or_zero (num_of s n)
+pub value_of : (s : List ℕ) (n : Outcome (ℕ × ℕ) Refusal) {v : ℕ} {Gives : ℕ × ℕ → Type 0} → MatchResult n Gives (λ _. v ≡ 0)
+    → ((x : ℕ × ℕ) → Gives x → v ≡ x.0) → v ≡ or_zero (num_of s n)
 unfolding or_zero
-value_of s (Got v next) = refl
-value_of s (Short at) = refl
+value_of s (Ok x) e g = g x e
+value_of s (Err f) e g = e
 
 -- ---- rows of any reader
 

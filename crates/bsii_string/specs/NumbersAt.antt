@@ -2,12 +2,6 @@
 use Rattle.std.specs.Prelude.{ℕ, zero, suc, ◌+◌, List, [], ◌∷◌, drop}
 use Rattle.bsii_format.specs.Reader.{Result, ok, fault}
 use Rattle.bsii_format.specs.Numbers.{number}
-use Rattle.bsii_string.specs.declared.answers.Num.{Num}
-use Rattle.bsii_string.specs.declared.answers.Num.TheVariants.{Got, Short}
-
-abbrev pub num_is : Num → ℕ
-num_is (Got v next) = v
-num_is (Short at) = 0
 
 -- a number that is read, and 0 for a fault
 unfoldable pub or_zero : Result ℕ → ℕ

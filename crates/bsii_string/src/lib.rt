@@ -7,5 +7,6 @@
 pub mod answers;
 pub mod at;
 pub mod numbers;
+pub mod rows;
 pub mod strings;
 pub mod utf8;

@@ -1,23 +1,12 @@
-// Little-endian numbers.
-ghost use Rattle.std.specs.Prelude.{◌≡◌, ◌+◌, ◌-◌, ◌≤◌, ◌<◌, length, take, drop};
+// Little-endian numbers. Each width is a function of two or three lines, so one over all widths would be no plainer.
+ghost use Rattle.std.specs.Prelude.{◌≡◌, ◌+◌, ◌-◌, ◌≤◌, length, take, drop};
+ghost use Rattle.bsii_format.specs.Reader.{bytes};
 ghost use Rattle.bsii_format.specs.Numbers.{little_endian, number};
-ghost use Rattle.bsii_string.specs.Answers.{num_of, num_of64};
+ghost use Rattle.bsii_string.specs.Answers.{end_of, num_of};
 
-use crate::answers::{Num, Num64, short};
+use crate::answers::{Read, Refusal, short};
 
-// The bound is what keeps the sums below from wrapping.
-fn wide(x: u8) -> u32
-    ensures { (result ≡ x) × (result < 256) }
-{
-    x as u32
-}
-
-fn wide64(x: u32) -> u64
-    ensures { (result ≡ x) × (result < 0x1_0000_0000) }
-{
-    x as u64
-}
-
+// A cast: std's From<u32> has no usize, and TryFrom would be no plainer.
 pub fn size(x: u32) -> usize
     ensures { result ≡ x }
 {
@@ -28,17 +17,25 @@ pub fn size(x: u32) -> usize
 pub fn left(s: &[u8], at: usize) -> usize
     ensures { result ≡ length s.now - at }
 {
-    if at < s.len() { s.len() - at } else { 0 }
+    s.len().saturating_sub(at)
 }
 
-pub fn le_u8(s: &[u8], at: usize) -> Num
-    ensures { num_of s.now result ≡ number 1 at (drop at s.now) }
+// Where so many bytes from a position on end.
+pub fn bytes_end(s: &[u8], at: usize, count: u32) -> Result<usize, Refusal>
+    ensures { result ≡ end_of (bytes count at (drop at s.now)) }
 {
     let rest = left(s, at);
-    if rest < 1 {
-        return Num::Short(short(at, 1, rest));
+    if rest < size(count) {
+        return Err(short(at, count, rest));
     }
-    Num::Got(wide(s[at]), at + 1)
+    Ok(at + size(count))
+}
+
+pub fn le_u8(s: &[u8], at: usize) -> Read<u32>
+    ensures { num_of s.now result ≡ number 1 at (drop at s.now) }
+{
+    let next = bytes_end(s, at, 1)?;
+    Ok((u32::from(s[at]), next))
 }
 
 // Four bytes that are there.
@@ -46,31 +43,21 @@ pub fn quad(s: &[u8], at: usize) -> u32
     requires { at + 4 ≤ length s.now }
     ensures { result ≡ little_endian (take 4 (drop at s.now)) }
 {
-    let a = wide(s[at]);
-    let b = wide(s[at + 1]);
-    let c = wide(s[at + 2]);
-    let d = wide(s[at + 3]);
-    a + b * 0x100 + c * 0x1_0000 + d * 0x100_0000
+    u32::from_le_bytes([s[at], s[at + 1], s[at + 2], s[at + 3]])
 }
 
-pub fn le_u32(s: &[u8], at: usize) -> Num
+pub fn le_u32(s: &[u8], at: usize) -> Read<u32>
     ensures { num_of s.now result ≡ number 4 at (drop at s.now) }
 {
-    let rest = left(s, at);
-    if rest < 4 {
-        return Num::Short(short(at, 4, rest));
-    }
-    Num::Got(quad(s, at), at + 4)
+    let next = bytes_end(s, at, 4)?;
+    Ok((quad(s, at), next))
 }
 
-pub fn le_u64(s: &[u8], at: usize) -> Num64
-    ensures { num_of64 s.now result ≡ number 8 at (drop at s.now) }
+pub fn le_u64(s: &[u8], at: usize) -> Read<u64>
+    ensures { num_of s.now result ≡ number 8 at (drop at s.now) }
 {
-    let rest = left(s, at);
-    if rest < 8 {
-        return Num64::Short64(short(at, 8, rest));
-    }
-    let low = wide64(quad(s, at));
-    let high = wide64(quad(s, at + 4));
-    Num64::Got64(low + high * 0x1_0000_0000, at + 8)
+    let next = bytes_end(s, at, 8)?;
+    let low = u64::from(quad(s, at));
+    let high = u64::from(quad(s, at + 4));
+    Ok((low + high * 0x1_0000_0000, next))
 }

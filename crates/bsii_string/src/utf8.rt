@@ -1,5 +1,5 @@
 // UTF-8, one byte after the other.
-ghost use Rattle.std.specs.Prelude.{◌≡◌, cond, drop};
+ghost use Rattle.std.specs.Prelude.{◌≡◌, ◌≤◌, cond, length, drop};
 ghost use Rattle.std.proofs.Math.Option.{none};
 ghost use Rattle.bsii_format.specs.Utf8.{◌to◌, within, table3_7, trail_of, step as step_of, complete as completeOf, utf8};
 ghost use Rattle.bsii_string.specs.States.{to_come};
@@ -88,35 +88,25 @@ fn step(state: State, byte: u8) -> State
 fn complete(state: State) -> bool
     ensures { result ≡ completeOf (to_come state) }
 {
-    if let State::Between = state {
-        true
-    } else {
-        false
-    }
+    matches!(state, State::Between)
 }
 
 // Where the run of ASCII at the front ends: each of its bytes is a sequence, so what is left decides. Most strings are such a run.
 fn ascii_end(part: &[u8]) -> usize
-    ensures { utf8 (drop result part.now) ≡ utf8 part.now }
+    ensures rest { utf8 (drop result part.now) ≡ utf8 part.now }
+    ensures inside { result ≤ length part.now }
 {
-    let mut i = 0;
-    while i < part.len() {
-        if 0x7f < part[i] {
-            return i;
-        }
-        i += 1;
-    }
-    i
+    part.iter()
+        .position(|byte| 0x7f < *byte)
+        .unwrap_or(part.len())
 }
 
 pub fn is_utf8(part: &[u8]) -> bool
     ensures { result ≡ utf8 part.now }
 {
     let mut state = State::Between;
-    let mut i = ascii_end(part);
-    while i < part.len() {
-        state = step(state, part[i]);
-        i += 1;
+    for byte in &part[ascii_end(part)..] {
+        state = step(state, *byte);
     }
     complete(state)
 }

@@ -1,25 +1,20 @@
 -- The laws of what the functions write, by the position that `locate` answered.
-use Prim.Native.Nat.{ℕ, ◌+◌, ◌*◌, ◌≤◌, ◌<◌}
+use Prim.Native.Nat.{ℕ, ◌+◌, ◌*◌, ◌<◌}
 use native.Mathlib.Decide.{ℕ_discrete}
 use native.Mathlib.Omega.{arith}
 use mathlib.Core.Path.{◌≡◌, refl, sym, ap, ap₂, ◌∙◌, subst}
 use mathlib.Core.Bool.{cond}
 use mathlib.Core.Option.{Option, none, some, map}
-use mathlib.Core.List.{List, ◌++◌, append-nil}
-use lib.ListN.{length, get_or, set, length-set, drop, replicate}
-use lib.Seq.{drop-length, get_or-set_same, get_or-set_other}
+use mathlib.Core.List.{List}
+use lib.ListN.{length, get_or, set, length-set}
+use lib.Seq.{get_or-set_same, get_or-set_other}
 use lib.Dec.{eqb}
 use borrow.Author.Tests.{eq-eqb, ne_eqb}
+use Rattle.std.specs.Prelude.{Some, None, Option as Answer}
 use Rattle.bsii_table.specs.Rows.{Row, offsets, id_at, row_at, lookup, Rows}
 use Rattle.bsii_table.specs.Table.{Locate, with_in_force, Enters}
-use Rattle.bsii_table.specs.declared.Slot.{Slot}
-use Rattle.bsii_table.specs.declared.Slot.TheVariants as slot
 use Rattle.bsii_table.proofs.Lookups.{finds, misses, replaced}
 use Rattle.bsii_table.proofs.Search.{rows_once}
-
--- all of a table is filled
-pub filled : (i : ℕ) (t : List ℕ) → i ≡ length t → replicate i 0 ++ drop i t ≡ replicate (length t) 0
-filled i t e = rw (e, drop-length) (append-nil (replicate (length t) 0))
 
 module _ {t : List ℕ} {rows : ℕ} (h : Rows t rows) where
   row_finds : {id : ℕ} (i : ℕ) → i < rows → id_at t i ≡ id → lookup t rows id ≡ some (row_at t i)
@@ -66,14 +61,10 @@ module _ {t : List ℕ} {rows : ℕ} (h : Rows t rows) where
       looks x (yes y) = rw (eq-eqb x id y, none_there) (ap (lookup t rows) y ∙ none_there)
       looks x (no n) = rw (ne_eqb x id n)
 
-module _ {t : List ℕ} {rows : ℕ} (h : Rows t rows) (id : ℕ) {s : Slot} where
-  module _ {at : ℕ} (e : s ≡ slot.Row at) (l : Locate t rows id s) where
-    row : Locate t rows id (slot.Row at)
+module _ {t : List ℕ} {rows : ℕ} (h : Rows t rows) (id : ℕ) {s : Answer ℕ} where
+  module _ {at : ℕ} (e : s ≡ Some at) (l : Locate t rows id s) where
+    row : Locate t rows id (Some at)
     row = subst (Locate t rows id) e l
-
-    -- a row's words are in the table
-    pub row_ends : at + 3 ≤ length t
-    row_ends = omega (arith, h.room, row.1, row.2)
 
     pub row_found : some (offsets (get_or t (at + 1) 0) (get_or t (at + 2) 0)) ≡ lookup t rows id
     row_found = rw row.2 (sym (row_finds h row.0 row.1 row.3))
@@ -81,8 +72,8 @@ module _ {t : List ℕ} {rows : ℕ} (h : Rows t rows) (id : ℕ) {s : Slot} whe
     pub row_entered : (o : ℕ) → Enters t rows id o (set t (at + 1) o)
     row_entered o = rw row.2 (enters h o row.0 row.1 row.3)
 
-  module _ (e : s ≡ slot.Missing) (l : Locate t rows id s) where
-    missing : Locate t rows id slot.Missing
+  module _ (e : s ≡ None) (l : Locate t rows id s) where
+    missing : Locate t rows id None
     missing = subst (Locate t rows id) e l
 
     pub missing_found : lookup t rows id ≡ none

@@ -6,28 +6,30 @@ use mathlib.Core.Option.{Option, none, some, map}
 use mathlib.Core.List.{List, [], ◌∷◌}
 use lib.Dec.{eqb}
 use borrow.Author.Tests.{eqb-true}
+use Rattle.std.specs.Prelude.{Some, None, Option as Answer}
 use Rattle.bsii_format.specs.Prototypes.{Prototype}
 use Rattle.bsii_format.specs.Blocks.{find_by, get_prototype}
 use Rattle.bsii_format.specs.File.{Record, prototype, block, define, define_all}
 use Rattle.bsii_table.specs.Rows.{Row, offsets, lookup}
 use Rattle.bsii_table.specs.Table.{found_row, with_in_force, Enters}
 use Rattle.bsii_table.specs.Relation.{Matches, Represents, Holds, InForce, Follows, Entered}
-use Rattle.bsii_table.specs.declared.FoundRow.{FoundRow}
-use Rattle.bsii_table.specs.declared.FoundRow.TheVariants as found
+use Rattle.bsii_table.specs.declared.Row.{Row as FoundRow}
 
 module _ (At : ℕ → Prototype → Type 0) where
   -- ---- the definitions so far
 
-  module _ {Valid : Type 0} {look : ℕ → Option Row} {rows : ℕ} {env : List Prototype} (h : Represents At Valid look rows env) (id : ℕ) {r : FoundRow} where
+  module _ {Valid : Type 0} {look : ℕ → Option Row} {rows : ℕ} {env : List Prototype} (h : Represents At Valid look rows env) (id : ℕ) {r : Answer FoundRow} where
     -- what `find` answered, as a definition
-    pub found_at : {a b : ℕ} → r ≡ found.At a b → found_row r ≡ look id → (p : Prototype) × (get_prototype id env ≡ some p) × At a p × At b p
-    found_at {a} {b} q f = go (get_prototype id env) refl (subst (Matches At (get_prototype id env)) (sym f ∙ ap found_row q) (h.each id))
+    pub found_at : {x : FoundRow} → r ≡ Some x → found_row r ≡ look id
+        → (p : Prototype) × (get_prototype id env ≡ some p) × At x.in_force p × At x.last p
+    found_at {x} q f = go (get_prototype id env) refl (subst (Matches At (get_prototype id env)) (sym f ∙ ap found_row q) (h.each id))
       where
-        go : (o : Option Prototype) → get_prototype id env ≡ o → Matches At o (some (offsets a b)) → (p : Prototype) × (get_prototype id env ≡ some p) × At a p × At b p
+        go : (o : Option Prototype) → get_prototype id env ≡ o → Matches At o (some (offsets x.in_force x.last))
+            → (p : Prototype) × (get_prototype id env ≡ some p) × At x.in_force p × At x.last p
         go none e m = absurd m
         go (some p) e m = (p, e, m.0, m.1)
 
-    pub found_nothing : r ≡ found.Nothing → found_row r ≡ look id → get_prototype id env ≡ none
+    pub found_nothing : r ≡ None → found_row r ≡ look id → get_prototype id env ≡ none
     found_nothing q f = go (get_prototype id env) (subst (Matches At (get_prototype id env)) (sym f ∙ ap found_row q) (h.each id))
       where
         go : (o : Option Prototype) → Matches At o none → o ≡ none
@@ -83,18 +85,18 @@ module _ (At : ℕ → Prototype → Type 0) where
       go n false q = h.each n
 
   -- `find` in the walk: the last definition, and the one in force
-  pub entered_at : {t : List ℕ} {rows : ℕ} {env last : List Prototype} → Entered At t rows env last → (id : ℕ) {r : FoundRow} {a b : ℕ} → r ≡ found.At a b
+  pub entered_at : {t : List ℕ} {rows : ℕ} {env last : List Prototype} → Entered At t rows env last → (id : ℕ) {r : Answer FoundRow} {x : FoundRow} → r ≡ Some x
       → found_row r ≡ lookup t rows id
-      → (q : Prototype) × (get_prototype id last ≡ some q) × At b q × ((p : Prototype) → get_prototype id env ≡ some p → At a p)
-  entered_at {t} {rows} {env} {last} h id {r} {a} {b} q f =
+      → (q : Prototype) × (get_prototype id last ≡ some q) × At x.last q × ((p : Prototype) → get_prototype id env ≡ some p → At x.in_force p)
+  entered_at {t} {rows} {env} {last} h id {r} {x} q f =
       go (get_prototype id last) refl (subst (Follows At (get_prototype id env) (get_prototype id last)) (sym f ∙ ap found_row q) (h.each id))
     where
-      go : (o : Option Prototype) → get_prototype id last ≡ o → Follows At (get_prototype id env) o (some (offsets a b))
-          → (q : Prototype) × (get_prototype id last ≡ some q) × At b q × ((p : Prototype) → get_prototype id env ≡ some p → At a p)
+      go : (o : Option Prototype) → get_prototype id last ≡ o → Follows At (get_prototype id env) o (some (offsets x.in_force x.last))
+          → (q : Prototype) × (get_prototype id last ≡ some q) × At x.last q × ((p : Prototype) → get_prototype id env ≡ some p → At x.in_force p)
       go none e m = absurd m
-      go (some q) e m = (q, e, m.0, λ p z. subst (λ (o : Option Prototype). InForce At o (offsets a b)) z m.1)
+      go (some q) e m = (q, e, m.0, λ p z. subst (λ (o : Option Prototype). InForce At o (offsets x.in_force x.last)) z m.1)
 
-  pub entered_nothing : {t : List ℕ} {rows : ℕ} {env last : List Prototype} → Entered At t rows env last → (id : ℕ) {r : FoundRow} → r ≡ found.Nothing
+  pub entered_nothing : {t : List ℕ} {rows : ℕ} {env last : List Prototype} → Entered At t rows env last → (id : ℕ) {r : Answer FoundRow} → r ≡ None
       → found_row r ≡ lookup t rows id → get_prototype id last ≡ none
   entered_nothing {t} {rows} {env} {last} h id {r} q f =
       go (get_prototype id last) (subst (Follows At (get_prototype id env) (get_prototype id last)) (sym f ∙ ap found_row q) (h.each id))

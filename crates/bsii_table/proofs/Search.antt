@@ -7,9 +7,9 @@ use mathlib.Core.Path.{◌≡◌, subst}
 use mathlib.Core.Logic.{⊎_elim}
 use mathlib.Core.List.{List}
 use borrow.Author.Count.{below_none, below_more}
+use Rattle.std.specs.Prelude.{None}
 use Rattle.bsii_table.specs.Rows.{id_at, Rows}
 use Rattle.bsii_table.specs.Table.{Locate}
-use Rattle.bsii_table.specs.declared.Slot.TheVariants as slot
 use Rattle.bsii_table.proofs.Lookups.{Once}
 
 pub rows_once : {t : List ℕ} {rows : ℕ} → Rows t rows → Once (id_at t) rows
@@ -54,7 +54,7 @@ module _ {t : List ℕ} {rows id low high : ℕ} (h : Rows t rows) (b : Bracket 
   }
 
 -- the ends have met: no row has the id
-pub bracket_none : {t : List ℕ} {rows id low high : ℕ} → Bracket t rows id low high → high ≤ low → Locate t rows id slot.Missing
+pub bracket_none : {t : List ℕ} {rows id low high : ℕ} → Bracket t rows id low high → high ≤ low → Locate t rows id None
 bracket_none {low = low} b l j m e = go (dec_lt j low)
   where
     go : Dec (j < low) → ⊥

@@ -1,38 +1,24 @@
 // The scratch table that a caller lends, once a file is read: three words for each prototype id, (id, offset of the definition in force,
-// offset of the last definition). A zero id is a valid id, so the number of rows is carried beside the table. A second walk over the file
-// enters each definition again as it meets it.
+// offset of the last definition); a file's offsets fit in words, by the length limit. A zero id is a valid id, so the number of rows is
+// carried beside the table. A second walk over the file enters each definition again as it meets it.
 //
 // The rows stand in the order of their ids: a look-up tries the row where ids that are spread evenly would have it, then halves the rows
 // that are left with each id it reads.
 //
 // `find` and `enter` require `Rows`, that the rows are in the table and in that order: callers have it from the relation to the
-// definitions so far that they carry anyway.
+// definitions so far that they carry anyway. A struct of table and rows would be no plainer: callers lend the one table to the tree, to the
+// sort and to this crate in turn, and carry the number of rows in a struct of their own.
 #![tactic(auto)]
 
 ghost use Rattle.std.specs.Prelude.{◌<◌, ◌≤◌, ◌≡◌, length, replicate};
-ghost use Rattle.bsii_format.specs.File.{length_limit};
 ghost use Rattle.bsii_table.specs.Rows.{Rows, lookup};
 ghost use Rattle.bsii_table.specs.Table.{found_row, Locate, Enters};
 
-#[derive(Drop)]
-pub enum FoundRow {
-    At { in_force: u32, last: u32 },
-    Nothing,
-}
-
-// A file's offsets fit the table's words, by the length limit.
-pub fn word(x: usize) -> u32
-    requires { x ≤ length_limit }
-    ensures { result ≡ x }
-{
-    x as u32
-}
-
-// Where the row of an id starts.
-#[derive(Drop)]
-enum Slot {
-    Row(usize),
-    Missing,
+// The offsets of an id's definition in force and of its last one.
+#[derive(Clone, Copy)]
+pub struct Row {
+    pub in_force: u32,
+    pub last: u32,
 }
 
 // Where the id would stand if the ids were spread evenly from the first to the last. Only a guess: any row will do.
@@ -54,7 +40,8 @@ fn interpolated_row(table: &[u32], rows: usize, id: u32) -> usize
     ahead * (rows - 1) / spread
 }
 
-fn binary_search(table: &[u32], rows: usize, id: u32) -> Slot
+// Where the row of an id starts, if it has one.
+fn binary_search(table: &[u32], rows: usize, id: u32) -> Option<usize>
     requires { Rows table.now rows }
     ensures { Locate table.now rows id result }
 {
@@ -64,7 +51,7 @@ fn binary_search(table: &[u32], rows: usize, id: u32) -> Slot
         let middle = low + (high - low) / 2;
         let held = table[3 * middle];
         if held == id {
-            return Slot::Row(3 * middle);
+            return Some(3 * middle);
         }
         if held < id {
             low = middle + 1;
@@ -72,34 +59,32 @@ fn binary_search(table: &[u32], rows: usize, id: u32) -> Slot
             high = middle;
         }
     }
-    Slot::Missing
+    None
 }
 
-fn locate(table: &[u32], rows: usize, id: u32) -> Slot
+fn locate(table: &[u32], rows: usize, id: u32) -> Option<usize>
     requires { Rows table.now rows }
     ensures { Locate table.now rows id result }
 {
     if 0 < rows {
         let row = interpolated_row(table, rows, id);
         if table[3 * row] == id {
-            return Slot::Row(3 * row);
+            return Some(3 * row);
         }
     }
     binary_search(table, rows, id)
 }
 
 // The offsets of an id.
-pub fn find(table: &[u32], rows: usize, id: u32) -> FoundRow
+pub fn find(table: &[u32], rows: usize, id: u32) -> Option<Row>
     requires { Rows table.now rows }
     ensures { found_row result ≡ lookup table.now rows id }
 {
-    match locate(table, rows, id) {
-        Slot::Row(at) => FoundRow::At {
-            in_force: table[at + 1],
-            last: table[at + 2],
-        },
-        Slot::Missing => FoundRow::Nothing,
-    }
+    let at = locate(table, rows, id)?;
+    Some(Row {
+        in_force: table[at + 1],
+        last: table[at + 2],
+    })
 }
 
 // The definition of the id at the offset is in force from here on; which one is the last stays.
@@ -107,12 +92,8 @@ pub fn enter(table: &mut [u32], rows: usize, id: u32, offset: u32)
     requires { Rows table.old rows }
     ensures { Enters table.old rows id offset table.new }
 {
-    match locate(table, rows, id) {
-        Slot::Row(at) => {
-            table[at + 1] = offset;
-            return;
-        }
-        Slot::Missing => return,
+    if let Some(at) = locate(table, rows, id) {
+        table[at + 1] = offset;
     }
 }
 
@@ -120,11 +101,5 @@ pub fn enter(table: &mut [u32], rows: usize, id: u32, offset: u32)
 pub fn clear(table: &mut [u32])
     ensures { table.new ≡ replicate (length table.old) 0 }
 {
-    let mut at = 0;
-    let mut words = table.len();
-    while 0 < words {
-        table[at] = 0;
-        at += 1;
-        words -= 1;
-    }
+    table.fill(0);
 }

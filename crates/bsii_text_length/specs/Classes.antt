@@ -1,15 +1,25 @@
 -- A string's bytes by how they are written: the largest class among them decides for the whole string.
-use Rattle.std.specs.Prelude.{ℕ, max, cond, List, [], ◌∷◌, ltb}
+use Rattle.std.specs.Prelude.{ℕ, cond, List, [], ◌∷◌, ltb}
 use Rattle.bsii_format.specs.Utf8.{◌to◌, within}
 use Rattle.bsii_format.specs.Text.{is_bare}
+use Rattle.bsii_text_length.specs.declared.strings.Class.{Class}
+use Rattle.bsii_text_length.specs.declared.strings.Class.TheVariants.{Bare, Quoted, Control, High}
 
--- 0: bare; 1: raw within quotes; 2: escaped, and ASCII; 3: escaped
-unfoldable pub class_of : ℕ → ℕ
-class_of x = cond (ltb 127 x) 3 (cond (ltb x 32) 2 (cond (is_bare x) 0 1))
+unfoldable pub class_of : ℕ → Class
+class_of x = cond (ltb 127 x) High (cond (ltb x 32) Control (cond (is_bare x) Bare Quoted))
 
-unfoldable pub worst : List ℕ → ℕ
-worst [] = 0
-worst (x ∷ s) = max (class_of x) (worst s)
+unfoldable pub rank : Class → ℕ
+rank Bare = 0
+rank Quoted = 1
+rank Control = 2
+rank High = 3
+
+unfoldable pub larger : Class → Class → Class
+larger a b = cond (ltb (rank a) (rank b)) b a
+
+unfoldable pub worst : List ℕ → Class
+worst [] = Bare
+worst (x ∷ s) = larger (class_of x) (worst s)
 
 -- a byte within quotes
 unfoldable pub escape_size : ℕ → ℕ

@@ -1,114 +1,77 @@
 // Strings.
-ghost use Rattle.std.specs.Prelude.{◌≡◌, max, ◌*◌, ◌≤◌, length};
+ghost use Rattle.std.specs.Prelude.{◌≡◌, ◌*◌, ◌≤◌, length};
 ghost use Rattle.bsii_format.specs.File.{length_limit};
-ghost use Rattle.bsii_format.specs.Text.{is_bare, escaped, string_text};
+ghost use Rattle.bsii_format.specs.Text.{escaped, string_text};
+ghost use Rattle.bsii_format.specs.Utf8.{◌to◌, within};
 ghost use Rattle.bsii_text_length.specs.Classes.{class_of, worst as worstOf, escape_size};
 
 // `\x` and two digits.
 const ESCAPE: usize = 4;
 
-fn is_bare(b: u8) -> bool
-    ensures { result ≡ is_bare b }
-{
-    if b < 48 {
-        return false;
-    }
-    if b < 58 {
-        return true;
-    }
-    if b < 65 {
-        return false;
-    }
-    if b < 91 {
-        return true;
-    }
-    if b == 95 {
-        return true;
-    }
-    if b < 97 {
-        return false;
-    }
-    if b < 123 {
-        return true;
-    }
-    false
+// How a byte is written: bare, raw within quotes, or escaped; all but the last are ASCII. The largest class among a string's bytes decides for all of it.
+#[derive(Clone, Copy, PartialEq, Eq, PartialOrd, Ord)]
+pub enum Class {
+    Bare,
+    Quoted,
+    Control,
+    High,
 }
 
-// 0 stands bare, 1 within quotes, 2 and 3 escaped; all but 3 are ASCII.
-fn class(b: u8) -> u8
+fn class_of(b: u8) -> Class
     ensures { result ≡ class_of b }
 {
-    if 127 < b {
-        return 3;
+    match b {
+        0..=31 => Class::Control,
+        128..=255 => Class::High,
+        b'0'..=b'9' | b'A'..=b'Z' | b'_' | b'a'..=b'z' => Class::Bare,
+        _ => Class::Quoted,
     }
-    if b < 32 {
-        return 2;
-    }
-    if is_bare(b) {
-        return 0;
-    }
-    1
 }
 
-fn larger(a: u8, b: u8) -> u8
-    ensures { result ≡ max a b }
-{
-    if a < b { b } else { a }
-}
-
-// The largest class of the bytes, which decides how the string is written. No byte ends the loop, so that it is compiled to steps of many bytes.
-pub fn worst(bytes: &[u8]) -> u8
+// No byte ends the loop, so that it is compiled to steps of many bytes.
+pub fn worst(bytes: &[u8]) -> Class
     ensures { result ≡ worstOf bytes.now }
 {
-    let mut all: u8 = 0;
-    let mut i = 0;
-    while i < bytes.len() {
-        all = larger(all, class(bytes[i]));
-        i += 1;
+    let mut all = Class::Bare;
+    for b in bytes {
+        all = all.max(class_of(*b));
     }
     all
 }
 
-fn escape_length(b: u8) -> usize
-    ensures { (result ≡ escape_size b) × (result ≤ 4) }
+// Whether a byte stands for itself within quotes.
+pub fn is_raw(b: u8) -> bool
+    ensures { result ≡ within (32 to 127) b }
 {
-    if b < 32 {
-        return ESCAPE;
-    }
-    if 127 < b {
-        return ESCAPE;
-    }
-    1
+    matches!(b, 32..=127)
+}
+
+fn escape_length(b: u8) -> usize
+    ensures { result ≡ escape_size b }
+{
+    if is_raw(b) { 1 } else { ESCAPE }
 }
 
 fn escaped_length(bytes: &[u8]) -> usize
     requires { length bytes.now ≤ length_limit }
     ensures { (result ≡ length (escaped bytes.now)) × (result ≤ 4 * length bytes.now) }
 {
-    let mut long: usize = 0;
-    let mut i = 0;
-    while i < bytes.len() {
-        long += escape_length(bytes[i]);
-        i += 1;
-    }
-    long
+    bytes.iter().map(|b| escape_length(*b)).sum()
 }
 
 // For one who knows the largest class: only strings with escapes are looked through again.
-pub fn length_by(bytes: &[u8], worst: u8) -> usize
+pub fn length_by(bytes: &[u8], worst: Class) -> usize
     requires { (length bytes.now ≤ length_limit) × (worst ≡ worstOf bytes.now) }
     ensures { result ≡ length (string_text bytes.now) }
 {
-    if bytes.len() == 0 {
+    if bytes.is_empty() {
         return 2;
     }
-    if worst == 0 {
-        return bytes.len();
+    match worst {
+        Class::Bare => bytes.len(),
+        Class::Quoted => 2 + bytes.len(),
+        Class::Control | Class::High => 2 + escaped_length(bytes),
     }
-    if worst == 1 {
-        return 2 + bytes.len();
-    }
-    2 + escaped_length(bytes)
 }
 
 pub fn string_length(bytes: &[u8]) -> usize

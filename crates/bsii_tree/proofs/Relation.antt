@@ -8,6 +8,7 @@ use mathlib.Core.List.{List, [], ◌∷◌}
 use lib.ListN.{length}
 use lib.Dec.{eqb}
 use borrow.Author.Tests.{le-leb, lt-leb}
+use Rattle.std.specs.Prelude.{Some, None, Option as Answer}
 use Rattle.bsii_format.specs.Strings.{is_some}
 use Rattle.bsii_format.specs.Prototypes.{Prototype}
 use Rattle.bsii_format.specs.Blocks.{find_by, get_prototype}
@@ -16,21 +17,16 @@ use Rattle.bsii_table.specs.Rows.{Row, offsets, lookup_from}
 use Rattle.bsii_table.specs.Relation.{Matches}
 use Rattle.bsii_tree.specs.Table.{key_of, row_of, Linked, lookup_tree, rows_with, Puts, NoRoom, Defines, put, full}
 use Rattle.bsii_tree.specs.Relation.{Grows}
-use Rattle.bsii_tree.specs.declared.Defined.{Defined}
-use Rattle.bsii_tree.specs.declared.Defined.TheVariants as defined
 use Rattle.bsii_tree.proofs.Trees.{bare_tree}
 
 -- ---- what `define` answered
 
-rows≢full : {P : Type 0} {r : ℕ} → ◌≡◌ {A = Defined} (defined.Rows r) defined.Full → P
-rows≢full e = let z : ◌≡◌ {A = ℕ} 0 1 = cc in absurd (omega arith)
-
-pub is_put : {f t : List ℕ} {rows id o r : ℕ} {d : Defined} {t' : List ℕ} → d ≡ defined.Rows r → Defines f t rows id o d t' → Puts f t rows id o t' r
+pub is_put : {f t : List ℕ} {rows id o r : ℕ} {d : Answer ℕ} {t' : List ℕ} → d ≡ Some r → Defines f t rows id o d t' → Puts f t rows id o t' r
 is_put {f} {t} {rows} {id} {o} {r} {t' = t'} q (put {rows' = n} x) = let z : n ≡ r = cc in subst (λ (r : ℕ). Puts f t rows id o t' r) z x
-is_put q (full x) = rows≢full (sym q)
+is_put q (full x) = cc
 
-pub is_full : {f t : List ℕ} {rows id o : ℕ} {d : Defined} {t' : List ℕ} → d ≡ defined.Full → Defines f t rows id o d t' → NoRoom f t rows id t'
-is_full q (put x) = rows≢full q
+pub is_full : {f t : List ℕ} {rows id o : ℕ} {d : Answer ℕ} {t' : List ℕ} → d ≡ None → Defines f t rows id o d t' → NoRoom f t rows id t'
+is_full q (put x) = cc
 is_full q (full x) = x
 
 -- ---- what `find` answered
@@ -78,7 +74,7 @@ module _ (At : ℕ → Prototype → Type 0) where
         (subst (λ (n : ℕ). Matches At (get_prototype p.id env) (lookup_tree f t rows n)) e (h.each p.id)) h.count
 
     -- `define` gave the id a row: a new id or one defined again
-    pub define_grows : {id o r : ℕ} {d : Defined} {t' : List ℕ} → p.id ≡ id → At o p → d ≡ defined.Rows r → Defines f t rows id o d t' → Grows At f t' r (p ∷ env)
+    pub define_grows : {id o r : ℕ} {d : Answer ℕ} {t' : List ℕ} → p.id ≡ id → At o p → d ≡ Some r → Defines f t rows id o d t' → Grows At f t' r (p ∷ env)
     unfolding find_by
     define_grows {id} {o} {r} {d} {t'} e a q w =
         let x = is_put q (subst (λ (n : ℕ). Defines f t rows n o d t') (sym e) w) in
@@ -90,8 +86,8 @@ module _ (At : ℕ → Prototype → Type 0) where
               (matches_put (eqb n p.id) (get_prototype n env) (lookup_tree f t rows n) p (offsets o o) (h.each n) a a);
         }
 
-    -- `Full` is answered exactly where the definitions say that there is no room
-    pub define_full : {id o : ℕ} {d : Defined} {t' : List ℕ} → p.id ≡ id → d ≡ defined.Full → Defines f t rows id o d t'
+    -- None is answered exactly where the definitions say that there is no room
+    pub define_full : {id o : ℕ} {d : Answer ℕ} {t' : List ℕ} → p.id ≡ id → d ≡ None → Defines f t rows id o d t'
         → has_room (length t / 3) env (prototype p) ≡ false
     unfolding has_room
     define_full {id} {o} {d} {t'} e q w =
@@ -99,7 +95,7 @@ module _ (At : ℕ → Prototype → Type 0) where
         let n : suc rows ≡ distinct_ids (p ∷ env) = sym (ap (rows_with rows) x.new) ∙ ids_with e in
         lt-leb (distinct_ids (p ∷ env)) (length t / 3) (omega (arith, x.short))
 
-    pub define_room : {id o r : ℕ} {d : Defined} {t' : List ℕ} → p.id ≡ id → d ≡ defined.Rows r → Defines f t rows id o d t'
+    pub define_room : {id o r : ℕ} {d : Answer ℕ} {t' : List ℕ} → p.id ≡ id → d ≡ Some r → Defines f t rows id o d t'
         → has_room (length t / 3) env (prototype p) ≡ true
     unfolding has_room
     define_room {id} {o} {r} {d} {t'} e q w =

@@ -1,14 +1,12 @@
 -- The table while a file is read: three words for a row, (offset of the id's last definition, link for a next bit 0, link for 1). The id is
 -- read from the file, behind the offset. And what each function does with it, in terms of the first row that has an id.
-use Rattle.std.specs.Prelude.{ℕ, suc, ◌+◌, ◌*◌, ◌≤◌, ◌<◌, ◌≡◌, cond, List, length, get_or, eqb}
+use Rattle.std.specs.Prelude.{ℕ, suc, ◌+◌, ◌*◌, ◌≤◌, ◌<◌, ◌≡◌, cond, List, length, get_or, eqb, Some, None, Option as Answer}
 use Rattle.std.proofs.Math.Option.{Option, none, some}
 use Rattle.bsii_string.specs.NumbersAt.{number_at}
 use Rattle.bsii_table.specs.Rows.{Row, offsets, lookup_from}
 use Rattle.bsii_tree.specs.Tree.{Tree, Place}
 use Rattle.bsii_tree.specs.declared.Slot.{Slot}
 use Rattle.bsii_tree.specs.declared.Slot.TheVariants as slot
-use Rattle.bsii_tree.specs.declared.Defined.{Defined}
-use Rattle.bsii_tree.specs.declared.Defined.TheVariants as defined
 
 -- the id of the prototype at an offset of the file: behind its u32 zero and its mark
 abbrev pub id_of : List ℕ → ℕ → ℕ
@@ -68,9 +66,9 @@ pub record NoRoom (f : List ℕ) (t : List ℕ) (rows : ℕ) (id : ℕ) (t' : Li
   pub same : t' ≡ t
 
 -- what `define` answered, and the table after it
-pub data Defines (f : List ℕ) (t : List ℕ) (rows : ℕ) (id : ℕ) (offset : ℕ) : Defined → List ℕ → Type 0 where
-  put : {rows' : ℕ} {t' : List ℕ} → Puts f t rows id offset t' rows' → Defines f t rows id offset (defined.Rows rows') t'
-  full : {t' : List ℕ} → NoRoom f t rows id t' → Defines f t rows id offset defined.Full t'
+pub data Defines (f : List ℕ) (t : List ℕ) (rows : ℕ) (id : ℕ) (offset : ℕ) : Answer ℕ → List ℕ → Type 0 where
+  put : {rows' : ℕ} {t' : List ℕ} → Puts f t rows id offset t' rows' → Defines f t rows id offset (Some rows') t'
+  full : {t' : List ℕ} → NoRoom f t rows id t' → Defines f t rows id offset None t'
 
 -- a definition of the id stands at the offset, behind more bytes than there are rows: so a row's number fits in a word
 pub record Named (f : List ℕ) (rows : ℕ) (id : ℕ) (offset : ℕ) : Type 0 where

@@ -12,15 +12,7 @@ ghost use Rattle.bsii_table.specs.Table.{found_row};
 ghost use Rattle.bsii_tree.specs.Table.{id_of, Linked, lookup_tree, Sought, Appended, Defines, Named};
 
 use bsii_string::numbers::quad;
-use bsii_table::FoundRow;
-
-#[derive(Drop)]
-pub enum Defined {
-    // The number of rows now.
-    Rows(usize),
-    // A new id, and no room for its row.
-    Full,
-}
+use bsii_table::Row;
 
 // The first word of an id's row, or the word of the link to which its row belongs.
 #[derive(Drop)]
@@ -63,22 +55,22 @@ fn seek(file: &[u8], table: &[u32], rows: usize, id: u32) -> Slot
 }
 
 // The offset of an id's last definition so far, which is in force.
-pub fn find(file: &[u8], table: &[u32], rows: usize, id: u32) -> FoundRow
+pub fn find(file: &[u8], table: &[u32], rows: usize, id: u32) -> Option<Row>
     requires { Linked file.now table.now rows }
     ensures { found_row result ≡ lookup_tree file.now table.now rows id }
 {
     if rows == 0 {
-        return FoundRow::Nothing;
+        return None;
     }
     match seek(file, table, rows, id) {
         Slot::Row(at) => {
             let offset = table[at];
-            FoundRow::At {
+            Some(Row {
                 in_force: offset,
                 last: offset,
-            }
+            })
         }
-        Slot::Link(_) => FoundRow::Nothing,
+        Slot::Link(_) => None,
     }
 }
 
@@ -93,30 +85,30 @@ fn append_leaf(table: &mut [u32], rows: usize, offset: u32)
     table[at + 2] = 0;
 }
 
-// A definition of the id stands at the offset.
-pub fn define(file: &[u8], table: &mut [u32], rows: usize, id: u32, offset: u32) -> Defined
+// A definition of the id stands at the offset. The number of rows now; none for a new id with no room for its row.
+pub fn define(file: &[u8], table: &mut [u32], rows: usize, id: u32, offset: u32) -> Option<usize>
     requires { Linked file.now table.old rows × Named file.now rows id offset }
     ensures { Defines file.now table.old rows id offset result table.new }
 {
     if rows == 0 {
         if table.len() < 3 {
-            return Defined::Full;
+            return None;
         }
         append_leaf(table, 0, offset);
-        return Defined::Rows(1);
+        return Some(1);
     }
     match seek(file, table, rows, id) {
         Slot::Row(at) => {
             table[at] = offset;
-            return Defined::Rows(rows);
+            Some(rows)
         }
         Slot::Link(link) => {
             if table.len() - 3 * rows < 3 {
-                return Defined::Full;
+                return None;
             }
             append_leaf(table, rows, offset);
             table[link] = rows as u32;
-            return Defined::Rows(rows + 1);
+            Some(rows + 1)
         }
     }
 }

@@ -9,7 +9,7 @@ use Rattle.bsii_format.specs.Reader.{ok, short_at, repeat}
 use Rattle.bsii_format.specs.Numbers.{number}
 use Rattle.bsii_format.proofs.Positions.{numbers_at_law, numbers_short}
 use Rattle.bsii_string.specs.Answers.{end_of}
-use Rattle.bsii_string.specs.declared.answers.Parsed.TheVariants.{Next}
+use Rattle.std.specs.Prelude.{Ok}
 use Rattle.bsii_string.proofs.Ends.{answer}
 
 -- as many as fit are no longer than what is left
@@ -28,16 +28,16 @@ pub wide : (n w l : ℕ) → l < n * w → 0 < w
 wide n w l h = pos_of_ne-zero (λ (e : w ≡ 0). let z : n * w ≡ 0 = ap (λ (k : ℕ). n * k) e ∙ mul-zero n in omega arith)
 
 module _ (s : List ℕ) (at n w : ℕ) where
-  pub row_whole : n * w ≤ length s - at → Next (at + n * w) ≡ end_of (repeat n (number w) at (drop at s))
+  pub row_whole : n * w ≤ length s - at → Ok (at + n * w) ≡ end_of (repeat n (number w) at (drop at s))
   unfolding end_of
   row_whole h = answer (repeat n (number w) at (drop at s)) (ok tt (at + n * w) (drop (at + n * w) s)) (numbers_at_law n w s at h)
 
   -- numbers of no bytes
-  pub row_empty : w ≡ 0 → Next at ≡ end_of (repeat n (number w) at (drop at s))
+  pub row_empty : w ≡ 0 → Ok at ≡ end_of (repeat n (number w) at (drop at s))
   row_empty e =
       let z : n * w ≡ 0 = ap (λ (k : ℕ). n * k) e ∙ mul-zero n in
       let k : at ≡ at + n * w = omega arith in
-      ap Next k ∙ row_whole (omega arith)
+      ap Ok k ∙ row_whole (omega arith)
 
   -- the first number that runs out, by what was left for the row and by the width as the code has them
   pub row_short : {l m : ℕ} → l ≡ length s - at → m ≡ w → 0 < w → l / m < n

@@ -6,7 +6,8 @@ use Rattle.bsii_value.specs.declared.types.Numeric.TheVariants.{Float, FloatVec2
 use Rattle.bsii_value.specs.declared.types.Kind.{Kind}
 use Rattle.bsii_value.specs.declared.types.Kind.TheVariants.{Numbers, String, EncodedString, Id}
 use Rattle.bsii_value.specs.declared.types.Shape.{Shape}
-use Rattle.bsii_value.specs.declared.types.Shape.TheVariants.{One, Many, Unlisted}
+use Rattle.bsii_value.specs.declared.types.Shape.TheVariants.{One, Many}
+use Rattle.std.specs.Prelude as std
 
 abbrev pub numeric_is : Numeric → types.Numeric
 numeric_is Float = types.float
@@ -30,7 +31,8 @@ kind_is String = types.string
 kind_is EncodedString = types.encoded_string
 kind_is Id = types.id
 
-abbrev pub shape_is : Shape → Option types.Shape
-shape_is (One k) = some (types.one (kind_is k))
-shape_is (Many k) = some (types.many (kind_is k))
-shape_is Unlisted = none
+-- a type without a shape is not listed
+abbrev pub shape_is : std.Option Shape → Option types.Shape
+shape_is (std.Some (One k)) = some (types.one (kind_is k))
+shape_is (std.Some (Many k)) = some (types.many (kind_is k))
+shape_is std.None = none

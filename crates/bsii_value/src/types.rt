@@ -36,58 +36,57 @@ pub enum Kind {
 pub enum Shape {
     One(Kind),
     Many(Kind),
-    Unlisted,
 }
 
-// The table of types, row by row. A type that is not there has no length that could be guessed. Version 1 has two rows of its own, ahead of the others: so
+// The table of types, row by row. A type that is not there, an unlisted one, has no length that could be guessed. Version 1 has two rows of its own, ahead of the others: so
 // each row is a constant, and the rows are compiled to a table and not to jumps.
 #[tactic(auto, unfolding(bsii_format::specs::Types::shape_of, bsii_format::specs::Types::shape_in, bsii_format::specs::Types::type_table, bsii_format::specs::Types::placement_in))]
-pub fn shape_of(version: u32, type_id: u32) -> Shape
+pub fn shape_of(version: u32, type_id: u32) -> Option<Shape>
     ensures { shape_is result ≡ shape_of version type_id }
 {
     if version == 1 {
         match type_id {
-            0x19 => return Shape::One(Kind::Numbers(Numeric::FloatVec7)),
-            0x1a => return Shape::Many(Kind::Numbers(Numeric::FloatVec7)),
+            0x19 => return Some(Shape::One(Kind::Numbers(Numeric::FloatVec7))),
+            0x1a => return Some(Shape::Many(Kind::Numbers(Numeric::FloatVec7))),
             _ => {}
         }
     }
     match type_id {
-        0x01 => Shape::One(Kind::String),
-        0x02 => Shape::Many(Kind::String),
-        0x03 => Shape::One(Kind::EncodedString),
-        0x04 => Shape::Many(Kind::EncodedString),
-        0x05 => Shape::One(Kind::Numbers(Numeric::Float)),
-        0x06 => Shape::Many(Kind::Numbers(Numeric::Float)),
-        0x07 => Shape::One(Kind::Numbers(Numeric::FloatVec2)),
-        0x09 => Shape::One(Kind::Numbers(Numeric::FloatVec3)),
-        0x0a => Shape::Many(Kind::Numbers(Numeric::FloatVec3)),
-        0x11 => Shape::One(Kind::Numbers(Numeric::Int32Vec3)),
-        0x12 => Shape::Many(Kind::Numbers(Numeric::Int32Vec3)),
-        0x17 => Shape::One(Kind::Numbers(Numeric::FloatVec4)),
-        0x18 => Shape::Many(Kind::Numbers(Numeric::FloatVec4)),
-        0x19 => Shape::One(Kind::Numbers(Numeric::FloatVec8)),
-        0x1a => Shape::Many(Kind::Numbers(Numeric::FloatVec8)),
-        0x25 => Shape::One(Kind::Numbers(Numeric::Int32)),
-        0x26 => Shape::Many(Kind::Numbers(Numeric::Int32)),
-        0x27 => Shape::One(Kind::Numbers(Numeric::UInt32)),
-        0x28 => Shape::Many(Kind::Numbers(Numeric::UInt32)),
-        0x2b => Shape::One(Kind::Numbers(Numeric::UInt16)),
-        0x2c => Shape::Many(Kind::Numbers(Numeric::UInt16)),
-        0x2f => Shape::One(Kind::Numbers(Numeric::UInt32)),
-        0x31 => Shape::One(Kind::Numbers(Numeric::Int64)),
-        0x32 => Shape::Many(Kind::Numbers(Numeric::Int64)),
-        0x33 => Shape::One(Kind::Numbers(Numeric::UInt64)),
-        0x34 => Shape::Many(Kind::Numbers(Numeric::UInt64)),
-        0x35 => Shape::One(Kind::Numbers(Numeric::Bool)),
-        0x36 => Shape::Many(Kind::Numbers(Numeric::Bool)),
-        0x37 => Shape::One(Kind::Numbers(Numeric::Enum)),
-        0x39 => Shape::One(Kind::Id),
-        0x3a => Shape::Many(Kind::Id),
-        0x3b => Shape::One(Kind::Id),
-        0x3c => Shape::Many(Kind::Id),
-        0x3d => Shape::One(Kind::Id),
-        _ => Shape::Unlisted,
+        0x01 => Some(Shape::One(Kind::String)),
+        0x02 => Some(Shape::Many(Kind::String)),
+        0x03 => Some(Shape::One(Kind::EncodedString)),
+        0x04 => Some(Shape::Many(Kind::EncodedString)),
+        0x05 => Some(Shape::One(Kind::Numbers(Numeric::Float))),
+        0x06 => Some(Shape::Many(Kind::Numbers(Numeric::Float))),
+        0x07 => Some(Shape::One(Kind::Numbers(Numeric::FloatVec2))),
+        0x09 => Some(Shape::One(Kind::Numbers(Numeric::FloatVec3))),
+        0x0a => Some(Shape::Many(Kind::Numbers(Numeric::FloatVec3))),
+        0x11 => Some(Shape::One(Kind::Numbers(Numeric::Int32Vec3))),
+        0x12 => Some(Shape::Many(Kind::Numbers(Numeric::Int32Vec3))),
+        0x17 => Some(Shape::One(Kind::Numbers(Numeric::FloatVec4))),
+        0x18 => Some(Shape::Many(Kind::Numbers(Numeric::FloatVec4))),
+        0x19 => Some(Shape::One(Kind::Numbers(Numeric::FloatVec8))),
+        0x1a => Some(Shape::Many(Kind::Numbers(Numeric::FloatVec8))),
+        0x25 => Some(Shape::One(Kind::Numbers(Numeric::Int32))),
+        0x26 => Some(Shape::Many(Kind::Numbers(Numeric::Int32))),
+        0x27 => Some(Shape::One(Kind::Numbers(Numeric::UInt32))),
+        0x28 => Some(Shape::Many(Kind::Numbers(Numeric::UInt32))),
+        0x2b => Some(Shape::One(Kind::Numbers(Numeric::UInt16))),
+        0x2c => Some(Shape::Many(Kind::Numbers(Numeric::UInt16))),
+        0x2f => Some(Shape::One(Kind::Numbers(Numeric::UInt32))),
+        0x31 => Some(Shape::One(Kind::Numbers(Numeric::Int64))),
+        0x32 => Some(Shape::Many(Kind::Numbers(Numeric::Int64))),
+        0x33 => Some(Shape::One(Kind::Numbers(Numeric::UInt64))),
+        0x34 => Some(Shape::Many(Kind::Numbers(Numeric::UInt64))),
+        0x35 => Some(Shape::One(Kind::Numbers(Numeric::Bool))),
+        0x36 => Some(Shape::Many(Kind::Numbers(Numeric::Bool))),
+        0x37 => Some(Shape::One(Kind::Numbers(Numeric::Enum))),
+        0x39 => Some(Shape::One(Kind::Id)),
+        0x3a => Some(Shape::Many(Kind::Id)),
+        0x3b => Some(Shape::One(Kind::Id)),
+        0x3c => Some(Shape::Many(Kind::Id)),
+        0x3d => Some(Shape::One(Kind::Id)),
+        _ => None,
     }
 }
 

@@ -1,4 +1,5 @@
 pub mod Parts
+pub mod Answered
 pub mod HeadKinds
 pub mod Meeting
 pub mod Naming

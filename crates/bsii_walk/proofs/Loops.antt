@@ -19,11 +19,10 @@ use Rattle.bsii_walk.specs.Again.{BlockMet, Meets, a_prototype_law, a_block_law,
 use Rattle.bsii_walk.specs.Cursor.{blocks_from, WalkAt, Stood, BlockIs, Ahead, NextIs, NextBlock}
 use Rattle.bsii_walk.specs.Seek.{Readable}
 use Rattle.bsii_walk.specs.declared.records.Met.{Met}
-use Rattle.bsii_walk.specs.declared.records.Met.TheVariants.{Prototype as MetPrototype, Block as MetBlock, Nothing}
-use Rattle.bsii_walk.specs.declared.cursor.Block.{Block}
-use Rattle.bsii_walk.specs.declared.cursor.BlockAt.{BlockAt}
-use Rattle.bsii_walk.specs.declared.cursor.BlockAt.TheVariants.{Block as ABlock, NoBlock}
+use Rattle.bsii_walk.specs.declared.records.Met.TheVariants.{Prototype as MetPrototype, Block as MetBlock}
+use Rattle.bsii_walk.specs.declared.records.Block.{Block}
 use Rattle.bsii_walk.proofs.Parts.{block_parts_law}
+use Rattle.std.specs.Prelude.{Some, None, Option as Answer}
 use Rattle.bsii_walk.proofs.Seeking.{Passed, Accepted, the_end, a_record, accepted}
 
 -- a walk stands at an offset, and this is known of the blocks in front of it
@@ -37,10 +36,10 @@ pub record Here (version : ℕ) (s : List ℕ) (rooms rows : ℕ) (last : List P
 -- ---- one record
 
 -- what it is for the walk that stands in front of it
-abbrev RecordIs : ℕ → List ℕ → ℕ → ℕ → List Prototype → ℕ → List Record → Met → List ℕ → Type 0
-RecordIs version s rooms rows last at rest (MetPrototype n) t = (at < n) × (n ≤ length s) × Here version s rooms rows last n t (λ l. blocks_from at rest ≡ l)
-RecordIs version s rooms rows last at rest (MetBlock i u v n) t = NextIs version s rooms rows last at rest (ABlock (record { at = at; id = i; under = u; last = v; next = n })) t
-RecordIs version s rooms rows last at rest Nothing t = NextIs version s rooms rows last at rest NoBlock t
+abbrev RecordIs : ℕ → List ℕ → ℕ → ℕ → List Prototype → ℕ → List Record → Answer Met → List ℕ → Type 0
+RecordIs version s rooms rows last at rest (Some (MetPrototype n)) t = (at < n) × (n ≤ length s) × Here version s rooms rows last n t (λ l. blocks_from at rest ≡ l)
+RecordIs version s rooms rows last at rest (Some (MetBlock b)) t = NextIs version s rooms rows last at rest (Some b) t
+RecordIs version s rooms rows last at rest None t = NextIs version s rooms rows last at rest None t
 
 from_block : (at : ℕ) (b : DataBlock) (l : List Record) {n : ℕ} → n ≡ at + length (record_bytes (block b)) → blocks_from at (block b ∷ l) ≡ record { offset = at; it = b } ∷ blocks_from n l
 unfolding placed blocks_in cons_block
@@ -50,13 +49,18 @@ from_prototype : (at : ℕ) (p : Prototype) (l : List Record) {n : ℕ} → n �
 unfolding placed blocks_in cons_block
 from_prototype at p l e = ap (λ (n : ℕ). blocks_from n l) (sym e)
 
+some_same : {A : Type 0} {a b : A} → ◌≡◌ {A = Answer A} (Some a) (Some b) → a ≡ b
+some_same e = cc
+
 -- a block in its parts
-block_is_law : {version : ℕ} {s : List ℕ} {at : ℕ} {last : List Prototype} (env : List Prototype) {n : ℕ} {b : DataBlock} {p q : Prototype} {m : Met} → get_prototype b.prototype_id env ≡ some p
-    → get_prototype b.prototype_id last ≡ some q → record_parser version env at (drop at s) ≡ ok (more (block b)) n (drop n s) → (x : BlockMet s (at + length b.head) n p q m)
-    → BlockIs version s last (record { at = at; id = at + length b.head; under = x.in_force; last = x.last; next = n }) (record { offset = at; it = b })
-block_is_law {version} {s} {at} env {n} {b} {p} {q} f g h x =
+block_is_law : {version : ℕ} {s : List ℕ} {at : ℕ} {last : List Prototype} (env : List Prototype) {n : ℕ} {b : DataBlock} {p q : Prototype} {y : Block} → get_prototype b.prototype_id env ≡ some p
+    → get_prototype b.prototype_id last ≡ some q → record_parser version env at (drop at s) ≡ ok (more (block b)) n (drop n s) → (x : BlockMet s at (at + length b.head) n p q (Some y))
+    → BlockIs version s last y (record { offset = at; it = b }) × (y.at ≡ at) × (y.next ≡ n)
+block_is_law {version} {s} {at} {last} env {n} {b} {p} {q} {y} f g h x =
     let c = block_parts_law version env s at n b h in
     let i : ℕ = at + length b.head + length b.id.raw in
+    let m : record { at = at; id = at + length b.head; under = x.in_force; last = x.last; next = n } ≡ y = some_same (sym x.met) in
+    let is : BlockIs version s last (record { at = at; id = at + length b.head; under = x.in_force; last = x.last; next = n }) (record { offset = at; it = b }) =
     record {
       place = refl;
       p = p;
@@ -69,50 +73,53 @@ block_is_law {version} {s} {at} env {n} {b} {p} {q} f g h x =
       id = c.id;
       values = subst (λ (r : Prototype). data_values_parser version r.fields i (drop i s) ≡ ok b.values n (drop n s)) (some_is (sym c.found ∙ f))
           c.values;
-    }
+    } in
+    (subst (λ (y : Block). BlockIs version s last y (record { offset = at; it = b })) m is, sym (ap (λ (y : Block). y.at) m), sym (ap (λ (y : Block). y.next) m))
   where
     some_is : {A : Type 0} {a b : A} → ◌≡◌ {A = Option A} (some a) (some b) → a ≡ b
     some_is e = cc
 
-module _ {version : ℕ} {s : List ℕ} {at : ℕ} {t : List ℕ} {rows : ℕ} {m : Met} {t' : List ℕ} (a : RecordAgain version s at t rows m t')
+module _ {version : ℕ} {s : List ℕ} {at : ℕ} {t : List ℕ} {rows : ℕ} {m : Answer Met} {t' : List ℕ} (a : RecordAgain version s at t rows m t')
     (inside : at ≤ length s) where
   record_is_law : {rooms : ℕ} {last env : List Prototype} {rest : List Record} → WalkAt version s rooms rows last t at env rest
       → RecordIs version s rooms rows last at rest m t'
   unfolding placed blocks_in define define_all
   record_is_law {rooms} {last} {env} {rest} w = go refl (accepted rooms env at s w.n w.end rest w.reads)
     where
-      is : {r : Met} → m ≡ r → RecordIs version s rooms rows last at rest r t' → RecordIs version s rooms rows last at rest m t'
-      is z x = subst (λ r. RecordIs version s rooms rows last at rest r t') (sym z) x
-
       -- behind the record i
       on : (i : Record) (l : List Record) {n : ℕ} → rest ≡ i ∷ l → records_at version rooms (define i env) n s ≡ ok (record { records = l; end = w.end }) w.n (drop w.n s)
           → Entered (DefinedAt s) t' rows (define i env) last → WalkAt version s rooms rows last t' n (define i env) l
       on i l e d h = record { end = w.end; n = w.n; reads = d; entered = h; lasts = w.lasts ∙ ap (λ r. define_all r env) e }
 
       met : {i : Record} {l : List Record} {n : ℕ} → rest ≡ i ∷ l → Passed version env s at n i → records_at version rooms (define i env) n s ≡ ok (record { records = l; end = w.end }) w.n (drop w.n s)
-          → Meets s at rows env last n i m t' → RecordIs version s rooms rows last at rest m t'
-      met {l = l} e h d (a_prototype_law p x) =
-          is x.met (
+          → {m : Answer Met} → Meets s at rows env last n i m t' → RecordIs version s rooms rows last at rest m t'
+      met {l = l} {n} e h d (a_prototype_law p {m = k} x) =
+          let z : n ≡ k = some_same (sym x.met) in
+          subst (λ k. RecordIs version s rooms rows last at rest (Some (MetPrototype k)) t') z (
             h.later,
             h.inside inside,
             record { env = p ∷ env; rest = l; standing = on (prototype p) l e d x.entered; known = ap (blocks_from at) e ∙ from_prototype at p l h.place },
           )
-      met {l = l} e h d (a_block_law b p q f g x k) =
-          is x.met
-          (record {
+      met {l = l} {n} e h d (a_block_law b {x = y} p q f g x k) =
+          let z = block_is_law env f g h.reads x in
+          record {
             block = record { offset = at; it = b };
-            is = block_is_law env f g h.reads x;
+            is = z.0;
             env = env;
             behind = l;
-            standing = on (block b) l e d k;
-            blocks = ap (blocks_from at) e ∙ from_block at b l h.place;
-            ahead = omega arith;
-            later = h.later;
-            inside = h.inside inside;
-          })
+            standing = subst (λ n. WalkAt version s rooms rows last t' n env l) (sym z.2) (on (block b) l e d k);
+            blocks = ap (blocks_from at) e ∙ from_block at b l h.place ∙ ap (λ n. record { offset = at; it = b } ∷ blocks_from n l) (sym z.2);
+            ahead = omega (arith, z.1);
+            later = omega (arith, z.1, z.2, h.later);
+            inside = omega (arith, z.2, h.inside inside);
+          }
+
+      ends : {m : Answer Met} {u : List ℕ} → m ≡ None → u ≡ t → RecordIs version s rooms rows last at [] m u
+      ends {m} {u} z y =
+          subst (λ m. RecordIs version s rooms rows last at [] m u) (sym z) (refl, subst (λ x. Entered (DefinedAt s) x rows [] last) (sym y) (entered_again (DefinedAt s) w.entered))
 
       go : {l : List Record} → rest ≡ l → Accepted version rooms env at s w.n w.end l → RecordIs version s rooms rows last at rest m t'
-      go e (the_end h) = let z = a.ends env _ _ _ h in is z.0 (ap (blocks_from at) e, subst (λ x. Entered (DefinedAt s) x rows [] last) (sym z.1) (entered_again (DefinedAt s) w.entered))
+      go e (the_end h) = let z = a.ends env _ _ _ h in subst (λ l. RecordIs version s rooms rows last at l m t') (sym e) (ends z.0 z.1)
       go e (a_record i n l h d) =
           met e h d
           (a.meets env last w.entered i n h.reads
@@ -148,15 +155,15 @@ module _ {version : ℕ} {s : List ℕ} {start : ℕ} {t₀ : List ℕ} {rows at
       let h = o.here _ _ _ _ w.standing in
       record { short = w.short; inside = o.inside; rooms = w.rooms; last = w.last; env = h.env; rest = h.rest; standing = h.standing }
 
-  module _ {r : BlockAt} {t' : List ℕ} (x : NextBlock version s at t rows r t') where
-    pub over_end : r ≡ NoBlock → (rooms : ℕ) (last env : List Prototype) (rest : List Record) → WalkAt version s rooms rows last t₀ start env rest
+  module _ {r : Answer Block} {t' : List ℕ} (x : NextBlock version s at t rows r t') where
+    pub over_end : r ≡ None → (rooms : ℕ) (last env : List Prototype) (rest : List Record) → WalkAt version s rooms rows last t₀ start env rest
         → Q last (blocks_from start rest) [] × Entered (DefinedAt s) t' rows [] last
     over_end z rooms last env rest w =
         let h = o.here rooms last env rest w in
         let n = subst (λ q. NextIs version s rooms rows last at h.rest q t') z (x.next rooms last h.env h.rest h.standing) in
         (subst (Q last (blocks_from start rest)) n.0 h.known, n.1)
 
-    module _ {b : Block} (z : r ≡ ABlock b) where
+    module _ {b : Block} (z : r ≡ Some b) where
       next_ahead : {rooms : ℕ} {last env : List Prototype} {rest : List Record} → WalkAt version s rooms rows last t at env rest → Ahead version s rooms rows last at rest b t'
       next_ahead {rooms} {last} {env} {rest} w = subst (λ q. NextIs version s rooms rows last at rest q t') z (x.next rooms last env rest w)
 
@@ -190,11 +197,11 @@ module _ {version : ℕ} {s : List ℕ} {start : ℕ} {t₀ : List ℕ} {rows at
 abbrev pub Same : List Prototype → List (Placed DataBlock) → List (Placed DataBlock) → Type 0
 Same last all l = all ≡ l
 
-module _ {version : ℕ} {s : List ℕ} {start : ℕ} {t₀ : List ℕ} {rows at : ℕ} {t : List ℕ} (o : Over version s start t₀ rows at t Same) {m : Met} {t' : List ℕ} (a : RecordAgain version s at t rows m t') where
-  met_is : {r : Met} → m ≡ r → {rooms : ℕ} {last env : List Prototype} {rest : List Record} → WalkAt version s rooms rows last t at env rest → RecordIs version s rooms rows last at rest r t'
+module _ {version : ℕ} {s : List ℕ} {start : ℕ} {t₀ : List ℕ} {rows at : ℕ} {t : List ℕ} (o : Over version s start t₀ rows at t Same) {m : Answer Met} {t' : List ℕ} (a : RecordAgain version s at t rows m t') where
+  met_is : {r : Answer Met} → m ≡ r → {rooms : ℕ} {last env : List Prototype} {rest : List Record} → WalkAt version s rooms rows last t at env rest → RecordIs version s rooms rows last at rest r t'
   met_is z {rooms} {last} {rest = rest} w = subst (λ r. RecordIs version s rooms rows last at rest r t') z (record_is_law a o.inside w)
 
-  pub cursor_end : m ≡ Nothing → NextBlock version s start t₀ rows NoBlock t'
+  pub cursor_end : m ≡ None → NextBlock version s start t₀ rows None t'
   cursor_end z = record {
     next = λ rooms last env rest w.
         let h = o.here rooms last env rest w in
@@ -203,8 +210,7 @@ module _ {version : ℕ} {s : List ℕ} {start : ℕ} {t₀ : List ℕ} {rows at
     size = a.size ∙ o.size;
   }
 
-  pub cursor_block : {i u v n : ℕ} → m ≡ MetBlock i u v n
-      → NextBlock version s start t₀ rows (ABlock (record { at = at; id = i; under = u; last = v; next = n })) t'
+  pub cursor_block : {y : Block} → m ≡ Some (MetBlock y) → NextBlock version s start t₀ rows (Some y) t'
   cursor_block z = record {
     next = λ rooms last env rest w.
         let h = o.here rooms last env rest w in
@@ -216,14 +222,14 @@ module _ {version : ℕ} {s : List ℕ} {start : ℕ} {t₀ : List ℕ} {rows at
           behind = b.behind;
           standing = b.standing;
           blocks = h.known ∙ b.blocks;
-          ahead = o.after;
+          ahead = omega (arith, o.after, b.ahead);
           later = b.later;
           inside = b.inside;
         };
     size = a.size ∙ o.size;
   }
 
-  module _ {n : ℕ} (z : m ≡ MetPrototype n) (w : Stood version s start t₀ rows) where
+  module _ {n : ℕ} (z : m ≡ Some (MetPrototype n)) (w : Stood version s start t₀ rows) where
     pub cursor_later : (at < n) × (n ≤ length s)
     cursor_later = let p = met_is z (over_stood o w).standing in (p.0, p.1)
 

@@ -1,5 +1,5 @@
 -- The next block of a file that was read, for any walk over its records that stands in front of it.
-use Rattle.std.specs.Prelude.{◌≡◌, ℕ, ◌+◌, ◌≤◌, ◌<◌, List, [], ◌∷◌, length, drop}
+use Rattle.std.specs.Prelude.{◌≡◌, ℕ, ◌+◌, ◌≤◌, ◌<◌, List, [], ◌∷◌, length, drop, Some, None, Option as Answer}
 use Rattle.std.proofs.Math.Option.{some}
 use Rattle.bsii_format.specs.Reader.{ok}
 use Rattle.bsii_format.specs.Strings.{id_parser}
@@ -10,9 +10,7 @@ use Rattle.bsii_format.specs.Calls.{Placed, placed, blocks_in}
 use Rattle.bsii_table.specs.Relation.{Entered}
 use Rattle.bsii_block.specs.Blocks.{DefinedAt}
 use Rattle.bsii_parse.specs.Walks.{records_at}
-use Rattle.bsii_walk.specs.declared.cursor.Block.{Block}
-use Rattle.bsii_walk.specs.declared.cursor.BlockAt.{BlockAt}
-use Rattle.bsii_walk.specs.declared.cursor.BlockAt.TheVariants.{Block as ABlock, NoBlock}
+use Rattle.bsii_walk.specs.declared.records.Block.{Block}
 
 -- the blocks of records that stand from an offset on
 abbrev pub blocks_from : ℕ → List Record → List (Placed DataBlock)
@@ -37,22 +35,18 @@ pub record Stood (version : ℕ) (s : List ℕ) (at : ℕ) (t : List ℕ) (rows 
   pub rest : List Record
   pub standing : WalkAt version s rooms rows last t at env rest
 
--- A block in its parts: under the definition in force p, named by the last one q. `offsets` is where they stand in what was given for the block.
-pub record PartsOf (version : ℕ) {B : Type 0} (offsets : B → Block) (s : List ℕ) (last : List Prototype) (b : B) (x : Placed DataBlock) : Type 0 where
-  pub place : (offsets b).at ≡ x.offset
+-- a block in its parts: under the definition in force p, named by the last one q
+pub record BlockIs (version : ℕ) (s : List ℕ) (last : List Prototype) (b : Block) (x : Placed DataBlock) : Type 0 where
+  pub place : b.at ≡ x.offset
   pub p : Prototype
   pub q : Prototype
-  pub in_force : DefinedAt s (offsets b).under p
-  pub named : DefinedAt s (offsets b).last q
+  pub in_force : DefinedAt s b.under p
+  pub named : DefinedAt s b.last q
   pub last_is : get_prototype x.it.prototype_id last ≡ some q
-  pub head : head_parser (offsets b).at (drop (offsets b).at s) ≡ ok (carrying x.it.prototype_id) (offsets b).id (drop (offsets b).id s)
-  pub id_place : (offsets b).id ≡ x.offset + length x.it.head
-  pub id : id_parser (offsets b).id (drop (offsets b).id s) ≡ ok x.it.id.value ((offsets b).id + length x.it.id.raw) (drop ((offsets b).id + length x.it.id.raw) s)
-  pub values : data_values_parser version p.fields ((offsets b).id + length x.it.id.raw) (drop ((offsets b).id + length x.it.id.raw) s)
-      ≡ ok x.it.values (offsets b).next (drop (offsets b).next s)
-
-abbrev pub BlockIs : ℕ → List ℕ → List Prototype → Block → Placed DataBlock → Type 0
-BlockIs version s last b x = PartsOf version (λ (y : Block). y) s last b x
+  pub head : head_parser b.at (drop b.at s) ≡ ok (carrying x.it.prototype_id) b.id (drop b.id s)
+  pub id_place : b.id ≡ x.offset + length x.it.head
+  pub id : id_parser b.id (drop b.id s) ≡ ok x.it.id.value (b.id + length x.it.id.raw) (drop (b.id + length x.it.id.raw) s)
+  pub values : data_values_parser version p.fields (b.id + length x.it.id.raw) (drop (b.id + length x.it.id.raw) s) ≡ ok x.it.values b.next (drop b.next s)
 
 -- b is the first block among `rest` from `at` on; the walk stands behind it
 pub record Ahead (version : ℕ) (s : List ℕ) (rooms rows : ℕ) (last : List Prototype) (at : ℕ) (rest : List Record) (b : Block) (t : List ℕ) : Type 0 where
@@ -67,11 +61,11 @@ pub record Ahead (version : ℕ) (s : List ℕ) (rooms rows : ℕ) (last : List 
   pub inside : b.next ≤ length s
 
 -- or there is none, and the table serves one more walk over the file
-abbrev pub NextIs : ℕ → List ℕ → ℕ → ℕ → List Prototype → ℕ → List Record → BlockAt → List ℕ → Type 0
-NextIs version s rooms rows last at rest (ABlock b) t = Ahead version s rooms rows last at rest b t
-NextIs version s rooms rows last at rest NoBlock t = (blocks_from at rest ≡ []) × Entered (DefinedAt s) t rows [] last
+abbrev pub NextIs : ℕ → List ℕ → ℕ → ℕ → List Prototype → ℕ → List Record → Answer Block → List ℕ → Type 0
+NextIs version s rooms rows last at rest (Some b) t = Ahead version s rooms rows last at rest b t
+NextIs version s rooms rows last at rest None t = (blocks_from at rest ≡ []) × Entered (DefinedAt s) t rows [] last
 
-pub record NextBlock (version : ℕ) (s : List ℕ) (at : ℕ) (t : List ℕ) (rows : ℕ) (r : BlockAt) (t' : List ℕ) : Type 0 where
+pub record NextBlock (version : ℕ) (s : List ℕ) (at : ℕ) (t : List ℕ) (rows : ℕ) (r : Answer Block) (t' : List ℕ) : Type 0 where
   pub next : (rooms : ℕ) (last env : List Prototype) (rest : List Record) → WalkAt version s rooms rows last t at env rest
       → NextIs version s rooms rows last at rest r t'
   pub size : length t' ≡ length t

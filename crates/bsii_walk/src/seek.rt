@@ -1,54 +1,36 @@
 // The k-th block, of all or of those under a prototype name.
+ghost use Rattle.std.specs.Option.{option_copied};
 ghost use Rattle.bsii_walk.specs.Seek.{Wants, Counts, Readable, Seeks};
 
-use crate::cursor::{BlockAt as Next, next_block};
+use crate::cursor::next_block;
 use crate::names::name_is;
+use crate::records::Block;
 
-// A block's number and offset, and the offsets of its id, of its definition in force, of its last one and of the next record.
-#[derive(Drop)]
-pub struct Block {
+// A block and its number.
+#[derive(Clone, Copy)]
+pub struct Found {
     pub number: usize,
-    pub at: usize,
-    pub id: usize,
-    pub under: usize,
-    pub last: usize,
-    pub next: usize,
-}
-
-#[derive(Drop)]
-pub enum BlockAt {
-    Block(Block),
-    NoBlock,
-}
-
-// A block in the search: it is the one, or n of the wanted ones are passed over still.
-#[derive(Drop)]
-pub enum Count {
-    Found,
-    Left(usize),
+    pub block: Block,
 }
 
 // Every block is wanted, or those under the name.
-fn wants(s: &[u8], last: usize, any: bool, name: &[u8]) -> bool
-    ensures { Wants s.now last any name.now result }
+fn wants(s: &[u8], last: usize, name: Option<&[u8]>) -> bool
+    ensures { Wants s.now last (option_copied name.entry) result }
 {
-    if any {
-        return true;
+    match name {
+        None => true,
+        Some(name) => name_is(s, last, name),
     }
-    name_is(s, last, name)
 }
 
-// A block whose last definition is at `last`, where `left` of the wanted ones are passed over.
-fn count_down(s: &[u8], last: usize, any: bool, name: &[u8], left: usize) -> Count
-    ensures { Counts s.now last any name.now left result }
+// How many of the wanted blocks are still passed over behind one whose last definition is at `last`, where `left` were: none if it is the one.
+fn count_down(s: &[u8], last: usize, name: Option<&[u8]>, left: usize) -> Option<usize>
+    ensures { Counts s.now last (option_copied name.entry) left result }
 {
-    if !wants(s, last, any, name) {
-        return Count::Left(left);
+    if !wants(s, last, name) {
+        return Some(left);
     }
-    if left == 0 {
-        return Count::Found;
-    }
-    Count::Left(left - 1)
+    left.checked_sub(1)
 }
 
 // The wanted block number k, counted from the record at `start`.
@@ -58,38 +40,22 @@ pub fn seek(
     start: usize,
     table: &mut [u32],
     rows: usize,
-    any: bool,
-    name: &[u8],
+    name: Option<&[u8]>,
     k: usize,
-) -> BlockAt
+) -> Option<Found>
     requires { Readable version s.now start table.old rows }
-    ensures { Seeks version s.now start table.old rows any name.now k result }
+    ensures { Seeks version s.now start table.old rows (option_copied name.entry) k result }
 {
     let mut at = start;
     let mut number = 0;
     let mut left = k;
     loop {
-        let next = next_block(s, version, at, table, rows);
-        match next {
-            Next::NoBlock => return BlockAt::NoBlock,
-            Next::Block(b) => {
-                let count = count_down(s, b.last, any, name, left);
-                match count {
-                    Count::Found => return BlockAt::Block(Block {
-                        number,
-                        at: b.at,
-                        id: b.id,
-                        under: b.under,
-                        last: b.last,
-                        next: b.next,
-                    }),
-                    Count::Left(fewer) => {
-                        at = b.next;
-                        number += 1;
-                        left = fewer;
-                    }
-                }
-            }
-        }
+        let block = next_block(s, version, at, table, rows)?;
+        let Some(fewer) = count_down(s, block.last, name, left) else {
+            return Some(Found { number, block });
+        };
+        at = block.next;
+        number += 1;
+        left = fewer;
     }
 }

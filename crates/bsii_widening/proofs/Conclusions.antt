@@ -4,7 +4,7 @@ use Prim.Native.Nat.{ℕ, ◌+◌, ◌≤◌}
 use mathlib.Core.Option.{Option, none, some}
 use mathlib.Core.List.{List, ◌++◌}
 use lib.ListN.{length, take, drop}
-use Rattle.bsii_format.specs.Replies.{Fault, gives, refuses, refusal}
+use Rattle.bsii_format.specs.Replies.{Fault, gives, refuses, refusal, unlisted_type, absent}
 use Rattle.bsii_format.specs.Reader.{Consumed}
 use Rattle.bsii_format.specs.Types.{shape_of}
 use Rattle.bsii_format.specs.Prototypes.{ValuePrototype}
@@ -63,7 +63,7 @@ module _ (claim : Demand3) {words : ℕ} {s out : List ℕ} {f : BsiiFile} {at :
     unfolding reading_of
     reads = still.reading
 
-    pub absent_at_most : (k : ℕ) (name : List ℕ) (x : Fault) → field_call words' (new_file f r (widened f l)) k name ≡ refuses x → field_call words' (new_file f r (widened f l)) k name ≡ refusal 13 0
+    pub absent_at_most : (k : ℕ) (name : List ℕ) (x : Fault) → field_call words' (new_file f r (widened f l)) k name ≡ refuses x → field_call words' (new_file f r (widened f l)) k name ≡ refusal absent 0
     absent_at_most = still.field
 
   -- ---- the last definition
@@ -76,25 +76,25 @@ module _ (claim : Demand3) {words : ℕ} {s out : List ℕ} {f : BsiiFile} {at :
     last : AfterLast words s out f r made words' (insert (a_field n p d v) (widened f l)) first
     last = (claim words s out f at r made o l a words').2 n p d v b u m
 
-    pub reading_stops : (x : ℕ) → first ≡ some x → reading_call words' (new_file f r (insert (a_field n p d v) (widened f l))) ≡ refusal 7 x
+    pub reading_stops : (x : ℕ) → first ≡ some x → reading_call words' (new_file f r (insert (a_field n p d v) (widened f l))) ≡ refusal unlisted_type x
     reading_stops x e = (last.carried x e).reading
 
-    pub field_stops : (x : ℕ) → first ≡ some x → (k : ℕ) (name : List ℕ) → field_call words' (new_file f r (insert (a_field n p d v) (widened f l))) k name ≡ refusal 7 x
+    pub field_stops : (x : ℕ) → first ≡ some x → (k : ℕ) (name : List ℕ) → field_call words' (new_file f r (insert (a_field n p d v) (widened f l))) k name ≡ refusal unlisted_type x
     field_stops x e = (last.carried x e).field
 
     pub text_stops : (x : ℕ) → first ≡ some x → (out' : List ℕ)
-        → text_call words' (new_file f r (insert (a_field n p d v) (widened f l))) out' ≡ record { reply = refusal 7 x; needed = 0; output = out' }
+        → text_call words' (new_file f r (insert (a_field n p d v) (widened f l))) out' ≡ record { reply = refusal unlisted_type x; needed = 0; output = out' }
     text_stops x e = (last.carried x e).text
 
     -- if no block carries it, all of the above holds; and 7 means that a block does
     pub unused_converts : first ≡ none → StillConverts words s out f r made words' (insert (a_field n p d v) (widened f l))
     unused_converts = last.unused
 
-    pub reading_means : (x : ℕ) → reading_call words' (new_file f r (insert (a_field n p d v) (widened f l))) ≡ refusal 7 x → first ≡ some x
+    pub reading_means : (x : ℕ) → reading_call words' (new_file f r (insert (a_field n p d v) (widened f l))) ≡ refusal unlisted_type x → first ≡ some x
     reading_means x e = (last.exactly.reading x).0 e
 
-    pub field_means : (k : ℕ) (name : List ℕ) (x : ℕ) → field_call words' (new_file f r (insert (a_field n p d v) (widened f l))) k name ≡ refusal 7 x → first ≡ some x
+    pub field_means : (k : ℕ) (name : List ℕ) (x : ℕ) → field_call words' (new_file f r (insert (a_field n p d v) (widened f l))) k name ≡ refusal unlisted_type x → first ≡ some x
     field_means k name x e = (last.exactly.field k name x).0 e
 
-    pub text_means : (out' : List ℕ) (x : ℕ) → (text_call words' (new_file f r (insert (a_field n p d v) (widened f l))) out').reply ≡ refusal 7 x → first ≡ some x
+    pub text_means : (out' : List ℕ) (x : ℕ) → (text_call words' (new_file f r (insert (a_field n p d v) (widened f l))) out').reply ≡ refusal unlisted_type x → first ≡ some x
     text_means out' x e = (last.exactly.text out' x).0 e

@@ -6,7 +6,7 @@ use native.Mathlib.Omega.{arith}
 use mathlib.Core.Option.{Option, none, some}
 use mathlib.Core.List.{List, ◌++◌}
 use lib.ListN.{length, drop}
-use Rattle.bsii_format.specs.Replies.{gives, refusal}
+use Rattle.bsii_format.specs.Replies.{gives, refusal, unlisted_type}
 use Rattle.bsii_format.specs.Reader.{ok, Consumed}
 use Rattle.bsii_format.specs.Types.{shape_of}
 use Rattle.bsii_format.specs.Prototypes.{ValuePrototype}
@@ -66,16 +66,16 @@ module _ (claim : IndexSurvives) (w words : ℕ) (s : List ℕ) (f : BsiiFile) (
         (record { file = omega arith; table = m.table })
 
     pub write_stops_law : (x : ℕ) → first ≡ some x → (space : List ℕ)
-        → write_index_call w words' (new_file f r (insert (a_field n p d v) (widened f l))) space ≡ record { reply = refusal 7 x; needed = 0; output = space }
+        → write_index_call w words' (new_file f r (insert (a_field n p d v) (widened f l))) space ≡ record { reply = refusal unlisted_type x; needed = 0; output = space }
     write_stops_law x e space = last.write_stops x e space
 
-    pub check_stops_law : (x : ℕ) → first ≡ some x → (i : List ℕ) → check_index_call w words' (new_file f r (insert (a_field n p d v) (widened f l))) i ≡ refusal 7 x
+    pub check_stops_law : (x : ℕ) → first ≡ some x → (i : List ℕ) → check_index_call w words' (new_file f r (insert (a_field n p d v) (widened f l))) i ≡ refusal unlisted_type x
     check_stops_law = last.check_stops
 
-    pub write_means : (space : List ℕ) (x : ℕ) → (write_index_call w words' (new_file f r (insert (a_field n p d v) (widened f l))) space).reply ≡ refusal 7 x → first ≡ some x
+    pub write_means : (space : List ℕ) (x : ℕ) → (write_index_call w words' (new_file f r (insert (a_field n p d v) (widened f l))) space).reply ≡ refusal unlisted_type x → first ≡ some x
     write_means space x e = (last.write_exactly space x).0 e
 
-    pub check_means : (i : List ℕ) (x : ℕ) → check_index_call w words' (new_file f r (insert (a_field n p d v) (widened f l))) i ≡ refusal 7 x → first ≡ some x
+    pub check_means : (i : List ℕ) (x : ℕ) → check_index_call w words' (new_file f r (insert (a_field n p d v) (widened f l))) i ≡ refusal unlisted_type x → first ≡ some x
     check_means i x e = (last.check_exactly i x).0 e
 
     pub unused_indexed : first ≡ none → StillIndexed w words s f r words' (insert (a_field n p d v) (widened f l))

@@ -8,7 +8,7 @@ use mathlib.Core.Option.{Option, none, some}
 use mathlib.Core.List.{List, [], ◌∷◌, ◌++◌}
 use lib.ListN.{length}
 use lib.Dec.{eqb, eqb_refl, lit≤}
-use Rattle.bsii_format.specs.Replies.{Reply, gives, refusal, unlisted_type, misfit}
+use Rattle.bsii_format.specs.Replies.{number_of, Reply, gives, refusal, unlisted_type, misfit}
 use Rattle.bsii_format.specs.Reader.{ok, same}
 use Rattle.bsii_format.specs.Strings.{is_some}
 use Rattle.bsii_format.specs.Prototypes.{Prototype}
@@ -32,7 +32,7 @@ use Rattle.bsii_widening.proofs.Core.{widens, once_widened, all_stop}
 use Rattle.bsii_widening.proofs.Lengths.{no_shorter}
 use Rattle.bsii_widening.proofs.Survives.{field_survives}
 use Rattle.bsii_widening.proofs.Demand3.{one_more, one_more_allowed}
-use Rattle.bsii_widening.proofs.Exactly.{both_ways, number_of, not_seven}
+use Rattle.bsii_widening.proofs.Exactly.{both_ways, same_number, not_seven}
 
 -- ---- "defines no prototype id twice", as the call counts it
 
@@ -93,7 +93,7 @@ checked_not_seven w l i x e = go (same (index_bytes w l) i) e
   where
     go : (b : Bool) → ◌≡◌ {A = Reply (Unit {0})} (cond b (gives tt) (refusal misfit (agreeing w l i * (4 * w)))) (refusal unlisted_type x) → ⊥
     go true z = refuses≢gives (sym z)
-    go false z = let y : ◌≡◌ {A = ℕ} misfit unlisted_type = number_of z in omega arith
+    go false z = let y : number_of misfit ≡ number_of unlisted_type = same_number z in omega arith
 
 module _ {w limit : ℕ} (short : limit ≤ length_limit) (held : limit ≤ 256 ^ w) {words : ℕ} {s : List ℕ} {f : BsiiFile} {at : ℕ} {r : List ℕ} (o : Old words s f at r) (l : List Insertion) (a : AllAllowed f.header.value l (mark_records f.records)) (words' : ℕ) where
   index_last : IndexLastUnlisted w limit words s f r words' (widened f l)

@@ -27,6 +27,10 @@ capped_top a b h = simp (le-leb 0xffff_ffff_ffff_ffff (a + b) h)
 pub capped_fits : (a b : ℕ) → a + b ≤ 0xffff_ffff_ffff_ffff → capped a b ≡ a + b
 capped_fits a b h = ⊎_elim (capped_less a b) (λ l. capped_top a b l ∙ omega arith) (lt_or_le (a + b) 0xffff_ffff_ffff_ffff)
 
+pub capped_is : (a b : ℕ) → capped a b ≡ min (a + b) 0xffff_ffff_ffff_ffff
+capped_is a b =
+    ⊎_elim (λ l. capped_less a b l ∙ omega arith) (λ l. capped_top a b l ∙ omega arith) (lt_or_le (a + b) 0xffff_ffff_ffff_ffff)
+
 capped_twice : (a b c : ℕ) → capped (capped a b) c ≡ capped a (b + c)
 capped_twice a b c =
     ⊎_elim

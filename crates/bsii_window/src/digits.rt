@@ -5,7 +5,7 @@ ghost use Rattle.bsii_window.specs.Stored.{Stored};
 ghost use Rattle.bsii_window.specs.Window.{Wrote};
 
 use crate::window::{Overlap, further, overlap_of, put_all, store_byte};
-use bsii_digits::{decimal_count, digit, fill_decimal, fill_four, fill_hex, hex_count};
+use bsii_digits::{decimal_count, decimal_digit, fill_decimal, fill_four, fill_hex, hex_count};
 
 // Where there is room for any number. Many have one digit.
 pub fn store_decimal(out: &mut [u8], to: usize, n: u64) -> usize
@@ -13,7 +13,7 @@ pub fn store_decimal(out: &mut [u8], to: usize, n: u64) -> usize
     ensures { Stored out.old to (decimal n) result out.new × (result ≤ to + 20) }
 {
     if n < 10 {
-        return store_byte(out, to, digit(n));
+        return store_byte(out, to, decimal_digit(n));
     }
     let end = to + decimal_count(n);
     fill_decimal(out, end, n);
@@ -34,13 +34,12 @@ pub fn write_decimal(out: &mut [u8], at: usize, n: u64) -> usize
     ensures { Wrote out.old at (decimal n) result out.new }
 {
     let count = decimal_count(n);
-    let place = overlap_of(out.len(), at, count);
-    match place {
-        Overlap::Past => return further(at, count),
-        Overlap::Across => return put_decimal(out, at, n, count),
+    match overlap_of(out.len(), at, count) {
+        Overlap::Past => further(at, count),
+        Overlap::Across => put_decimal(out, at, n, count),
         Overlap::Inside(start) => {
             fill_decimal(out, start + count, n);
-            return at + count;
+            at + count
         }
     }
 }
@@ -62,13 +61,12 @@ pub fn write_hex_padded(out: &mut [u8], at: usize, n: u64, count: u32) -> usize
     ensures { Wrote out.old at (hex_padded count n) result out.new }
 {
     let width = count as usize;
-    let place = overlap_of(out.len(), at, width);
-    match place {
-        Overlap::Past => return further(at, width),
-        Overlap::Across => return put_hex(out, at, n, count),
+    match overlap_of(out.len(), at, width) {
+        Overlap::Past => further(at, width),
+        Overlap::Across => put_hex(out, at, n, count),
         Overlap::Inside(start) => {
             fill_hex(out, start + width, n, count);
-            return at + width;
+            at + width
         }
     }
 }
@@ -78,7 +76,7 @@ pub fn store_hex(out: &mut [u8], to: usize, n: u32) -> usize
     requires { to + 8 ≤ length out.old }
     ensures { Stored out.old to (hexadecimal n) result out.new × (result ≤ to + 8) }
 {
-    let wide = n as u64;
+    let wide = u64::from(n);
     if 0xfff_ffff < n {
         fill_four(out, to, wide / 0x1_0000);
         fill_four(out, to + 4, wide);

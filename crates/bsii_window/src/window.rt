@@ -1,9 +1,12 @@
 // Bytes into a window.
-ghost use Rattle.std.specs.Prelude.{◌≡◌, [], ◌∷◌, ◌+◌, ◌≤◌, ◌<◌, min, length};
+ghost use Rattle.std.specs.Prelude.{◌≡◌, [], ◌∷◌, ◌+◌, ◌≤◌, ◌<◌, length};
 ghost use Rattle.std.proofs.lemmas.List.Edits.{sets};
 ghost use Rattle.bsii_window.specs.Window.{capped, Wrote};
 ghost use Rattle.bsii_window.specs.Stored.{Stored};
 ghost use Rattle.bsii_window.specs.Overlaps.{OverlapOf};
+
+// The position of a window's first byte.
+pub const ORIGIN: usize = 0x8000_0000_0000_0000;
 
 // Where a text lies: all of it in the window, from an index on; past the window's end; or, for all that is known, across an edge.
 #[derive(Drop)]
@@ -17,10 +20,10 @@ pub enum Overlap {
 pub fn overlap_of(room: usize, at: usize, count: usize) -> Overlap
     ensures { OverlapOf room at count result }
 {
-    if at < 0x8000_0000_0000_0000 {
+    if at < ORIGIN {
         return Overlap::Across;
     }
-    let start = at - 0x8000_0000_0000_0000;
+    let start = at - ORIGIN;
     if room <= start {
         return Overlap::Past;
     }
@@ -33,19 +36,16 @@ pub fn overlap_of(room: usize, at: usize, count: usize) -> Overlap
 pub fn further(at: usize, count: usize) -> usize
     ensures { result ≡ capped at count }
 {
-    if 0xffff_ffff_ffff_ffff - at <= count {
-        return 0xffff_ffff_ffff_ffff;
-    }
-    at + count
+    at.saturating_add(count)
 }
 
 pub fn put(out: &mut [u8], at: usize, byte: u8) -> usize
     ensures { Wrote out.old at (byte ∷ []) result out.new }
 {
-    if at < 0x8000_0000_0000_0000 {
+    if at < ORIGIN {
         return further(at, 1);
     }
-    let index = at - 0x8000_0000_0000_0000;
+    let index = at - ORIGIN;
     if out.len() <= index {
         return further(at, 1);
     }
@@ -53,22 +53,15 @@ pub fn put(out: &mut [u8], at: usize, byte: u8) -> usize
     at + 1
 }
 
-fn least(a: usize, b: usize) -> usize
-    ensures { result ≡ min a b }
-{
-    if a <= b { a } else { b }
-}
-
-// As much of the text as there is room for, from an index on.
+// As much of the text as there is room for, from an index on. By a loop: `copy_from_slice` was tried, and takes five instructions more for a fixed text, since it
+// tests for an overlap.
 pub fn store(out: &mut [u8], start: usize, text: &[u8])
     requires { start ≤ length out.old }
     ensures { out.new ≡ sets out.old start text.now }
 {
-    let count = least(out.len() - start, text.len());
-    let mut i = 0;
-    while i < count {
+    let count = text.len().min(out.len() - start);
+    for i in 0..count {
         out[start + i] = text[i];
-        i += 1;
     }
 }
 
@@ -81,15 +74,13 @@ pub fn store_byte(out: &mut [u8], to: usize, byte: u8) -> usize
     to + 1
 }
 
-// Without a test for its room, a fixed text takes a store or two.
+// Without a test for its room, a fixed text takes a store or two. By a loop, as `store`.
 pub fn store_text(out: &mut [u8], to: usize, text: &[u8]) -> usize
     requires { to + length text.now ≤ length out.old }
     ensures { Stored out.old to text.now result out.new }
 {
-    let mut i = 0;
-    while i < text.len() {
+    for i in 0..text.len() {
         out[to + i] = text[i];
-        i += 1;
     }
     to + text.len()
 }
@@ -99,15 +90,15 @@ fn put_across(out: &mut [u8], at: usize, text: &[u8]) -> usize
     ensures { Wrote out.old at text.now result out.new }
 {
     let end = further(at, text.len());
-    if end <= 0x8000_0000_0000_0000 {
+    if end <= ORIGIN {
         return end;
     }
-    if at < 0x8000_0000_0000_0000 {
-        let before = 0x8000_0000_0000_0000 - at;
+    if at < ORIGIN {
+        let before = ORIGIN - at;
         store(out, 0, &text[before..]);
         return end;
     }
-    let start = at - 0x8000_0000_0000_0000;
+    let start = at - ORIGIN;
     if out.len() <= start {
         return end;
     }
@@ -121,13 +112,12 @@ pub fn put_all(out: &mut [u8], at: usize, text: &[u8]) -> usize
     ensures { Wrote out.old at text.now result out.new }
 {
     let count = text.len();
-    let place = overlap_of(out.len(), at, count);
-    match place {
-        Overlap::Past => return further(at, count),
-        Overlap::Across => return put_across(out, at, text),
+    match overlap_of(out.len(), at, count) {
+        Overlap::Past => further(at, count),
+        Overlap::Across => put_across(out, at, text),
         Overlap::Inside(start) => {
             store(out, start, text);
-            return at + count;
+            at + count
         }
     }
 }

@@ -1,9 +1,7 @@
 -- What the walk over a word answers, by the characters that the format gives to it.
-use Rattle.std.proofs.Math.Option.{Option, none, some}
-use Rattle.std.specs.Prelude.{List, ℕ, length}
-use Rattle.bsii_word.specs.declared.words.Spelled.{Spelled}
-use Rattle.bsii_word.specs.declared.words.Spelled.TheVariants.{Length, ZeroDigit}
+use Rattle.std.proofs.Math.Option as format
+use Rattle.std.specs.Prelude.{Option, Some, None, List, ℕ, length}
 
-abbrev pub spelled_as : Option (List ℕ) → Spelled
-spelled_as none = ZeroDigit
-spelled_as (some l) = Length (length l)
+abbrev pub spelled_as : format.Option (List ℕ) → Option ℕ
+spelled_as format.none = None
+spelled_as (format.some l) = Some (length l)

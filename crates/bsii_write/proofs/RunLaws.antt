@@ -6,31 +6,19 @@ use mathlib.Core.List.{List, [], ◌∷◌, ◌++◌}
 use native.Mathlib.Omega.{arith}
 use lib.ListN.{length, take, drop, get_or, length-drop, drop_of_length-le}
 use lib.Seq.{drop-cons, drop-drop}
+use mathlib.Core.Logic.{⊎_elim}
+use lib.Dec.{ltb}
+use borrow.Author.Tests.{lt-ltb, le-ltb}
+use Rattle.std.proofs.Common.{Option, Some, None}
+use Rattle.std.specs.Prelude.{not}
+use Rattle.std.specs.List.{position_or_len}
+use Rattle.std.specs.Option.{unwrap_or}
+use Rattle.bsii_format.proofs.Lists.{lt_or_le}
 use Rattle.bsii_format.specs.Utf8.{◌to◌, within}
 use Rattle.bsii_format.specs.Text.{escaped}
 use Rattle.bsii_write.specs.Runs.{escape, raw, run_end, first_escaped, run}
 
 -- ---- runs
-
-module _ (s : List ℕ) (i : ℕ) where
-  raw_at : {b : Bool} → i < length s → within (32 to 127) (get_or s i 0) ≡ b → raw (drop i s) ≡ cond b (suc (raw (drop (suc i) s))) 0
-  unfolding raw
-  raw_at h e = ap raw (drop-cons s i 0 h) ∙ ap (λ (b : Bool). cond b (suc (raw (drop (suc i) s))) 0) e
-
-  pub run_more : i < length s → within (32 to 127) (get_or s i 0) ≡ true → run_end s i ≡ run_end s (i + 1)
-  unfolding run_end
-  run_more h e =
-      let z : suc i ≡ i + 1 = omega arith in
-      let r = raw_at h e ∙ ap (λ (k : ℕ). suc (raw (drop k s))) z in
-      omega arith
-
-  pub run_stops : i < length s → within (32 to 127) (get_or s i 0) ≡ false → run_end s i ≡ i
-  unfolding run_end
-  run_stops h e = let r = raw_at h e in omega arith
-
-  pub run_ends : length s ≤ i → run_end s i ≡ i
-  unfolding run_end raw
-  run_ends h = let r = ap raw (drop_of_length-le s {i = i} h) in omega arith
 
 raw_short : (b : Bool) (x : ℕ) (s : List ℕ) → within (32 to 127) x ≡ b → raw s ≤ length s → raw (x ∷ s) ≤ suc (length s)
 unfolding raw
@@ -41,6 +29,31 @@ raw_le : (s : List ℕ) → raw s ≤ length s
 unfolding raw
 raw_le [] = omega arith
 raw_le (x ∷ s) = raw_short (within (32 to 127) x) x s refl (raw_le s)
+
+-- the first byte that is not raw, or the length
+first_raw : (b : Bool) (x : ℕ) (s : List ℕ) → within (32 to 127) x ≡ b → position_or_len (λ y. not (within (32 to 127) y)) s ≡ raw s
+    → position_or_len (λ y. not (within (32 to 127) y)) (x ∷ s) ≡ raw (x ∷ s)
+unfolding raw
+first_raw true x s e h = rw e (omega (arith, h))
+first_raw false x s e h = rw e refl
+
+first_not_raw : (s : List ℕ) → position_or_len (λ y. not (within (32 to 127) y)) s ≡ raw s
+unfolding raw
+first_not_raw [] = refl
+first_not_raw (x ∷ s) = first_raw (within (32 to 127) x) x s refl (first_not_raw s)
+
+first_or : (k n : ℕ) → k ≤ n → unwrap_or (cond (ltb k n) (Some k) None) n ≡ k
+first_or k n h = ⊎_elim (λ l. rw (lt-ltb k n l) refl) (λ l. let z : n ≡ k = omega arith in rw (le-ltb k n l) z) (lt_or_le k n)
+
+pub run_found : (s : List ℕ) (i : ℕ) (r : Option ℕ) (n : ℕ) → n ≡ length (drop i s)
+    → r ≡ cond (ltb (position_or_len (λ y. not (within (32 to 127) y)) (drop i s)) (length (drop i s)))
+    (Some (position_or_len (λ y. not (within (32 to 127) y)) (drop i s))) None
+    → i + unwrap_or r n ≡ run_end s i
+unfolding run_end
+run_found s i r n z e =
+    let k = raw (drop i s) in
+    let f : r ≡ cond (ltb k (length (drop i s))) (Some k) None = rw (first_not_raw (drop i s)) at e in
+    ap (λ (m : ℕ). i + m) (rw (f, z) (first_or k (length (drop i s)) (raw_le (drop i s))))
 
 pub run_after : (s : List ℕ) (i : ℕ) → i ≤ run_end s i
 unfolding run_end

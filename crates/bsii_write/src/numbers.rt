@@ -1,5 +1,5 @@
 // Whole numbers and truth values, where there is room for any: the longest have a sign and 20 digits.
-ghost use Rattle.std.specs.Prelude.{◌+◌, ◌≤◌, ◌++◌, length};
+ghost use Rattle.std.specs.Prelude.{◌+◌, ◌*◌, ◌<◌, ◌≤◌, ◌++◌, length};
 ghost use Rattle.bsii_format.specs.Ascii.{ascii};
 ghost use Rattle.bsii_format.specs.Numbers.{signed};
 ghost use Rattle.bsii_format.specs.Digits.{decimal, decimal_int};
@@ -27,26 +27,29 @@ pub fn store_negative(out: &mut [u8], to: usize, size: u64) -> usize
     store_decimal(out, next, size)
 }
 
-// An i32 by its two's complement.
+// A number by its two's complement: those from HALF on are negative, and stand for twice HALF less, which may be 2^64.
+fn store_signed<const HALF: u64>(out: &mut [u8], to: usize, n: u64) -> usize
+    requires { (n < 2 * HALF) × (to + 21 ≤ length out.old) }
+    ensures { Stored out.old to (decimal_int (signed HALF n)) result out.new × (result ≤ to + 21) }
+{
+    if n < HALF {
+        return store_decimal(out, to, n);
+    }
+    store_negative(out, to, HALF.wrapping_mul(2).wrapping_sub(n))
+}
+
 pub fn store_i32(out: &mut [u8], to: usize, n: u32) -> usize
     requires { to + 21 ≤ length out.old }
     ensures { Stored out.old to (int32_text n) result out.new × (result ≤ to + 21) }
 {
-    let wide = n as u64;
-    if wide < 0x8000_0000 {
-        return store_decimal(out, to, wide);
-    }
-    store_negative(out, to, 0x1_0000_0000 - wide)
+    store_signed::<0x8000_0000>(out, to, u64::from(n))
 }
 
 pub fn store_i64(out: &mut [u8], to: usize, n: u64) -> usize
     requires { to + 21 ≤ length out.old }
     ensures { Stored out.old to (decimal_int (signed 0x8000_0000_0000_0000 n)) result out.new × (result ≤ to + 21) }
 {
-    if n < 0x8000_0000_0000_0000 {
-        return store_decimal(out, to, n);
-    }
-    store_negative(out, to, 0xffff_ffff_ffff_ffff - n + 1)
+    store_signed::<0x8000_0000_0000_0000>(out, to, n)
 }
 
 pub fn store_bool(out: &mut [u8], to: usize, n: u32) -> usize

@@ -4,7 +4,7 @@ ghost use Rattle.bsii_format.specs.Text.{escaped, string_text};
 ghost use Rattle.bsii_window.specs.Window.{Wrote};
 ghost use Rattle.bsii_write.specs.Runs.{run_end, run};
 
-use bsii_text_length::strings::worst;
+use bsii_text_length::strings::{Class, is_raw, worst};
 use bsii_window::digits::write_hex_padded;
 use bsii_window::window::{put, put_all};
 
@@ -13,17 +13,8 @@ fn run_end(bytes: &[u8], start: usize) -> usize
     requires { start ≤ length bytes.now }
     ensures { result ≡ run_end bytes.now start }
 {
-    let mut i = start;
-    while i < bytes.len() {
-        if bytes[i] < 32 {
-            return i;
-        }
-        if 127 < bytes[i] {
-            return i;
-        }
-        i += 1;
-    }
-    i
+    let rest = &bytes[start..];
+    start + rest.iter().position(|b| !is_raw(*b)).unwrap_or(rest.len())
 }
 
 // The raw bytes from start to end, and the byte behind them, if there is one, as `\x` and two digits.
@@ -34,11 +25,12 @@ fn write_run(out: &mut [u8], at: usize, bytes: &[u8], start: usize, end: usize) 
     let next = put_all(out, at, &bytes[start..end]);
     if end < bytes.len() {
         let digits = put_all(out, next, b"\\x");
-        return write_hex_padded(out, digits, bytes[end] as u64, 2);
+        return write_hex_padded(out, digits, u64::from(bytes[end]), 2);
     }
     next
 }
 
+// A turn passes a run and an escape, so no `for` counts the bytes for it.
 fn write_escaped(out: &mut [u8], at: usize, bytes: &[u8]) -> usize
     ensures { Wrote out.old at (escaped bytes.now) result out.new }
 {
@@ -56,18 +48,20 @@ fn write_escaped(out: &mut [u8], at: usize, bytes: &[u8]) -> usize
 pub fn write_string(out: &mut [u8], at: usize, bytes: &[u8]) -> usize
     ensures { Wrote out.old at (string_text bytes.now) result out.new }
 {
-    if bytes.len() == 0 {
+    if bytes.is_empty() {
         return put_all(out, at, b"\"\"");
     }
-    let class = worst(bytes);
-    if class == 0 {
-        return put_all(out, at, bytes);
+    match worst(bytes) {
+        Class::Bare => put_all(out, at, bytes),
+        Class::Quoted => {
+            let first = put(out, at, b'"');
+            let last = put_all(out, first, bytes);
+            put(out, last, b'"')
+        }
+        _ => {
+            let first = put(out, at, b'"');
+            let last = write_escaped(out, first, bytes);
+            put(out, last, b'"')
+        }
     }
-    let first = put(out, at, b'"');
-    if class == 1 {
-        let last = put_all(out, first, bytes);
-        return put(out, last, b'"');
-    }
-    let last = write_escaped(out, first, bytes);
-    put(out, last, b'"')
 }

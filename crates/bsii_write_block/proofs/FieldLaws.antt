@@ -19,22 +19,18 @@ use Rattle.bsii_format.proofs.Positions.{step}
 use Rattle.bsii_string.specs.Answers.{fault_is, refused_at}
 use Rattle.bsii_string.specs.declared.answers.Refusal.{Refusal}
 use Rattle.bsii_skip.proofs.Blocks.{turn, done as no_values}
-use Rattle.bsii_definition.specs.Pairs.{definition, Paired, PairIs, both, ends, last_longer, last_shorter, PairOf}
+use Rattle.bsii_definition.specs.Pairs.{Paired, PairIs, both, ends, last_longer, last_shorter, PairOf}
 use Rattle.bsii_definition.specs.declared.pairs.Definition.{Definition}
-use Rattle.bsii_definition.specs.declared.pairs.Pair.{Pair}
 use Rattle.bsii_definition.specs.declared.pairs.Pair.TheVariants.{Both, Ends, Uneven}
-use Rattle.bsii_write_value.specs.Lines.{LinesAre}
+use Rattle.std.specs.Prelude.{None, Option as Answer, Ok, Err, Result as Outcome}
+use Rattle.bsii_write_value.specs.Lines.{lines, LinesAre}
 use Rattle.bsii_write_value.specs.declared.values.Lines.{Lines}
-use Rattle.bsii_write_value.specs.declared.values.Lines.TheVariants.{Next as More, NotInList}
 use Rattle.bsii_lines.specs.Lines.{FieldWritten}
 use Rattle.bsii_window.specs.Window.{Wrote}
 use Rattle.bsii_window.proofs.Laws.{then}
 use Rattle.bsii_window.proofs.Loops.{begin, end}
 use Rattle.bsii_write_block.specs.Blocks.{WrittenIs, FieldsWritten, FieldTurned}
 use Rattle.bsii_write_block.specs.declared.blocks.FieldPlace.{FieldPlace}
-use Rattle.bsii_write_block.specs.declared.blocks.FieldTurn.{FieldTurn}
-use Rattle.bsii_write_block.specs.declared.blocks.Written.{Written}
-use Rattle.bsii_write_block.specs.declared.blocks.Written.TheVariants.{Next, Refused}
 
 -- ---- texts one behind the other
 
@@ -49,19 +45,15 @@ joined_behind x y (gives t) = ap gives (append_assoc x y t)
 joined_behind x y (refuses f) = refl
 
 -- what is written behind a text is written with it
-pub behind_text : {old : List ℕ} {to p : ℕ} {mid x : List ℕ} → Wrote old to x p mid → (o : Reply (List ℕ)) (n : ℕ) (r : Written) (new : List ℕ) → WrittenIs mid p o n r new → WrittenIs old to (joined (gives x) o) n r new
+pub behind_text : {old : List ℕ} {to p : ℕ} {mid x : List ℕ} → Wrote old to x p mid → (o : Reply (List ℕ)) (n : ℕ) (r : Outcome Lines Refusal) (new : List ℕ) → WrittenIs mid p o n r new → WrittenIs old to (joined (gives x) o) n r new
 unfolding joined
-behind_text w (gives t) n (Next at r) new h = (h.0, then w h.1)
-behind_text w (gives t) n (Refused g) new h = absurd h
-behind_text w (refuses f) n (Next at r) new h = absurd h
-behind_text w (refuses f) n (Refused g) new h = h
+behind_text w (gives t) n (Ok l) new h = (h.0, then w h.1)
+behind_text w (gives t) n (Err g) new h = absurd h
+behind_text w (refuses f) n (Ok l) new h = absurd h
+behind_text w (refuses f) n (Err g) new h = h
 
 true≢false : {P : Type 0} → true ≡ false → P
 true≢false e = let z : ◌≡◌ {A = ℕ} 0 1 = cc in let f : ⊥ = omega arith in absurd f
-
--- a contract at the case that was answered
-pub pair_by : {s : List ℕ} {a b : ℕ} {x r : Pair} → x ≡ r → PairOf s a b x → PairOf s a b r
-pair_by {s} {a} {b} e h = subst (PairOf s a b) e h
 
 -- `text` gives the lines of a value
 module _ (text : ValuePrototype → Value → Option (List ℕ)) where
@@ -100,36 +92,36 @@ module _ (text : ValuePrototype → Value → Option (List ℕ)) where
 
   module _ (version : ℕ) (s : List ℕ) (field lastField at here : ℕ) (out : List ℕ) where
     -- both lists are at their end
-    pub turn_ends : here ≤ 0xffff_ffff_ffff_ffff → length out < 0x8000_0000_0000_0000 → PairOf s field lastField Ends → FieldsWritten text version s at field lastField out here (Next at here) out
+    pub turn_ends : here ≤ 0xffff_ffff_ffff_ffff → length out < 0x8000_0000_0000_0000 → PairOf s field lastField Ends → FieldsWritten text version s at field lastField out here (Ok (record { at = at; to = here })) out
     unfolding fields_text
     turn_ends a b p = record { writes = λ l n t e m o u f vs d c k. close (p.is l n t e m o u f) c; size = refl }
       where
         close : {a b : Fields} {n : ℕ} {t : List ℕ} {o : ℕ} {u : List ℕ} {vs : List DataValue} {e : ℕ} → PairIs s a n t b o u Ends
-            → data_values_parser version a.fields at (drop at s) ≡ ok vs e (drop e s) → WrittenIs out here (fields_text text at b.fields vs) e (Next at here) out
+            → data_values_parser version a.fields at (drop at s) ≡ ok vs e (drop e s) → WrittenIs out here (fields_text text at b.fields vs) e (Ok (record { at = at; to = here })) out
         close {vs = vs} {e = e} (ends p q) c =
             let z = no_values version (ap (λ (fs : List (Consumed ValuePrototype)). data_values_parser version fs at (drop at s)) (sym p) ∙ c) in
-            subst (λ (fs : List (Consumed ValuePrototype)). WrittenIs out here (fields_text text at fs vs) e (Next at here) out) (sym q)
+            subst (λ (fs : List (Consumed ValuePrototype)). WrittenIs out here (fields_text text at fs vs) e (Ok (record { at = at; to = here })) out) (sym q)
             (sym z.1, end (begin {x = []} a b) refl)
 
-    pub turn_uneven : PairOf s field lastField Uneven → (r : Written) → FieldsWritten text version s at field lastField out here r out
+    pub turn_uneven : PairOf s field lastField Uneven → (r : Outcome Lines Refusal) → FieldsWritten text version s at field lastField out here r out
     turn_uneven p r = record { writes = λ l n t e m o u f vs d c k. no (p.is l n t e m o u f) k; size = refl }
       where
         no : {P : Type 0} {a b : Fields} {n : ℕ} {t : List ℕ} {o : ℕ} {u : List ℕ} → PairIs s a n t b o u Uneven → eqb (length b.fields) (length a.fields) ≡ true → P
         no (last_longer p {fs = fs} q) k = true≢false (sym k ∙ ap₂ (λ (c d : List (Consumed ValuePrototype)). eqb (length c) (length d)) q p ∙ eqb-suc-zero (length fs))
         no (last_shorter {fs = fs} p q) k = true≢false (sym k ∙ ap₂ (λ (c d : List (Consumed ValuePrototype)). eqb (length c) (length d)) q p ∙ eqb-zero-suc (length fs))
 
-    module _ {type lastType name nameEnd next lastNext : ℕ} (p : PairOf s field lastField (Both type lastType name nameEnd next lastNext)) where
+    module _ {type : ℕ} {d : Definition} {next lastNext : ℕ} (p : PairOf s field lastField (Both type d next lastNext)) where
       -- the pair, for lists that were accepted
       paired : {a b : Fields} {n : ℕ} {t : List ℕ} {o : ℕ} {u : List ℕ} → fields_parser field (drop field s) ≡ ok a n t → fields_parser lastField (drop lastField s) ≡ ok b o u
-          → Paired s type (definition lastType name nameEnd) next lastNext a n t b o u
+          → Paired s type d next lastNext a n t b o u
       paired {a} {b} {n} {t} {o} {u} e f = go (p.is a n t e b o u f)
         where
-          go : PairIs s a n t b o u (Both type lastType name nameEnd next lastNext) → Paired s type (definition lastType name nameEnd) next lastNext a n t b o u
+          go : PairIs s a n t b o u (Both type d next lastNext) → Paired s type d next lastNext a n t b o u
           go (both q) = q
 
       module _ {l : Fields} {n : ℕ} {t : List ℕ} (e : fields_parser field (drop field s) ≡ ok l n t) {m : Fields} {o : ℕ} {u : List ℕ} (f : fields_parser lastField (drop lastField s) ≡ ok m o u)
           {vs : List DataValue} {z : ℕ} (c : data_values_parser version l.fields at (drop at s) ≡ ok vs z (drop z s)) where
-        pair : Paired s type (definition lastType name nameEnd) next lastNext l n t m o u
+        pair : Paired s type d next lastNext l n t m o u
         pair = paired e f
 
         value : First version s at type pair.last pair.last_begins.rest.fields pair.begins.rest.fields vs z
@@ -148,8 +140,8 @@ module _ (text : ValuePrototype → Value → Option (List ℕ)) where
             sym (eqb-suc-suc (length pair.last_begins.rest.fields) (length pair.begins.rest.fields))
             ∙ sym (ap₂ (λ (a b : List (Consumed ValuePrototype)). eqb (length a) (length b)) pair.last_begins.fields pair.begins.fields) ∙ k
 
-      pub turn_absent : {x : Refusal} {new : List ℕ} → x ≡ refused_at enum_value at → FieldWritten text version s at type (definition lastType name nameEnd) out here NotInList new
-          → FieldsWritten text version s at field lastField out here (Refused x) new
+      pub turn_absent : {x : Refusal} {new : List ℕ} → x ≡ refused_at enum_value at → FieldWritten text version s at type d out here None new
+          → FieldsWritten text version s at field lastField out here (Err x) new
       unfolding joined or_refuse
       turn_absent {x} {new} z w = record {
         writes = λ l n t e m o u f vs i c k.
@@ -160,13 +152,13 @@ module _ (text : ValuePrototype → Value → Option (List ℕ)) where
         size = w.size;
       }
         where
-          stop : {whole : Reply (List ℕ)} (v : Option (List ℕ)) (more : Reply (List ℕ)) (e m : ℕ) → LinesAre out here v m NotInList new → joined (or_refuse enum_value at v) more ≡ whole
-              → WrittenIs out here whole e (Refused x) new
-          stop none more e m a h = subst (λ (r : Reply (List ℕ)). WrittenIs out here r e (Refused x) new) h (ap fault_is z)
+          stop : {whole : Reply (List ℕ)} (v : Option (List ℕ)) (more : Reply (List ℕ)) (e m : ℕ) → LinesAre out here v m None new → joined (or_refuse enum_value at v) more ≡ whole
+              → WrittenIs out here whole e (Err x) new
+          stop none more e m a h = subst (λ (r : Reply (List ℕ)). WrittenIs out here r e (Err x) new) h (ap fault_is z)
           stop (some v) more e m a h = absurd a
 
-      pub turn_on : {behind to : ℕ} {new : List ℕ} → FieldWritten text version s at type (definition lastType name nameEnd) out here (More behind to) new
-          → (r : Written) (last : List ℕ) → FieldsWritten text version s behind next lastNext new to r last
+      pub turn_on : {behind to : ℕ} {new : List ℕ} → FieldWritten text version s at type d out here (lines behind to) new
+          → (r : Outcome Lines Refusal) (last : List ℕ) → FieldsWritten text version s behind next lastNext new to r last
           → FieldsWritten text version s at field lastField out here r last
       unfolding or_refuse
       turn_on {behind} {to} {new} w r last h = record {
@@ -180,7 +172,7 @@ module _ (text : ValuePrototype → Value → Option (List ℕ)) where
         where
           on : {whole : Reply (List ℕ)} (a : Fields) (n : ℕ) (t : List ℕ) → fields_parser next (drop next s) ≡ ok a n t → (b : Fields) (o : ℕ) (u : List ℕ) → fields_parser lastNext (drop lastNext s) ≡ ok b o u
               → (m : ℕ) (vs : List DataValue) (e : ℕ) → data_values_parser version a.fields m (drop m s) ≡ ok vs e (drop e s)
-              → eqb (length b.fields) (length a.fields) ≡ true → (v : Option (List ℕ)) → LinesAre out here v m (More behind to) new
+              → eqb (length b.fields) (length a.fields) ≡ true → (v : Option (List ℕ)) → LinesAre out here v m (lines behind to) new
               → joined (or_refuse enum_value at v) (fields_text text m b.fields vs) ≡ whole → WrittenIs out here whole e r last
           on a n t f b o u g m vs e c k none q x = absurd q
           on a n t f b o u g m vs e c k (some v) q x =
@@ -188,10 +180,7 @@ module _ (text : ValuePrototype → Value → Option (List ℕ)) where
               (behind_text q.1 (fields_text text behind b.fields vs) e r last
               (h.writes a n t f b o u g vs e (ap (λ (j : ℕ). data_values_parser version a.fields j (drop j s)) q.0 ∙ c) k))
 
-  -- contracts at the case that was answered
-  pub field_by_law : {version : ℕ} {s : List ℕ} {at type : ℕ} {d : Definition} {old : List ℕ} {to : ℕ} {x r : Lines} {new : List ℕ} → x ≡ r → FieldWritten text version s at type d old to x new → FieldWritten text version s at type d old to r new
-  field_by_law {version} {s} {at} {type} {d} {old} {to} {x} {r} {new} e h = subst (λ (y : Lines). FieldWritten text version s at type d old to y new) e h
-
-  pub turned_by : (version : ℕ) (s : List ℕ) (p : FieldPlace) (old new : List ℕ) {x r : FieldTurn} → x ≡ r → FieldTurned text version s p old x new
-      → FieldTurned text version s p old r new
-  turned_by version s p old new e h = subst (λ (y : FieldTurn). FieldTurned text version s p old y new) e h
+  -- a turn at the case that was answered
+  pub turned_by : (version : ℕ) (s : List ℕ) (p : FieldPlace) (old new : List ℕ) {x r : Answer FieldPlace} → x ≡ r → FieldTurned text version s p old (Ok x) new
+      → FieldTurned text version s p old (Ok r) new
+  turned_by version s p old new e h = subst (λ (y : Answer FieldPlace). FieldTurned text version s p old (Ok y) new) e h

@@ -5,7 +5,6 @@ ghost use Rattle.bsii_format.specs.Ascii.{ascii};
 ghost use Rattle.bsii_format.specs.Digits.{hex_padded};
 ghost use Rattle.bsii_format.specs.Text.{groups, id_text};
 ghost use Rattle.bsii_format.specs.Strings.{nameless};
-ghost use Rattle.bsii_base38.specs.Pairs.{CharPairs};
 ghost use Rattle.bsii_window.specs.Stored.{Stored};
 ghost use Rattle.bsii_write_id.specs.Ids.{dotted_at, IdStored, IdLength, IdWritten};
 
@@ -70,26 +69,22 @@ fn store_nameless(out: &mut [u8], to: usize, n: u64) -> usize
 
 // `count` words behind the first one, without their bit 63, each with a dot in front.
 fn store_dotted(chars: &CharPairs, out: &mut [u8], to: usize, raw: &[u8], count: u32) -> usize
-    requires count_in_bounds { to + 14 * count ≤ length out.old }
-    requires char_pairs { CharPairs chars.now }
+    requires { to + 14 * count ≤ length out.old }
     ensures { Stored out.old to (dotted_at count raw.now 9) result out.new × (result ≤ to + 14 * count) }
 {
-    let mut left = count;
     let mut place = 9;
     let mut here = to;
-    while 0 < left {
+    for _ in 0..count {
         let next = store_byte(out, here, b'.');
         here = store_word(chars, out, next, u64_at(raw, place) % 0x8000_0000_0000_0000);
         place += 8;
-        left -= 1;
     }
     here
 }
 
 // The id of these bytes, which were accepted. Fewer bytes than the words need are no id.
 pub fn store_id(chars: &CharPairs, out: &mut [u8], to: usize, raw: &[u8]) -> usize
-    requires raw_in_bounds { to + 29 + 2 * length raw.now ≤ length out.old }
-    requires char_pairs { CharPairs chars.now }
+    requires { to + 29 + 2 * length raw.now ≤ length out.old }
     ensures { IdStored raw.now out.old to result out.new }
 {
     let n = u8_at(raw, 0);
@@ -109,13 +104,11 @@ pub fn store_id(chars: &CharPairs, out: &mut [u8], to: usize, raw: &[u8]) -> usi
 fn dotted_length(raw: &[u8], count: u32) -> usize
     ensures { (result ≡ length (dotted_at count raw.now 9)) × (result ≤ 14 * count) }
 {
-    let mut left = count;
     let mut place: usize = 9;
     let mut long: usize = 0;
-    while 0 < left {
+    for _ in 0..count {
         long += 1 + word_length(u64_at(raw, place) % 0x8000_0000_0000_0000);
         place += 8;
-        left -= 1;
     }
     long
 }
@@ -138,7 +131,6 @@ fn id_length(raw: &[u8]) -> usize
 
 // No id has more than 254 words, so longer bytes are none. Across an edge of the window it is put from an array.
 pub fn write_id(chars: &CharPairs, out: &mut [u8], at: usize, raw: &[u8]) -> usize
-    requires { CharPairs chars.now }
     ensures { IdWritten raw.now out.old at result out.new }
 {
     if 2033 < raw.len() {

@@ -1,23 +1,35 @@
 // The calls' answers against those of a record.
-ghost use Rattle.std.specs.Prelude.{◌≡◌, length};
+ghost use Rattle.std.specs.Prelude.{◌≡◌, ◌<◌, length, IfOk};
+ghost use Rattle.bsii_format.specs.Replies.{number_of};
 ghost use Rattle.bsii_format.specs.Calls.{reading_call, named_block_call, text_call};
-ghost use Rattle.replay.specs.Parts.{Later};
 ghost use Rattle.replay.specs.Agree.{rust_number, same_counts, same_reading, same_number, is_absent, same_bytes, same_text};
 
 use crate::list::{Part, bytes_at, number, part_at};
-use bsii_file::blocks::{NumberReply, blocks_by_prototype_name};
-use bsii_output::text::{TextReply, to_siin};
-use bsii_parse::reading::{Reading, parse};
-use bsii_string::answers::{ABSENT, BAD_MARK, MALFORMED};
+use bsii_file::blocks::blocks_by_prototype_name;
+use bsii_format::Cause;
+use bsii_output::text::to_siin;
+use bsii_parse::reading::parse;
 use bsii_string::numbers::size;
+use std::fmt;
 
-#[derive(Drop)]
-pub enum Outcome {
-    Equal,
+// Why a record is not equal: the call whose answer differs, or that the record itself is broken.
+#[derive(Clone, Copy, Debug, PartialEq, Eq)]
+pub enum Difference {
     Reading,
     LookUp,
     Text,
     Broken,
+}
+
+impl fmt::Display for Difference {
+    fn fmt<W: fmt::Write>(&self, f: &mut fmt::Formatter<W>) -> fmt::Result {
+        match self {
+            Difference::Reading => write!(f, "reading"),
+            Difference::LookUp => write!(f, "look-up"),
+            Difference::Text => write!(f, "text"),
+            Difference::Broken => write!(f, "broken record"),
+        }
+    }
 }
 
 fn same_counts(reply: u32, p: usize, b: usize, prototypes: u32, blocks: u32) -> bool
@@ -33,13 +45,12 @@ fn same_counts(reply: u32, p: usize, b: usize, prototypes: u32, blocks: u32) -> 
 }
 
 // Under which number the list has a refusal: a bad mark is the Rust's InvalidInput, as bytes that run out are.
-fn rust_number(number: u32) -> u32
-    ensures { result ≡ rust_number number }
+fn rust_number(cause: Cause) -> u32
+    ensures { result ≡ rust_number (number_of cause) }
 {
-    if number == BAD_MARK {
-        MALFORMED
-    } else {
-        number
+    match cause {
+        Cause::BadMark => Cause::Malformed.into(),
+        other => other.into(),
     }
 }
 
@@ -47,14 +58,9 @@ fn rust_number(number: u32) -> u32
 fn same_reading(file: &[u8], table: &mut [u32], reply: u32, prototypes: u32, blocks: u32) -> bool
     ensures { result ≡ same_reading reply prototypes blocks (reading_call (length table.old) file.now) }
 {
-    let reading = parse(file, table);
-    match reading {
-        Reading::Refused(f) => return rust_number(f.number) == reply,
-        Reading::Read {
-            prototypes: p,
-            blocks: b,
-            next: _,
-        } => return same_counts(reply, p, b, prototypes, blocks),
+    match parse(file, table) {
+        Ok(read) => same_counts(reply, read.prototypes, read.blocks, prototypes, blocks),
+        Err(f) => rust_number(f.cause) == reply,
     }
 }
 
@@ -62,10 +68,9 @@ fn same_reading(file: &[u8], table: &mut [u32], reply: u32, prototypes: u32, blo
 fn same_number(file: &[u8], table: &mut [u32], name: &[u8], n: usize, expected: u32) -> bool
     ensures { result ≡ same_number expected (named_block_call (length table.old) file.now name.now n) }
 {
-    let found = blocks_by_prototype_name(file, table, name, n);
-    match found {
-        NumberReply::Number(k) => k == size(expected),
-        NumberReply::Refused(_) => false,
+    match blocks_by_prototype_name(file, table, name, n) {
+        Ok(k) => k == size(expected),
+        Err(_) => false,
     }
 }
 
@@ -73,10 +78,9 @@ fn same_number(file: &[u8], table: &mut [u32], name: &[u8], n: usize, expected: 
 fn is_absent(file: &[u8], table: &mut [u32], name: &[u8], n: usize) -> bool
     ensures { result ≡ is_absent (named_block_call (length table.old) file.now name.now n) }
 {
-    let found = blocks_by_prototype_name(file, table, name, n);
-    match found {
-        NumberReply::Number(_) => false,
-        NumberReply::Refused(f) => f.number == ABSENT,
+    match blocks_by_prototype_name(file, table, name, n) {
+        Ok(_) => false,
+        Err(f) => matches!(f.cause, Cause::Absent),
     }
 }
 
@@ -94,47 +98,25 @@ fn same_numbers(file: &[u8], table: &mut [u32], name: &[u8], numbers: &[u8]) -> 
     is_absent(file, table, name, n)
 }
 
-#[derive(Drop)]
-enum LookUp {
-    Next(usize),
-    Differs,
-    Cut,
-}
-
-// The look-up at a position of the record: a name, and the numbers of its blocks.
-fn look_up(file: &[u8], table: &mut [u32], s: &[u8], at: usize) -> LookUp
-    ensures { Later at result }
+// The look-up at a position of the record: a name, and the numbers of its blocks. Where the next one starts.
+fn look_up(file: &[u8], table: &mut [u32], s: &[u8], at: usize) -> Result<usize, Difference>
+    ensures { IfOk result (λ next. at < next) }
 {
-    let name = part_at(s, at);
-    let Part::Bytes { start: _, end } = name else {
-        return LookUp::Cut;
-    };
-    let numbers = part_at(s, end);
-    let Part::Bytes {
-        start: _,
-        end: next,
-    } = numbers
-    else {
-        return LookUp::Cut;
-    };
-    if same_numbers(file, table, bytes_at(s, at), bytes_at(s, end)) {
-        return LookUp::Next(next);
+    let name = part_at(s, at).ok_or(Difference::Broken)?;
+    let numbers = part_at(s, name.end).ok_or(Difference::Broken)?;
+    if !same_numbers(file, table, bytes_at(s, at), bytes_at(s, name.end)) {
+        return Err(Difference::LookUp);
     }
-    LookUp::Differs
+    Ok(numbers.end)
 }
 
 // The look-ups from a position of the record to its end.
-fn look_ups(file: &[u8], table: &mut [u32], s: &[u8], at: usize) -> Outcome {
+fn look_ups(file: &[u8], table: &mut [u32], s: &[u8], at: usize) -> Result<(), Difference> {
     let mut p = at;
     while p < s.len() {
-        let one = look_up(file, table, s, p);
-        match one {
-            LookUp::Next(next) => p = next,
-            LookUp::Differs => return Outcome::LookUp,
-            LookUp::Cut => return Outcome::Broken,
-        }
+        p = look_up(file, table, s, p)?;
     }
-    Outcome::Equal
+    Ok(())
 }
 
 // Whether the first n bytes are the text.
@@ -154,44 +136,22 @@ fn same_bytes(output: &[u8], n: usize, text: &[u8]) -> bool
 fn same_text(file: &[u8], table: &mut [u32], output: &mut [u8], reply: u32, text: &[u8]) -> bool
     ensures { result ≡ same_text reply text.now (text_call (length table.old) file.now output.old) }
 {
-    let answer = to_siin(file, table, output);
-    match answer {
-        TextReply::Refused { refusal, needed: _ } => return rust_number(refusal.number) == reply,
-        TextReply::Text(converted) => {
+    match to_siin(file, table, output) {
+        Ok(converted) => {
             if reply != 0 {
                 return false;
             }
-            return same_bytes(output, converted.length, text);
+            same_bytes(output, converted.length, text)
         }
+        Err(short) => rust_number(short.refusal.cause) == reply,
     }
 }
 
 // The calls on a record's file: its label comes first, its text behind it.
-pub fn replay(s: &[u8], table: &mut [u32], output: &mut [u8]) -> Outcome {
-    let label = part_at(s, 16);
-    let Part::Bytes {
-        start: _,
-        end: file,
-    } = label
-    else {
-        return Outcome::Broken;
-    };
-    let bytes = part_at(s, file);
-    let Part::Bytes {
-        start: _,
-        end: text,
-    } = bytes
-    else {
-        return Outcome::Broken;
-    };
-    let lines = part_at(s, text);
-    let Part::Bytes {
-        start: _,
-        end: look,
-    } = lines
-    else {
-        return Outcome::Broken;
-    };
+pub fn replay(s: &[u8], table: &mut [u32], output: &mut [u8]) -> Result<(), Difference> {
+    let file = part_at(s, 16).ok_or(Difference::Broken)?.end;
+    let text = part_at(s, file).ok_or(Difference::Broken)?.end;
+    let look = part_at(s, text).ok_or(Difference::Broken)?.end;
     if !same_reading(
         bytes_at(s, file),
         table,
@@ -199,7 +159,7 @@ pub fn replay(s: &[u8], table: &mut [u32], output: &mut [u8]) -> Outcome {
         number(s, 8),
         number(s, 12),
     ) {
-        return Outcome::Reading;
+        return Err(Difference::Reading);
     }
     if !same_text(
         bytes_at(s, file),
@@ -208,7 +168,7 @@ pub fn replay(s: &[u8], table: &mut [u32], output: &mut [u8]) -> Outcome {
         number(s, 4),
         bytes_at(s, text),
     ) {
-        return Outcome::Text;
+        return Err(Difference::Text);
     }
     look_ups(bytes_at(s, file), table, s, look)
 }

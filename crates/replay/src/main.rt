@@ -5,9 +5,8 @@ mod compare;
 mod list;
 
 ghost use Rattle.std.specs.Prelude.{◌≤◌, ◌≡◌, true, length, IfOk};
-ghost use Rattle.replay.specs.Parts.{AtMostOne};
 
-use crate::compare::{Outcome, replay};
+use crate::compare::{Difference, replay};
 use crate::list::{bytes_at, number};
 use bsii_string::numbers::size;
 use sii_io::{large_buffer, read_full};
@@ -18,12 +17,10 @@ fn print(rt: &impl Print, text: &[u8]) -> io::Result<()> {
     io::writer(rt).write_all(text)
 }
 
-fn differs(rt: &impl Print, s: &[u8], index: u32, what: &[u8]) -> io::Result<()> {
+fn differs(rt: &impl Print, s: &[u8], index: u32, what: Difference) -> io::Result<()> {
     print!(rt; "file {index}, ")?;
     print(rt, bytes_at(s, 16))?;
-    print(rt, b": ")?;
-    print(rt, what)?;
-    print(rt, b"\n")
+    println!(rt; ": {what}")
 }
 
 // A record against the calls; whether all is equal.
@@ -34,15 +31,11 @@ fn is_equal(
     output: &mut [u8],
     index: u32,
 ) -> io::Result<bool> {
-    let outcome = replay(s, table, output);
-    match outcome {
-        Outcome::Equal => return Ok(true),
-        Outcome::Reading => differs(rt, s, index, b"reading")?,
-        Outcome::LookUp => differs(rt, s, index, b"look-up")?,
-        Outcome::Text => differs(rt, s, index, b"text")?,
-        Outcome::Broken => differs(rt, s, index, b"broken record")?,
+    if let Err(what) = replay(s, table, output) {
+        differs(rt, s, index, what)?;
+        return Ok(false);
     }
-    Ok(false)
+    Ok(true)
 }
 
 // The list's next n bytes, at the buffer's start; whether there are n, and room for them.
@@ -66,28 +59,15 @@ fn goes_on<R: Read>(input: &mut R, buffer: &mut [u8], expected: &[u8]) -> io::Re
     Ok(&buffer[..n] == expected)
 }
 
-#[derive(Drop)]
-enum Next {
-    Number(u32),
-    Missing,
-}
-
-// The list's next four bytes as a number.
-fn next_number<R: Read>(input: &mut R, buffer: &mut [u8]) -> io::Result<Next> {
+// The list's next four bytes as a number: none where it ends.
+fn next_number<R: Read>(input: &mut R, buffer: &mut [u8]) -> io::Result<Option<u32>> {
     if !fill(input, buffer, 4)? {
-        return Ok(Next::Missing);
+        return Ok(None);
     }
-    Ok(Next::Number(number(buffer, 0)))
+    Ok(Some(number(buffer, 0)))
 }
 
-// One for a record whose answers are equal, else zero.
-#[derive(Drop)]
-enum Compared {
-    Equal(u32),
-    Missing,
-}
-
-// The list's next record against the calls.
+// The list's next record against the calls, whether all is equal: none where the list ends.
 fn turn<R: Read>(
     rt: &impl Print,
     input: &mut R,
@@ -95,21 +75,15 @@ fn turn<R: Read>(
     table: &mut [u32],
     output: &mut [u8],
     index: u32,
-) -> io::Result<Compared>
-    ensures { IfOk result AtMostOne }
-{
-    let next = next_number(input, buffer)?;
-    let Next::Number(length) = next else {
-        return Ok(Compared::Missing);
+) -> io::Result<Option<bool>> {
+    let Some(length) = next_number(input, buffer)? else {
+        return Ok(None);
     };
     let n = size(length);
     if !fill(input, buffer, n)? {
-        return Ok(Compared::Missing);
+        return Ok(None);
     }
-    if is_equal(rt, &buffer[..n], table, output, index)? {
-        return Ok(Compared::Equal(1));
-    }
-    Ok(Compared::Equal(0))
+    Ok(Some(is_equal(rt, &buffer[..n], table, output, index)?))
 }
 
 fn print_counts(rt: &impl Print, files: u32, equal: u32) -> io::Result<()> {
@@ -125,17 +99,15 @@ fn replay_list<R: Read>(
     output: &mut [u8],
     count: u32,
 ) -> io::Result<()> {
-    let mut index: u32 = 0;
     let mut equal: u32 = 0;
-    while index < count {
-        let one = turn(rt, input, buffer, table, output, index)?;
-        let Compared::Equal(n) = one else {
-            return print_counts(rt, index, equal);
-        };
-        equal += n;
-        index += 1;
+    for index in 0..count {
+        match turn(rt, input, buffer, table, output, index)? {
+            Some(true) => equal += 1,
+            Some(false) => {}
+            None => return print_counts(rt, index, equal),
+        }
     }
-    print_counts(rt, index, equal)
+    print_counts(rt, count, equal)
 }
 
 fn run<R: Read>(
@@ -148,8 +120,7 @@ fn run<R: Read>(
     if !goes_on(input, buffer, b"BSII answers, 1\n")? {
         return print(rt, b"this is no list of answers\n");
     }
-    let next = next_number(input, buffer)?;
-    let Next::Number(count) = next else {
+    let Some(count) = next_number(input, buffer)? else {
         return print(rt, b"the list ends early\n");
     };
     replay_list(rt, input, buffer, table, output, count)?;

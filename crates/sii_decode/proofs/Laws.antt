@@ -9,7 +9,9 @@ use borrow.Author.Tests.{le-leb, lt-leb}
 use lib.ListN.{length, take, drop, length-append, length-take}
 use lib.Seq.{sets-eq, take_all, take-append_seam}
 use lib.Dec.{leb}
-use Rattle.bsii_format.specs.Replies.{Fault, Reply, gives, refuses, refusal, input_long, output_short}
+use Rattle.bsii_format.specs.declared.Cause.{Cause}
+use Rattle.bsii_format.specs.declared.Cause.TheVariants.{InvalidHeader, Malformed, NotUtf8, ZeroDigit, UndefinedPrototype, UnlistedType, FieldCount, EnumValue, TableFull, OutputShort, InputLong, Absent, Misfit, BadMark}
+use Rattle.bsii_format.specs.Replies.{number_of, Fault, Reply, gives, refuses, refusal, input_long, output_short}
 use Rattle.bsii_format.specs.File.{parse}
 use Rattle.bsii_format.specs.Calls.{steps_in, write_answer, Converted, converted, TextAnswer, text_of, text_answer, text_call, printed, of_size, program}
 use Rattle.bsii_length.proofs.Digits.{digits_length}
@@ -19,9 +21,25 @@ use Rattle.sii_decode.specs.Starts.{Starts}
 
 -- ---- refusals
 
-pub refusal_length : (f : Fault) → f.number < 2 ^ 64 → f.offset < 2 ^ 64 → length (printed (refuses f)) ≤ 65_536
+number_small : (c : Cause) → number_of c < 2 ^ 64
+number_small InvalidHeader = omega arith
+number_small Malformed = omega arith
+number_small NotUtf8 = omega arith
+number_small ZeroDigit = omega arith
+number_small UndefinedPrototype = omega arith
+number_small UnlistedType = omega arith
+number_small FieldCount = omega arith
+number_small EnumValue = omega arith
+number_small TableFull = omega arith
+number_small OutputShort = omega arith
+number_small InputLong = omega arith
+number_small Absent = omega arith
+number_small Misfit = omega arith
+number_small BadMark = omega arith
+
+pub refusal_length : (f : Fault) → f.offset < 2 ^ 64 → length (printed (refuses f)) ≤ 65_536
 unfolding printed
-refusal_length f h l = simp length-append (omega (arith, digits_length 10 64 f.number (omega arith) h, digits_length 10 64 f.offset (omega arith) l))
+refusal_length f l = simp length-append (omega (arith, digits_length 10 64 (number_of f.cause) (omega arith) (number_small f.cause), digits_length 10 64 f.offset (omega arith) l))
 
 -- a text that was written at the window's start, where there is room for it
 module _ {old new text : List ℕ} {r : ℕ} (w : Wrote old 0x8000_0000_0000_0000 text r new) (h : length text ≤ 65_536) (k : length old ≡ 65_536) where

@@ -6,8 +6,9 @@ ghost use Rattle.bsii_string.specs.Answers.{fault_is};
 ghost use Rattle.bsii_window.specs.Window.{Wrote};
 ghost use Rattle.sii_decode.specs.Starts.{Starts};
 
-use bsii_output::text::{TextReply, to_siin};
-use bsii_string::answers::{INPUT_LONG, Refusal, refused};
+use bsii_format::Cause;
+use bsii_output::text::to_siin;
+use bsii_string::answers::{Refusal, refused};
 use bsii_window::digits::write_decimal;
 use bsii_window::window::put_all;
 
@@ -16,7 +17,7 @@ fn write_refusal(output: &mut [u8], f: Refusal) -> usize
     ensures { Wrote output.old 0x8000_0000_0000_0000 (printed (refuses (fault_is f))) result output.new }
 {
     let a = put_all(output, 0x8000_0000_0000_0000, b"refused ");
-    let b = write_decimal(output, a, f.number as u64);
+    let b = write_decimal(output, a, u64::from(u32::from(f.cause)));
     let c = put_all(output, b, b" at ");
     let d = write_decimal(output, c, f.offset as u64);
     put_all(output, d, b"\n")
@@ -36,11 +37,10 @@ pub fn print_into(input: &[u8], table: &mut [u32], output: &mut [u8]) -> usize
     ensures { Starts output.new result (program input.now) }
 {
     if 65_536 < input.len() {
-        return print_refusal(output, refused(INPUT_LONG, 0));
+        return print_refusal(output, refused(Cause::InputLong, 0));
     }
-    let reply = to_siin(input, table, output);
-    match reply {
-        TextReply::Text(converted) => converted.length,
-        TextReply::Refused { refusal, needed: _ } => print_refusal(output, refusal),
+    match to_siin(input, table, output) {
+        Ok(converted) => converted.length,
+        Err(unwritten) => print_refusal(output, unwritten.refusal),
     }
 }

@@ -1,6 +1,6 @@
 -- The C struct of an element: its kind, and a place, a number or words; or a refusal's number, offset and lacking bytes and nothing else.
 use Rattle.std.specs.Prelude.{ℕ, cond, ℤ, Float}
-use Rattle.bsii_format.specs.Replies.{Fault, Reply, gives, refuses}
+use Rattle.bsii_format.specs.Replies.{number_of, Fault, Reply, gives, refuses}
 use Rattle.bsii_format.specs.Calls.{Datum, d_string, d_encoded_string, d_float, d_float_vec2, d_float_vec3, d_float_vec4, d_float_vec7, d_float_vec8, d_int32, d_int32_vec3, d_uint32, d_uint16, d_int64, d_uint64, d_bool, d_enum, d_id}
 use Rattle.bsii_float.specs.Bits.{bits_of}
 use Rattle.bsii_element.specs.Twos.{twos}
@@ -26,7 +26,7 @@ abbrev pub words_out : ℕ → ℕ → ℕ → ℕ → ℕ → ℕ → ℕ → �
 words_out k a b c d e f g h = record { number = 0; offset = 0; lacking = 0; kind = k; place_offset = 0; place_len = 0; value = 0; a = a; b = b; c = c; d = d; e = e; f = f; g = g; h = h }
 
 abbrev pub refused_out : Fault → SiiElement
-refused_out f = record { number = f.number; offset = f.offset; lacking = f.lacking; kind = 0; place_offset = 0; place_len = 0; value = 0; a = 0; b = 0; c = 0; d = 0; e = 0; f = 0; g = 0; h = 0 }
+refused_out f = record { number = number_of f.cause; offset = f.offset; lacking = f.lacking; kind = 0; place_offset = 0; place_len = 0; value = 0; a = 0; b = 0; c = 0; d = 0; e = 0; f = 0; g = 0; h = 0 }
 
 abbrev pub datum_out : Datum → SiiElement
 datum_out (d_string p) = place_out 1 p.offset p.size

@@ -2,10 +2,12 @@
 ghost use Rattle.std.specs.Prelude.{◌≡◌, length};
 ghost use Rattle.bsii_format.specs.Calls.{table_after};
 ghost use Rattle.bsii_derived.specs.Forecast.{forecast_call};
+ghost use Rattle.bsii_forecast.specs.Answers.{forecast_is};
 ghost use Rattle.sii_decode_c.specs.Exports.{forecast_out};
 
-use bsii_forecast::answers::ForecastReply;
+use bsii_forecast::answers::Forecast;
 use bsii_forecast::forecast::forecast;
+use bsii_string::answers::Refusal;
 
 #[repr(C)]
 #[derive(Drop)]
@@ -20,32 +22,39 @@ pub struct SiiForecast {
     pub steps: u64,
 }
 
+impl From<Result<Forecast, Refusal>> for SiiForecast {
+    ghost from_gives = { λ reply out. out ≡ forecast_out (forecast_is reply) };
+
+    fn from(reply: Result<Forecast, Refusal>) -> SiiForecast {
+        match reply {
+            Ok(a) => SiiForecast {
+                number: 0,
+                offset: 0,
+                lacking: 0,
+                table_words: a.table_words as u64,
+                text_len: a.text_length as u64,
+                index_len: a.index_length as u64,
+                largest_block: a.largest_block as u64,
+                steps: a.steps as u64,
+            },
+            Err(f) => SiiForecast {
+                number: f.cause.into(),
+                offset: f.offset as u64,
+                lacking: u64::from(f.lacking),
+                table_words: 0,
+                text_len: 0,
+                index_len: 0,
+                largest_block: 0,
+                steps: 0,
+            },
+        }
+    }
+}
+
 #[unsafe(no_mangle)]
 pub extern "C" fn sii_forecast(file: &[u8], table: &mut [u32]) -> SiiForecast
     ensures reply { result ≡ forecast_out (forecast_call (length table.old) file.now) }
     ensures zeros { table.new ≡ table_after table.old }
 {
-    let reply = forecast(file, table);
-    match reply {
-        ForecastReply::Forecast(a) => SiiForecast {
-            number: 0,
-            offset: 0,
-            lacking: 0,
-            table_words: a.table_words as u64,
-            text_len: a.text_length as u64,
-            index_len: a.index_length as u64,
-            largest_block: a.largest_block as u64,
-            steps: a.steps as u64,
-        },
-        ForecastReply::Refused(f) => SiiForecast {
-            number: f.number,
-            offset: f.offset as u64,
-            lacking: f.lacking as u64,
-            table_words: 0,
-            text_len: 0,
-            index_len: 0,
-            largest_block: 0,
-            steps: 0,
-        },
-    }
+    forecast(file, table).into()
 }

@@ -13,13 +13,13 @@ const HEADER: &str = "\
 use mathlib.Core.Path.{◌≡◌, refl}
 use Prim.Native.Nat.{ℕ}
 use mathlib.Core.List.{List, [], ◌∷◌}
-use Rattle.bsii_format.specs.Replies.{Reply, gives, refuses}
+use Rattle.bsii_format.specs.Replies.{number_of, Reply, gives, refuses}
 use Rattle.bsii_format.specs.Calls.{text_of}
 use Rattle.bsii_format.proofs.Worked.{computes}
 
-unfoldable number_of : Reply (List ℕ) → ℕ
-number_of (gives t) = 0
-number_of (refuses f) = f.number
+unfoldable reply_number : Reply (List ℕ) → ℕ
+reply_number (gives t) = 0
+reply_number (refuses f) = number_of f.cause
 ";
 
 fn main() -> std::io::Result<()> {
@@ -90,8 +90,8 @@ fn equation(entry: &Entry, name: &str) -> String {
             (format!("text_of 768 {file} ≡ gives {text}"), "computes")
         }
         number => {
-            let statement = format!("number_of (text_of 768 {file}) ≡ {number}");
-            (statement, "computes number_of")
+            let statement = format!("reply_number (text_of 768 {file}) ≡ {number}");
+            (statement, "computes reply_number")
         }
     };
     let label = &entry.label;

@@ -1,72 +1,7 @@
-use Prim.Native.Nat.{ℕ}
-use mathlib.Core.Path.{◌≡◌, sym, ap}
+use mathlib.Core.Path.{refl}
 use Rattle.bsii_format.specs.Digits.{digit}
-use Rattle.bsii_digits.proofs.Tables.{last}
 use Rattle.bsii_digits.proofs.digit.Goals as goal
 
-at : (k : ℕ) {d : ℕ} → d ≡ k → digit k ≡ digit d
-at k e = ap digit (sym e)
-
-pub returns-in-0 : goal.returns-in-0
+pub returns : goal.returns
 unfolding digit
-returns-in-0 c = at 0 c.in-0.is
-
-pub returns-in-1 : goal.returns-in-1
-unfolding digit
-returns-in-1 c = at 1 c.in-1.is
-
-pub returns-in-2 : goal.returns-in-2
-unfolding digit
-returns-in-2 c = at 2 c.in-2.is
-
-pub returns-in-3 : goal.returns-in-3
-unfolding digit
-returns-in-3 c = at 3 c.in-3.is
-
-pub returns-in-4 : goal.returns-in-4
-unfolding digit
-returns-in-4 c = at 4 c.in-4.is
-
-pub returns-in-5 : goal.returns-in-5
-unfolding digit
-returns-in-5 c = at 5 c.in-5.is
-
-pub returns-in-6 : goal.returns-in-6
-unfolding digit
-returns-in-6 c = at 6 c.in-6.is
-
-pub returns-in-7 : goal.returns-in-7
-unfolding digit
-returns-in-7 c = at 7 c.in-7.is
-
-pub returns-in-8 : goal.returns-in-8
-unfolding digit
-returns-in-8 c = at 8 c.in-8.is
-
-pub returns-in-9 : goal.returns-in-9
-unfolding digit
-returns-in-9 c = at 9 c.in-9.is
-
-pub returns-in-10 : goal.returns-in-10
-unfolding digit
-returns-in-10 c = at 10 c.in-10.is
-
-pub returns-in-11 : goal.returns-in-11
-unfolding digit
-returns-in-11 c = at 11 c.in-11.is
-
-pub returns-in-12 : goal.returns-in-12
-unfolding digit
-returns-in-12 c = at 12 c.in-12.is
-
-pub returns-in-13 : goal.returns-in-13
-unfolding digit
-returns-in-13 c = at 13 c.in-13.is
-
-pub returns-in-14 : goal.returns-in-14
-unfolding digit
-returns-in-14 c = at 14 c.in-14.is
-
-pub returns-in_default : goal.returns-in_default
-unfolding digit
-returns-in_default c = at 15 (last 15 c.in_default.in_default-own.rest c.requires)
+returns c = refl

@@ -11,15 +11,15 @@ pub bounds-out-end : goal.bounds-out-end
 bounds-out-end c = omega (arith, count_one c.args.n (omega arith))
 
 pub returns-then-n-lt10 : goal.returns-then-n-lt10
-returns-then-n-lt10 c = rw (decimal_one c.args.n (omega arith), c.digit.ensures) refl
+returns-then-n-lt10 c = rw (decimal_one c.args.n (omega arith), c.decimal_digit.ensures) refl
 
 pub overflow_sub-end : goal.overflow_sub-end
 overflow_sub-end c = omega (arith, count_two c.args.n (omega arith) (omega arith))
 
 pub fill_pair-requires : goal.fill_pair-requires
-fill_pair-requires c = (omega arith, omega arith, omega (arith, count_two c.args.n (omega arith) (omega arith)))
+fill_pair-requires c = omega (arith, count_two c.args.n (omega arith) (omega arith))
 
 pub returns : goal.returns
 returns c =
     let n = c.args.n in
-    c.fill_pair.ensures ∙ rw (decimal_pair n (omega arith) (omega arith)) refl
+    c.fill_pair.ensures ∙ rw (c.decimal_digit-2.ensures, c.decimal_digit-3.ensures, decimal_pair n (omega arith) (omega arith)) refl

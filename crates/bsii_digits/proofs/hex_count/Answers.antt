@@ -1,7 +1,7 @@
 use Prim.Native.Nat.{ℕ, ◌-◌, ◌/◌}
 use mathlib.Core.Path.{sym, ap, ◌∙◌}
 use native.Mathlib.Omega.{arith}
-use lib.Count.{count_leading_zeros, leading_le}
+use lib.Count.{count_leading_zeros}
 use lib.ListN.{length}
 use Rattle.bsii_format.specs.Digits.{hexadecimal, digits, digits_from}
 use Rattle.bsii_digits.proofs.DigitLaws.{hex_count, padded_length}
@@ -10,9 +10,6 @@ use Rattle.bsii_digits.proofs.hex_count.Goals as goal
 pub returns-then-n-eq0 : goal.returns-then-n-eq0
 unfolding digits digits_from
 returns-then-n-eq0 c = (ap (λ (n : ℕ). length (hexadecimal n)) (sym c.if-n-eq0.true), omega arith)
-
-pub overflow_sub-result : goal.overflow_sub-result
-overflow_sub-result c = omega (arith, leading_le 64 c.args.n)
 
 pub returns : goal.returns
 returns c =

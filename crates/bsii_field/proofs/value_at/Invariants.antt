@@ -5,8 +5,8 @@ use lib.ListN.{length}
 use Rattle.bsii_field.proofs.Values.{Going}
 use Rattle.bsii_field.proofs.value_at.Given as goal
 
-abbrev pub invariant-loop-type_id : goal.invariant-loop-type_id
-invariant-loop-type_id l = (l.passed ≤ l.index) × Going l.version l.s l.fields l.start l.index l.field l.at l.passed
+abbrev pub invariant-loop-found : goal.invariant-loop-found
+invariant-loop-found l = (l.passed ≤ l.index) × Going l.version l.s l.fields l.start l.index l.field l.at l.passed
 
-abbrev pub decreases-loop-type_id : goal.decreases-loop-type_id
-decreases-loop-type_id l = length l.s - l.field
+abbrev pub decreases-loop-found : goal.decreases-loop-found
+decreases-loop-found l = length l.s - l.field

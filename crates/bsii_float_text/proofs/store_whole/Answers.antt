@@ -7,14 +7,14 @@ use Rattle.bsii_format.specs.Floats.{minus_if}
 use Rattle.bsii_window.proofs.Stores.{stored_being}
 use Rattle.bsii_float_text.proofs.store_whole.Goals as goal
 
-pub returns-then-negative : goal.returns-then-negative
+pub returns-then-n : goal.returns-then-n
 unfolding minus_if
-returns-then-negative c =
-    let size = c.args.size in
-    (stored_being (sym (ap (λ (b : Bool). minus_if b (decimal size)) c.if-negative.true)) c.store_negative.ensures.0, omega arith)
+returns-then-n c =
+    let size = c.args.n.size in
+    (stored_being (sym (ap (λ (b : Bool). minus_if b (decimal size)) c.if-n.true)) c.store_negative.ensures.0, omega arith)
 
-pub returns : goal.returns
+pub returns-else-n : goal.returns-else-n
 unfolding minus_if
-returns c =
-    let size = c.args.size in
-    (stored_being (sym (ap (λ (b : Bool). minus_if b (decimal size)) c.if-negative.false)) c.store_decimal.ensures.0, omega arith)
+returns-else-n c =
+    let size = c.args.n.size in
+    (stored_being (sym (ap (λ (b : Bool). minus_if b (decimal size)) c.if-n.false)) c.store_decimal.ensures.0, omega arith)

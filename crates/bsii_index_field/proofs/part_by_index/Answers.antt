@@ -1,16 +1,12 @@
-use native.Mathlib.Omega.{arith}
-use mathlib.Core.Path.{refl}
-use Rattle.bsii_file_field.proofs.FieldCalls.{part_none, part_is}
+use mathlib.Core.Path.{refl, ◌∙◌}
+use Rattle.bsii_file_field.proofs.Parts.{part_none, part_is}
 use Rattle.bsii_index_field.proofs.part_by_index.Goals as goal
 
-pub returns-in-Refused : goal.returns-in-Refused
-returns-in-Refused c = record { part = part_none _ _ c.look_up-reply.ensures.reply c.in-Refused.is }
+pub returns-in_default : goal.returns-in_default
+returns-in_default c = record { part = part_none c.args.file.now c.in_default.ensures.reply }
 
-pub overflow_add-end : goal.overflow_add-end
-overflow_add-end c = let i = c.look_up-reply.ensures.inside _ _ _ c.in-Field.is in omega (arith, i)
+pub bytes-requires : goal.bytes-requires
+bytes-requires c = c.in-Ok.ensures.inside _ refl
 
-pub slice_bounds-result-end-in-Field : goal.slice_bounds-result-end-in-Field
-slice_bounds-result-end-in-Field c = let i = c.look_up-reply.ensures.inside _ _ _ c.in-Field.is in omega (arith, i)
-
-pub returns-in-Field : goal.returns-in-Field
-returns-in-Field c = record { part = part_is _ _ c.look_up-reply.ensures.reply c.in-Field.is refl }
+pub returns : goal.returns
+returns c = record { part = c.bytes.ensures ∙ part_is c.args.file.now c.in-Ok.ensures.reply }

@@ -2,12 +2,14 @@
 use Prim.Native.Nat.{ℕ}
 use mathlib.Core.Option.{Option, some}
 use mathlib.Core.List.{List}
+use Rattle.std.specs.Prelude.{Some}
 use mathlib.Core.Path.{◌≡◌, sym, ap, ◌∙◌}
 use lib.ListN.{drop}
 use Rattle.bsii_format.specs.Reader.{fail}
 use Rattle.bsii_format.specs.Types.{Shape, many, shape_of}
 use Rattle.bsii_value.specs.declared.types.Kind.{Kind}
-use Rattle.bsii_string.specs.Answers.{num_of, end_of}
+use Rattle.bsii_string.specs.Answers.{end_of}
+use Rattle.bsii_string.proofs.Passed.{passed_on}
 use Rattle.bsii_value.specs.Kinds.{kind_is, shape_is}
 use Rattle.bsii_skip.specs.Unchecked.{unchecked_array, unchecked_shape, unchecked_value}
 use Rattle.bsii_skip.proofs.Skips.{array_short, array_end}
@@ -23,25 +25,24 @@ pub returns-in-One : goal.returns-in-One
 unfolding unchecked_value unchecked_shape
 returns-in-One c =
     let a = c.args in
-    c.skip_element.ensures ∙ ap (λ (o : Option Shape). end_of (unchecked_shape o a.at (drop a.at a.s.now))) (ap shape_is (sym c.in-One.is) ∙ c.shape_of-shape.ensures)
+    c.skip_element.ensures ∙ ap (λ (o : Option Shape). end_of (unchecked_shape o a.at (drop a.at a.s.now))) (ap shape_is (sym (c.in-Some.is ∙ ap Some c.in-One.is)) ∙ c.shape_of.ensures)
 
-pub returns-in-Short : goal.returns-in-Short
+pub returns-in_err-n-in-Many : goal.returns-in_err-n-in-Many
 unfolding end_of
-returns-in-Short c =
+returns-in_err-n-in-Many c =
     let a = c.args in
     let s = drop a.at a.s.now in
-    let e = sym c.le_u32-count.ensures ∙ ap (num_of a.s.now) c.in-Short.is in
-    sym (ap end_of (array_short s a.at (kind_is c.in-Many.kind) e)) ∙ array c.in-Many.kind a.version a.type_id a.at s c.in-Many.ensures
+    rw (passed_on c.from_residual.ensures.1) (sym (ap end_of (array_short s a.at (kind_is c.in-Many.kind) (sym c.in_err-n-in-Many.ensures))) ∙ array c.in-Many.kind a.version a.type_id a.at s (ap shape_is (sym (c.in-Some.is ∙ ap Some c.in-Many.is)) ∙ c.shape_of.ensures))
 
-pub returns-in-Got : goal.returns-in-Got
-returns-in-Got c =
+pub returns-in_ok-n-in-Many : goal.returns-in_ok-n-in-Many
+returns-in_ok-n-in-Many c =
     let a = c.args in
     let s = drop a.at a.s.now in
-    let e = sym c.le_u32-count.ensures ∙ ap (num_of a.s.now) c.in-Got.is in
-    c.skip_elements.ensures ∙ sym (array_end s a.at _ _ _ (kind_is c.in-Many.kind) e) ∙ array c.in-Many.kind a.version a.type_id a.at s c.in-Many.ensures
+    let e = sym c.in_ok-n-in-Many.ensures in
+    c.skip_elements.ensures ∙ sym (array_end s a.at _ _ _ (kind_is c.in-Many.kind) e) ∙ array c.in-Many.kind a.version a.type_id a.at s (ap shape_is (sym (c.in-Some.is ∙ ap Some c.in-Many.is)) ∙ c.shape_of.ensures)
 
-pub returns-in-Unlisted : goal.returns-in-Unlisted
+pub returns-in_default : goal.returns-in_default
 unfolding unchecked_value unchecked_shape fail end_of
-returns-in-Unlisted c =
+returns-in_default c =
     let a = c.args in
-    c.unlisted.ensures ∙ ap (λ (o : Option Shape). end_of (unchecked_shape o a.at (drop a.at a.s.now))) (ap shape_is (sym c.in-Unlisted.is) ∙ c.shape_of-shape.ensures)
+    rw c.refused.ensures (ap (λ (o : Option Shape). end_of (unchecked_shape o a.at (drop a.at a.s.now))) c.in_default.ensures)

@@ -17,8 +17,8 @@ returns-in-Row c = put (slot_redefined c.requires.0 c.args.id c.in-Row.is c.seek
 pub returns-then-table-rows-lt3 : goal.returns-then-table-rows-lt3
 returns-then-table-rows-lt3 c = full (record { new = slot_missed c.requires.0 c.args.id c.in-Link.is c.seek.ensures; short = omega arith; same = refl })
 
-pub returns-in-Link : goal.returns-in-Link
-returns-in-Link c =
+pub returns-else-table-rows-lt3 : goal.returns-else-table-rows-lt3
+returns-else-table-rows-lt3 c =
     put
     (slot_hung c.requires.0 c.args.id c.in-Link.is c.seek.ensures c.requires.1 (omega arith)
     c.append_leaf-in-Link.ensures)

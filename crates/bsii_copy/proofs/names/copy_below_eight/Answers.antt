@@ -7,4 +7,4 @@ use Rattle.bsii_copy.proofs.names.copy_below_eight.Goals as goal
 pub returns : goal.returns
 returns c =
     let a = c.args in
-    last_stored a.out.now a.start a.name.now 4 4 (omega arith) (omega arith) (omega arith) c.copy_four.ensures c.copy_four-2.ensures
+    last_stored a.out.now a.start a.name.now 4 4 (omega arith) (omega arith) (omega arith) c.copy_piece.ensures c.copy_piece-2.ensures

@@ -7,4 +7,4 @@ use Rattle.bsii_copy.proofs.names.copy_below_four.Goals as goal
 pub returns : goal.returns
 returns c =
     let a = c.args in
-    c.copy_last-2.ensures ∙ rest_stored a.out.now a.start a.name.now 2 (omega arith) c.copy_two.ensures
+    c.copy_last-2.ensures ∙ rest_stored a.out.now a.start a.name.now 2 (omega arith) c.copy_piece.ensures

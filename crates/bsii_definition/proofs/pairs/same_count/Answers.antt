@@ -11,22 +11,22 @@ pub returns-in-Ends : goal.returns-in-Ends
 returns-in-Ends c =
     let a = c.args in
     count_ends a.s.now a.fields a.last_fields c.loop-next.field c.loop-next.last_field c.loop-next.invariant
-    (subst (PairOf a.s.now c.loop-next.field c.loop-next.last_field) c.in-Ends.is c.unlike_pair-pair.ensures)
+    (subst (PairOf a.s.now c.loop-next.field c.loop-next.last_field) c.in-Ends.is c.unlike_pair.ensures)
 
 pub returns-in-Uneven : goal.returns-in-Uneven
 returns-in-Uneven c =
     let a = c.args in
     count_uneven a.s.now a.fields a.last_fields c.loop-next.field c.loop-next.last_field c.loop-next.invariant
-    (subst (PairOf a.s.now c.loop-next.field c.loop-next.last_field) c.in-Uneven.is c.unlike_pair-pair.ensures)
+    (subst (PairOf a.s.now c.loop-next.field c.loop-next.last_field) c.in-Uneven.is c.unlike_pair.ensures)
 
 pub loop-next-smaller : goal.loop-next-smaller
 loop-next-smaller c =
     let a = c.args in
-    let p = subst (PairOf a.s.now c.loop-next.field c.loop-next.last_field) c.in-Both.is c.unlike_pair-pair.ensures in
+    let p = subst (PairOf a.s.now c.loop-next.field c.loop-next.last_field) c.in-Both.is c.unlike_pair.ensures in
     omega (arith, p.inside)
 
 pub loop-next-preserved : goal.loop-next-preserved
 loop-next-preserved c =
     let a = c.args in
     count_on a.s.now a.fields a.last_fields c.loop-next.field c.loop-next.last_field c.loop-next.invariant
-    (subst (PairOf a.s.now c.loop-next.field c.loop-next.last_field) c.in-Both.is c.unlike_pair-pair.ensures)
+    (subst (PairOf a.s.now c.loop-next.field c.loop-next.last_field) c.in-Both.is c.unlike_pair.ensures)

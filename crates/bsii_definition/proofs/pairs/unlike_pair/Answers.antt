@@ -1,9 +1,25 @@
-use mathlib.Core.Path.{sym, ◌∙◌}
-use Rattle.bsii_definition.proofs.PairLaws.{in_force_ends, in_force_goes}
+use mathlib.Core.Path.{subst}
+use native.Mathlib.Omega.{arith}
+use Rattle.bsii_prototype.specs.Accepted.{AcceptedIs}
+use Rattle.bsii_prototype.proofs.Inside.{field_inside}
+use Rattle.bsii_definition.proofs.PairLaws.{pair_ends, pair_longer, pair_shorter, pair_both}
 use Rattle.bsii_definition.proofs.pairs.unlike_pair.Goals as goal
 
-pub returns-in_default : goal.returns-in_default
-returns-in_default c = let a = c.args in in_force_ends a.s.now a.field a.last_field c.skip_value_prototype-entry.result c.in_default.not-Field c.skip_value_prototype-entry.ensures c.without_last.ensures
+pub overflow_add-result : goal.overflow_add-result
+overflow_add-result c = let a = c.args in omega (arith, field_inside a.s.now a.last_field c.in-Some-Some.ensures'.1)
 
-pub returns : goal.returns
-returns c = let a = c.args in in_force_goes a.s.now a.field a.last_field (sym c.in-Field.is ∙ c.skip_value_prototype-entry.ensures) c.with_last.ensures
+pub returns-in-Some-Some : goal.returns-in-Some-Some
+returns-in-Some-Some c = let a = c.args in pair_both a.s.now a.field a.last_field c.in-Some-Some.ensures.1 c.in-Some-Some.ensures'.1
+
+pub returns-in-None-None : goal.returns-in-None-None
+returns-in-None-None c =
+    let a = c.args in
+    pair_ends a.s.now a.field a.last_field (subst (AcceptedIs a.s.now a.field) c.in-None-None.is-0 c.accepted_at.ensures) c.in-None-None.ensures
+
+pub returns-in-None-Some : goal.returns-in-None-Some
+returns-in-None-Some c =
+    let a = c.args in
+    pair_longer a.s.now a.field a.last_field (subst (AcceptedIs a.s.now a.field) c.in-None-Some.is-0 c.accepted_at.ensures) c.in-None-Some.ensures.1
+
+pub returns-in-Some-None : goal.returns-in-Some-None
+returns-in-Some-None c = let a = c.args in pair_shorter a.s.now a.field a.last_field c.in-Some-None.ensures.1 c.in-Some-None.ensures'

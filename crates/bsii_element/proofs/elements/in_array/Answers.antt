@@ -15,15 +15,14 @@ returns-then-count-index c =
     let a = c.args in
     ap (λ (f : Refusal). refuses (fault_is f)) c.refused.ensures ∙ array_absent (kind_is a.kind) a.part.now e a.index (omega arith)
 
-pub returns-in-Next : goal.returns-in-Next
-returns-in-Next c =
+pub returns : goal.returns
+returns c =
     λ n e.
     let a = c.args in
-    c.decode.ensures
-    ∙ array_element (kind_is a.kind) a.part.now e a.index (omega arith) c.skip_elements-start.ensures c.in-Next.is
+    c.decode.ensures ∙ array_element (kind_is a.kind) a.part.now e a.index (omega arith) c.in_ok-start.ensures
 
-pub returns-in-Fault : goal.returns-in-Fault
-returns-in-Fault c =
+pub returns-in_err-start : goal.returns-in_err-start
+returns-in_err-start c =
     λ n e.
     let a = c.args in
-    array_ends (kind_is a.kind) a.part.now e a.index (omega arith) c.skip_elements-start.ensures c.in-Fault.is
+    array_ends (kind_is a.kind) a.part.now e a.index (omega arith) c.in_err-start.ensures

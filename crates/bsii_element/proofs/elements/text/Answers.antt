@@ -7,31 +7,32 @@ use Rattle.bsii_format.specs.Strings.{str_parser}
 use Rattle.bsii_format.specs.Types.{string}
 use Rattle.bsii_format.specs.Values.{str, element_parser}
 use Rattle.bsii_string.proofs.Ends.{mapped}
+use Rattle.bsii_string.proofs.Passed.{passed_on}
 use Rattle.bsii_element.proofs.Call.{string_next, string_decoded, decoded_fault}
 use Rattle.bsii_element.proofs.elements.text.Goals as goal
 
 pub overflow_add-result : goal.overflow_add-result
 overflow_add-result c =
     let a = c.args in
-    omega (arith, string_next a.s.now a.at (sym c.in-Next.is ∙ c.str_end-end.ensures))
+    omega (arith, string_next a.s.now a.at c.in_ok-next.ensures)
 
 pub overflow_sub-result : goal.overflow_sub-result
 overflow_sub-result c =
     let a = c.args in
-    omega (arith, string_next a.s.now a.at (sym c.in-Next.is ∙ c.str_end-end.ensures))
+    omega (arith, string_next a.s.now a.at c.in_ok-next.ensures)
 
-pub overflow_sub-result-in-Next : goal.overflow_sub-result-in-Next
-overflow_sub-result-in-Next c =
+pub overflow_sub-result-2 : goal.overflow_sub-result-2
+overflow_sub-result-2 c =
     let a = c.args in
-    omega (arith, string_next a.s.now a.at (sym c.in-Next.is ∙ c.str_end-end.ensures))
+    omega (arith, string_next a.s.now a.at c.in_ok-next.ensures)
 
-pub returns-in-Next : goal.returns-in-Next
-returns-in-Next c =
+pub returns : goal.returns
+returns c =
     let a = c.args in
-    string_decoded a.s.now a.at (sym c.in-Next.is ∙ c.str_end-end.ensures)
+    string_decoded a.s.now a.at c.in_ok-next.ensures
 
-pub returns-in-Fault : goal.returns-in-Fault
+pub returns-in_err-next : goal.returns-in_err-next
 unfolding element_parser
-returns-in-Fault c =
+returns-in_err-next c =
     let a = c.args in
-    decoded_fault a.at (element_parser string a.at (drop a.at a.s.now)) (sym c.in-Fault.is ∙ c.str_end-end.ensures ∙ sym (mapped str str_parser a.at (drop a.at a.s.now)))
+    rw (passed_on c.from_residual.ensures.1) (decoded_fault a.at (element_parser string a.at (drop a.at a.s.now)) (c.in_err-next.ensures ∙ sym (mapped str str_parser a.at (drop a.at a.s.now))))

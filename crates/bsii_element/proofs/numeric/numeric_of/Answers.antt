@@ -1,115 +1,116 @@
 -- With the kind known, arity and width say which numbers numbers_at reads from 0 on: they are those that the arm's reader takes, and numeric_datum
 -- makes of them what the arm's conversion does. A signed number fits its type, so storing it keeps it.
-use mathlib.Core.Path.{sym, ap, ◌∙◌}
-use Prim.Native.Nat.{ℕ}
-use mathlib.Core.Bool.{Bool}
+use mathlib.Core.Path.{◌≡◌, refl, sym, ap, ◌∙◌}
+use Prim.Native.Nat.{ℕ, zero, suc}
+use mathlib.Core.Bool.{Bool, not}
 use mathlib.Core.List.{List}
+use lib.Dec.{eqb, eqb-suc-zero}
 use lib.IntN.{ℤ}
 use lib.Ieee.{Float, binary32, of_bits}
 use mir.Syntax.{w32, w64}
 use mir.Facts.{to_z-of_z}
-use Rattle.bsii_format.specs.Replies.{Reply, gives}
 use Rattle.bsii_format.specs.Numbers.{signed}
 use Rattle.bsii_format.specs.Types.{width, arity}
 use Rattle.bsii_format.specs.Calls.{Datum, d_float, d_int32, d_uint32, d_uint16, d_int64, d_uint64, d_bool, d_enum, nonzero, numeric_datum}
 use Rattle.bsii_value.specs.Kinds.{numeric_is}
 use Rattle.bsii_string.specs.NumbersAt.{numbers_at}
 use Rattle.bsii_value.specs.declared.types.Numeric.{Numeric}
-use Rattle.bsii_float.specs.Bits.{vec2_of, vec3_of, vec4_of, vec7_of, placement_of}
-use Rattle.bsii_float.specs.declared.floats.Vec2.{Vec2}
-use Rattle.bsii_float.specs.declared.floats.Vec3.{Vec3}
-use Rattle.bsii_float.specs.declared.floats.Vec4.{Vec4}
-use Rattle.bsii_float.specs.declared.floats.Vec7.{Vec7}
-use Rattle.bsii_float.specs.declared.floats.Placement.{Placement}
-use Rattle.bsii_element.specs.Cases.{element_is, int3_of}
+use Rattle.bsii_float.specs.Bits.{floats_of}
+use Rattle.bsii_float.specs.declared.floats.Floats.{Floats}
+use Rattle.bsii_element.specs.Cases.{datum_is, int3_of}
 use Rattle.bsii_element.specs.declared.answers.Int3.{Int3}
 use Rattle.bsii_element.specs.declared.answers.Element.TheVariants.{FloatVec2, FloatVec3, FloatVec4, FloatVec7, FloatVec8, Int32Vec3}
+use Rattle.bsii_element.proofs.SignedBits.{signed_is}
 use Rattle.bsii_element.proofs.numeric.numeric_of.Goals as goal
 
-abbrev Answer : List ℕ → Numeric → Reply Datum
-Answer s n = gives (numeric_datum (numeric_is n) (numbers_at (arity (numeric_is n)) (width (numeric_is n)) s 0))
+abbrev Answer : List ℕ → Numeric → Datum
+Answer s n = numeric_datum (numeric_is n) (numbers_at (arity (numeric_is n)) (width (numeric_is n)) s 0)
+
+nonzero_is : (n : ℕ) → not (eqb n 0) ≡ nonzero n
+unfolding nonzero
+nonzero_is zero = refl
+nonzero_is (suc n) = ap not (eqb-suc-zero n)
 
 pub returns-in-Float : goal.returns-in-Float
 unfolding arity width numeric_datum numbers_at
 returns-in-Float c =
     let a = c.args in
-    ap (λ (x : Float). gives (d_float x)) (c.float_of.ensures ∙ ap (of_bits binary32) c.u32_at.ensures) ∙ ap (Answer a.raw.now) (sym c.in-Float.is)
+    ap (λ (x : Float). d_float x) (c.float_of.ensures ∙ ap (of_bits binary32) c.u32_at.ensures) ∙ ap (Answer a.raw.now) (sym c.in-Float.is)
 
 pub returns-in-FloatVec2 : goal.returns-in-FloatVec2
 unfolding arity width numeric_datum numbers_at
 returns-in-FloatVec2 c =
     let a = c.args in
-    ap (λ (v : Vec2). element_is (FloatVec2 v)) (c.vec2_of.ensures ∙ ap vec2_of c.bits2_at.ensures) ∙ ap (Answer a.raw.now) (sym c.in-FloatVec2.is)
+    ap (λ (v : Floats 2). datum_is (FloatVec2 v)) (c.floats_of.ensures ∙ ap (floats_of {n = 2}) c.bits_at.ensures) ∙ ap (Answer a.raw.now) (sym c.in-FloatVec2.is)
 
 pub returns-in-FloatVec3 : goal.returns-in-FloatVec3
 unfolding arity width numeric_datum numbers_at
 returns-in-FloatVec3 c =
     let a = c.args in
-    ap (λ (v : Vec3). element_is (FloatVec3 v)) (c.vec3_of.ensures ∙ ap vec3_of c.bits3_at.ensures) ∙ ap (Answer a.raw.now) (sym c.in-FloatVec3.is)
+    ap (λ (v : Floats 3). datum_is (FloatVec3 v)) (c.floats_of-in-FloatVec3.ensures ∙ ap (floats_of {n = 3}) c.bits_at-in-FloatVec3.ensures) ∙ ap (Answer a.raw.now) (sym c.in-FloatVec3.is)
 
 pub returns-in-FloatVec4 : goal.returns-in-FloatVec4
 unfolding arity width numeric_datum numbers_at
 returns-in-FloatVec4 c =
     let a = c.args in
-    ap (λ (v : Vec4). element_is (FloatVec4 v)) (c.vec4_of.ensures ∙ ap vec4_of c.bits4_at.ensures) ∙ ap (Answer a.raw.now) (sym c.in-FloatVec4.is)
+    ap (λ (v : Floats 4). datum_is (FloatVec4 v)) (c.floats_of-in-FloatVec4.ensures ∙ ap (floats_of {n = 4}) c.bits_at-in-FloatVec4.ensures) ∙ ap (Answer a.raw.now) (sym c.in-FloatVec4.is)
 
 pub returns-in-FloatVec7 : goal.returns-in-FloatVec7
 unfolding arity width numeric_datum numbers_at
 returns-in-FloatVec7 c =
     let a = c.args in
-    ap (λ (v : Vec7). element_is (FloatVec7 v)) (c.vec7_of.ensures ∙ ap vec7_of c.bits7_at.ensures)
-    ∙ ap (Answer a.raw.now) (sym c.in-FloatVec7.is)
+    ap (λ (v : Floats 7). datum_is (FloatVec7 v)) (c.floats_of-in-FloatVec7.ensures ∙ ap (floats_of {n = 7}) c.bits_at-in-FloatVec7.ensures) ∙ ap (Answer a.raw.now) (sym c.in-FloatVec7.is)
 
 pub returns-in-FloatVec8 : goal.returns-in-FloatVec8
 unfolding arity width numeric_datum numbers_at
 returns-in-FloatVec8 c =
     let a = c.args in
-    ap (λ (v : Placement). element_is (FloatVec8 v)) (c.placement_of.ensures ∙ ap placement_of c.placement_bits_at.ensures) ∙ ap (Answer a.raw.now) (sym c.in-FloatVec8.is)
+    ap (λ (v : Floats 8). datum_is (FloatVec8 v)) (c.floats_of-in-FloatVec8.ensures ∙ ap (floats_of {n = 8}) c.bits_at-in-FloatVec8.ensures) ∙ ap (Answer a.raw.now) (sym c.in-FloatVec8.is)
 
 pub returns-in-Int32 : goal.returns-in-Int32
 unfolding arity width numeric_datum numbers_at
 returns-in-Int32 c =
     let a = c.args in
-    ap (λ (z : ℤ). gives (d_int32 z)) (to_z-of_z {w = w32} (record { sfits = c.signed32.type_inv }) ∙ c.signed32.ensures ∙ ap (signed 0x8000_0000) c.u32_at-in-Int32.ensures) ∙ ap (Answer a.raw.now) (sym c.in-Int32.is)
+    ap (λ (z : ℤ). d_int32 z) (to_z-of_z {w = w32} (record { sfits = c.cast_signed.type_inv }) ∙ c.cast_signed.ensures ∙ signed_is w32 c.u32_at-in-Int32.result c.u32_at-in-Int32.type_inv ∙ ap (signed 0x8000_0000) c.u32_at-in-Int32.ensures) ∙ ap (Answer a.raw.now) (sym c.in-Int32.is)
 
 pub returns-in-Int32Vec3 : goal.returns-in-Int32Vec3
 unfolding arity width numeric_datum numbers_at
 returns-in-Int32Vec3 c =
     let a = c.args in
-    ap (λ (v : Int3). element_is (Int32Vec3 v)) (c.int3_of.ensures ∙ ap int3_of c.bits3_at-in-Int32Vec3.ensures) ∙ ap (Answer a.raw.now) (sym c.in-Int32Vec3.is)
+    ap (λ (v : Int3). datum_is (Int32Vec3 v)) (c.int3_of.ensures ∙ ap int3_of c.bits_at-in-Int32Vec3.ensures) ∙ ap (Answer a.raw.now) (sym c.in-Int32Vec3.is)
 
 pub returns-in-UInt32 : goal.returns-in-UInt32
 unfolding arity width numeric_datum numbers_at
 returns-in-UInt32 c =
     let a = c.args in
-    ap (λ (n : ℕ). gives (d_uint32 n)) c.u32_at-in-UInt32.ensures ∙ ap (Answer a.raw.now) (sym c.in-UInt32.is)
+    ap (λ (n : ℕ). d_uint32 n) c.u32_at-in-UInt32.ensures ∙ ap (Answer a.raw.now) (sym c.in-UInt32.is)
 
 pub returns-in-UInt16 : goal.returns-in-UInt16
 unfolding arity width numeric_datum numbers_at
 returns-in-UInt16 c =
     let a = c.args in
-    ap (λ (n : ℕ). gives (d_uint16 n)) c.u16_at.ensures ∙ ap (Answer a.raw.now) (sym c.in-UInt16.is)
+    ap (λ (n : ℕ). d_uint16 n) c.u16_at.ensures ∙ ap (Answer a.raw.now) (sym c.in-UInt16.is)
 
 pub returns-in-Int64 : goal.returns-in-Int64
 unfolding arity width numeric_datum numbers_at
 returns-in-Int64 c =
     let a = c.args in
-    ap (λ (z : ℤ). gives (d_int64 z)) (to_z-of_z {w = w64} (record { sfits = c.signed64.type_inv }) ∙ c.signed64.ensures ∙ ap (signed 0x8000_0000_0000_0000) c.u64_at.ensures) ∙ ap (Answer a.raw.now) (sym c.in-Int64.is)
+    ap (λ (z : ℤ). d_int64 z) (to_z-of_z {w = w64} (record { sfits = c.cast_signed-in-Int64.type_inv }) ∙ c.cast_signed-in-Int64.ensures ∙ signed_is w64 c.u64_at.result c.u64_at.type_inv ∙ ap (signed 0x8000_0000_0000_0000) c.u64_at.ensures) ∙ ap (Answer a.raw.now) (sym c.in-Int64.is)
 
 pub returns-in-UInt64 : goal.returns-in-UInt64
 unfolding arity width numeric_datum numbers_at
 returns-in-UInt64 c =
     let a = c.args in
-    ap (λ (n : ℕ). gives (d_uint64 n)) c.u64_at-in-UInt64.ensures ∙ ap (Answer a.raw.now) (sym c.in-UInt64.is)
+    ap (λ (n : ℕ). d_uint64 n) c.u64_at-in-UInt64.ensures ∙ ap (Answer a.raw.now) (sym c.in-UInt64.is)
 
 pub returns-in-Bool : goal.returns-in-Bool
 unfolding arity width numeric_datum numbers_at
 returns-in-Bool c =
     let a = c.args in
-    ap (λ (b : Bool). gives (d_bool b)) (c.nonzero.ensures ∙ ap nonzero c.u8_at.ensures) ∙ ap (Answer a.raw.now) (sym c.in-Bool.is)
+    ap (λ (b : Bool). d_bool b) (nonzero_is _ ∙ ap nonzero c.u8_at.ensures) ∙ ap (Answer a.raw.now) (sym c.in-Bool.is)
 
 pub returns-in-Enum : goal.returns-in-Enum
 unfolding arity width numeric_datum numbers_at
 returns-in-Enum c =
     let a = c.args in
-    ap (λ (n : ℕ). gives (d_enum n)) c.u32_at-in-Enum.ensures ∙ ap (Answer a.raw.now) (sym c.in-Enum.is)
+    ap (λ (n : ℕ). d_enum n) c.u32_at-in-Enum.ensures ∙ ap (Answer a.raw.now) (sym c.in-Enum.is)

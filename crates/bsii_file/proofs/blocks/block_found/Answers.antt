@@ -2,13 +2,13 @@
 use Rattle.bsii_file.proofs.BlockCalls.{answered_fault, id_later, answered}
 use Rattle.bsii_file.proofs.blocks.block_found.Goals as goal
 
+pub returns-in_err-end : goal.returns-in_err-end
+returns-in_err-end c = answered_fault c.in_err-end.ensures _
+
 pub overflow_sub-result : goal.overflow_sub-result
 overflow_sub-result c =
     let a = c.args in
-    id_later a.s.now a.b.id c.skip_id-end.ensures c.in-Next.is
+    id_later a.s.now a.b.id c.in_ok-end.ensures
 
-pub returns-in-Fault : goal.returns-in-Fault
-returns-in-Fault c = answered_fault c.skip_id-end.ensures c.in-Fault.is _
-
-pub returns-in-Next : goal.returns-in-Next
-returns-in-Next c = answered c.skip_id-end.ensures c.in-Next.is c.u32_at.ensures
+pub returns : goal.returns
+returns c = answered c.in_ok-end.ensures c.u32_at.ensures

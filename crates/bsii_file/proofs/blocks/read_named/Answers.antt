@@ -1,18 +1,11 @@
--- As in read_block, but seek passes over blocks of other names: what it finds is the n-th of the blocks whose last prototype has the name, and
+-- As in read_block, but blocks of other names were passed over: what was found is the n-th of the blocks whose last prototype has the name, and
 -- the number it carries is that block's among all blocks.
-use Rattle.bsii_file.proofs.Lookups.{was_read}
-use Rattle.bsii_file.proofs.Rereading.{readable}
-use Rattle.bsii_file.proofs.BlockCalls.{number_refused, number_absent, number_answers}
+use Rattle.bsii_string.proofs.Passed.{passed_on}
+use Rattle.bsii_file.proofs.BlockCalls.{number_refused, number_answers}
 use Rattle.bsii_file.proofs.blocks.read_named.Goals as goal
 
-pub returns-in-Fault : goal.returns-in-Fault
-returns-in-Fault c = let a = c.args in number_refused c.bsii_parser-walked.ensures a.name.now a.n c.in-Fault.is
+pub returns-in_err-found : goal.returns-in_err-found
+returns-in_err-found c = rw (passed_on c.from_residual.ensures.1) (number_refused c.in_err-found.ensures)
 
-pub seek-place-requires : goal.seek-place-requires
-seek-place-requires c = readable (was_read c.bsii_parser-walked.ensures c.in-Done.is)
-
-pub returns-in-NoBlock : goal.returns-in-NoBlock
-returns-in-NoBlock c = rw c.refused.ensures (number_absent c.bsii_parser-walked.ensures c.in-Done.is c.seek-place.ensures c.in-NoBlock.is)
-
-pub returns-in-Block : goal.returns-in-Block
-returns-in-Block c = number_answers c.bsii_parser-walked.ensures c.in-Done.is c.seek-place.ensures c.in-Block.is
+pub returns : goal.returns
+returns c = number_answers c.in_ok-found.ensures

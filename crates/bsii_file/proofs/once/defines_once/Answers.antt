@@ -1,20 +1,16 @@
 use mathlib.Core.Path.{ap, ◌∙◌}
 use lib.ListN.{replicate}
+use Rattle.bsii_string.proofs.Passed.{passed_on}
 use Rattle.bsii_parse.proofs.Whole.{read_size}
 use Rattle.bsii_file.proofs.DefinedOnce.{once_answer, once_refused}
 use Rattle.bsii_file.proofs.once.defines_once.Goals as goal
 
-pub returns-then-t : goal.returns-then-t
-returns-then-t c =
-    let r = c.tree_parser-walked.ensures in
-    record { reply = (once_answer r c.in-Done.is).0 c.if-t.true; zeros = c.clear.ensures ∙ ap (λ n. replicate n 0) (read_size r) }
+pub returns-in_err-totals : goal.returns-in_err-totals
+returns-in_err-totals c =
+    let r = c.in_err-totals.ensures in
+    record { reply = rw (passed_on c.from_residual.ensures.1) (once_refused r); zeros = c.clear.ensures ∙ ap (λ n. replicate n 0) (read_size r) }
 
-pub returns-in-Fault : goal.returns-in-Fault
-returns-in-Fault c =
-    let r = c.tree_parser-walked.ensures in
-    record { reply = once_refused r c.in-Fault.is; zeros = c.clear.ensures ∙ ap (λ n. replicate n 0) (read_size r) }
-
-pub returns-else-t : goal.returns-else-t
-returns-else-t c =
-    let r = c.tree_parser-walked.ensures in
-    record { reply = (once_answer r c.in-Done.is).1 c.if-t.false; zeros = c.clear.ensures ∙ ap (λ n. replicate n 0) (read_size r) }
+pub returns : goal.returns
+returns c =
+    let r = c.in_ok-totals.ensures in
+    record { reply = once_answer r c.from.ensures; zeros = c.clear.ensures ∙ ap (λ n. replicate n 0) (read_size r) }

@@ -2,8 +2,8 @@
 use Rattle.bsii_file.proofs.Definitions.{last_absent, last_answers}
 use Rattle.bsii_file.proofs.prototypes.last_prototype.Goals as goal
 
-pub returns-in-Nothing : goal.returns-in-Nothing
-returns-in-Nothing c = rw c.refused.ensures (last_absent c.find-found.ensures c.in-Nothing.is)
+pub returns-in_default : goal.returns-in_default
+returns-in_default c = rw c.refused.ensures (last_absent c.in_default.ensures)
 
-pub returns-in-At : goal.returns-in-At
-returns-in-At c = last_answers c.find-found.ensures c.in-At.is c.size.ensures c.prototype_at.ensures
+pub returns : goal.returns
+returns c = last_answers c.in-Some.ensures c.size.ensures c.prototype_at.ensures

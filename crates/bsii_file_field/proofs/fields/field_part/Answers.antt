@@ -1,11 +1,14 @@
 -- read_field answers as the call does, with a part inside the file: so the slice is taken of bytes that are there, and where it refuses the part is
 -- empty. Clearing leaves as many zeros as the table has words, since no call changes its length.
-use mathlib.Core.Path.{refl}
-use Rattle.bsii_file_field.proofs.FieldCalls.{part_none, part_is}
+use mathlib.Core.Path.{refl, ◌∙◌}
+use Rattle.bsii_file_field.proofs.Parts.{part_none, part_is}
 use Rattle.bsii_file_field.proofs.fields.field_part.Goals as goal
 
-pub returns-in-Refused-clause-part : goal.returns-in-Refused-clause-part
-returns-in-Refused-clause-part c = part_none _ _ c.read_field-reply.ensures.reply c.in-Refused.is
+pub returns-in_default-clause-part : goal.returns-in_default-clause-part
+returns-in_default-clause-part c = part_none c.args.file.now c.in_default.ensures.reply
 
-pub returns-in-Field-clause-part : goal.returns-in-Field-clause-part
-returns-in-Field-clause-part c = part_is _ _ c.read_field-reply.ensures.reply c.in-Field.is refl
+pub bytes-requires : goal.bytes-requires
+bytes-requires c = c.in-Ok.ensures.inside _ refl
+
+pub returns-clause-part : goal.returns-clause-part
+returns-clause-part c = c.bytes.ensures ∙ part_is c.args.file.now c.in-Ok.ensures.reply

@@ -1,26 +1,22 @@
 -- Below field 127 a float is below 1; from there on its size is significand * 2^(field - 150): below 150 the power divides, below 158 the product
 -- stays under 2^31, and beyond it is held to 2^31, as an infinity is. A NaN is 0.
-use Rattle.std.proofs.Common.{sym, arith, pow_pos}
+use Rattle.std.proofs.Common.{refl, sym, ◌∙◌, arith, mod-eq_of_lt}
 use Rattle.bsii_float.proofs.Coefficient.{size_below, size_fraction, product_fits, size_product, size_nan, size_above}
 use Rattle.bsii_float.proofs.placement.cut_size.Goals as goal
 
-pub returns-then-field-lt127 : goal.returns-then-field-lt127
-returns-then-field-lt127 c = sym (size_below c.args.bits c.if-field-lt127.true)
+pub returns-in-0-to-126 : goal.returns-in-0-to-126
+returns-in-0-to-126 c = sym (size_below c.args.bits (omega arith))
 
-pub nonzero_div-result : goal.nonzero_div-result
-nonzero_div-result c = rw c.power_of_two.ensures (pow_pos _)
+pub returns-in-127-to-149 : goal.returns-in-127-to-149
+returns-in-127-to-149 c = sym (size_fraction c.args.bits _ (omega arith) (omega arith) refl)
 
-pub returns-then-field-lt150 : goal.returns-then-field-lt150
-returns-then-field-lt150 c = sym (size_fraction c.args.bits _ (omega arith) c.if-field-lt150.true c.power_of_two.ensures)
+pub returns-in-150-to-157 : goal.returns-in-150-to-157
+returns-in-150-to-157 c =
+    let fits = product_fits c.args.bits _ (omega arith) refl in
+    mod-eq_of_lt (omega (arith, fits)) ∙ sym (size_product c.args.bits _ (omega arith) (omega arith) refl)
 
-pub overflow_mul-result : goal.overflow_mul-result
-overflow_mul-result c = omega (arith, product_fits c.args.bits _ c.if-field-lt158.true c.power_of_two-then-field-lt158.ensures)
+pub returns-in_default : goal.returns-in_default
+returns-in_default c = sym (size_nan c.args.bits c.if-bits-gt2139095040.true)
 
-pub returns-then-field-lt158 : goal.returns-then-field-lt158
-returns-then-field-lt158 c = sym (size_product c.args.bits _ (omega arith) c.if-field-lt158.true c.power_of_two-then-field-lt158.ensures)
-
-pub returns-then-bits-gt2139095040 : goal.returns-then-bits-gt2139095040
-returns-then-bits-gt2139095040 c = sym (size_nan c.args.bits c.if-bits-gt2139095040.true)
-
-pub returns : goal.returns
-returns c = sym (size_above c.args.bits c.if-field-lt158.false c.if-bits-gt2139095040.false)
+pub returns-in_default-2 : goal.returns-in_default-2
+returns-in_default-2 c = sym (size_above c.args.bits (omega arith) c.if-bits-gt2139095040.false)

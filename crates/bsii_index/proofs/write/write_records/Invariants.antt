@@ -6,8 +6,8 @@ use lib.ListN.{length}
 use Rattle.bsii_index.proofs.Writing.{Writing}
 use Rattle.bsii_index.proofs.write.write_records.Given as goal
 
-abbrev pub invariant-loop-further : goal.invariant-loop-further
-invariant-loop-further l = Writing l.version l.s l.start l.initial.table l.initial.space l.width l.p l.table l.space l.to
+abbrev pub invariant-loop-step : goal.invariant-loop-step
+invariant-loop-step l = Writing l.version l.s l.start l.initial.table l.initial.space l.width l.p l.table l.space l.to
 
-abbrev pub decreases-loop-further : goal.decreases-loop-further
-decreases-loop-further l = length l.s - l.p.at
+abbrev pub decreases-loop-step : goal.decreases-loop-step
+decreases-loop-step l = length l.s - l.p.at

@@ -1,8 +1,8 @@
 use Rattle.bsii_index_field.proofs.Values.{keep_this, keep_that}
 use Rattle.bsii_index_field.proofs.blocks.keep.Goals as goal
 
-pub returns-then-position-passed : goal.returns-then-position-passed
-returns-then-position-passed c = keep_this c.in-At.is c.if-position-passed.true _ _
+pub returns-in-Some : goal.returns-in-Some
+returns-in-Some c = keep_this c.in-Some.is c.if-position-passed.true _ _
 
-pub returns-else-position-passed : goal.returns-else-position-passed
-returns-else-position-passed c = keep_that c.in-At.is c.if-position-passed.false _ _
+pub returns-in_default : goal.returns-in_default
+returns-in_default c = keep_that c.in-Some.is c.if-position-passed.false _ _

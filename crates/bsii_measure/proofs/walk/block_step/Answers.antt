@@ -1,21 +1,15 @@
 -- As the reading walk's step: no row means that the id is undefined; under the definition in force block_summed reads the block, or has its fault, and adds
 -- its text.
+use Rattle.bsii_string.proofs.Passed.{passed_on}
 use Rattle.bsii_parse.proofs.Passing.{carrying_undefined}
-use Rattle.bsii_measure.proofs.StepLaws.{sum_unread, block_refused, block_fits, block_passed}
-use native.Mathlib.Omega.{arith}
+use Rattle.bsii_measure.proofs.StepLaws.{sum_unread, block_refused, block_passed}
 use Rattle.bsii_measure.proofs.walk.block_step.Goals as goal
 
-pub returns-in-Nothing : goal.returns-in-Nothing
-returns-in-Nothing c = rw c.refused.ensures (sum_unread c.args.tally (carrying_undefined c.find-found.ensures c.in-Nothing.is))
+pub returns-in_default : goal.returns-in_default
+returns-in_default c = rw c.refused.ensures (sum_unread c.args.tally (carrying_undefined c.in_default.ensures))
 
-pub returns-in-Fault : goal.returns-in-Fault
-returns-in-Fault c = block_refused c.find-found.ensures c.in-At.is c.size.ensures c.block_summed-block.ensures c.in-Fault.is
+pub returns-in_err-block : goal.returns-in_err-block
+returns-in_err-block c = rw (passed_on c.from_residual.ensures.1) (block_refused c.in-Some.ensures c.size.ensures c.in_err-block.ensures)
 
-pub overflow_add-result-in-Next-2 : goal.overflow_add-result-in-Next-2
-overflow_add-result-in-Next-2 c = let f = block_fits c.block_summed-block.ensures c.in-Next.is in omega (arith, f.0, f.1)
-
-pub overflow_sub-at : goal.overflow_sub-at
-overflow_sub-at c = let f = block_fits c.block_summed-block.ensures c.in-Next.is in omega (arith, f.0, c.requires.standing.1)
-
-pub returns-in-Next : goal.returns-in-Next
-returns-in-Next c = block_passed c.find-found.ensures c.in-At.is c.size.ensures c.block_summed-block.ensures c.in-Next.is c.requires.standing.0 c.larger.ensures
+pub returns : goal.returns
+returns c = block_passed c.in-Some.ensures c.size.ensures c.in_ok-block.ensures c.requires.0 c.max.ensures

@@ -1,15 +1,13 @@
+use mathlib.Core.Path.{refl}
+use Rattle.bsii_string.proofs.Passed.{passed_on}
 use Rattle.bsii_measure_string.proofs.WordMeasures.{encoded_fault, encoded_none, encoded_some}
 use Rattle.bsii_measure_string.proofs.words.encoded_measured.Goals as goal
 
-pub returns-in-Fault : goal.returns-in-Fault
-returns-in-Fault c = let a = c.args in encoded_fault a.s.now a.at c.word_measured-word.ensures c.in-Fault.is
+pub returns-in_err-word : goal.returns-in_err-word
+returns-in_err-word c = let a = c.args in rw (passed_on c.from_residual.ensures.1) (encoded_fault a.s.now a.at c.in_err-word.ensures refl)
 
-pub returns-then-long-eq0 : goal.returns-then-long-eq0
-returns-then-long-eq0 c =
-    let a = c.args in
-    encoded_none a.s.now a.at c.word_measured-word.ensures c.in-Next.is c.if-long-eq0.true
+pub returns-then-word-eq0 : goal.returns-then-word-eq0
+returns-then-word-eq0 c = let a = c.args in encoded_none a.s.now a.at c.in_ok-word.ensures refl c.if-word-eq0.true
 
-pub returns-in-Next : goal.returns-in-Next
-returns-in-Next c =
-    let a = c.args in
-    encoded_some a.s.now a.at c.word_measured-word.ensures c.in-Next.is c.if-long-eq0.false
+pub returns : goal.returns
+returns c = let a = c.args in encoded_some a.s.now a.at c.in_ok-word.ensures refl c.if-word-eq0.false

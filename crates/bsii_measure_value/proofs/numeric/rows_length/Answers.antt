@@ -22,12 +22,6 @@ overflow_add-next c =
     let m = room a.start a.count (arity k * width k) (length s) c.loop-i.at c.loop-i.i (omega arith) (omega arith) c.loop-i.invariant.1 in
     omega (arith, m.fits, c.byte_count-each.ensures)
 
-pub slice_bounds-element_length-count : goal.slice_bounds-element_length-count
-slice_bounds-element_length-count c = omega arith
-
-pub slice_bounds-element_length-start : goal.slice_bounds-element_length-start
-slice_bounds-element_length-start c = omega arith
-
 pub slice_bounds-element_length-end : goal.slice_bounds-element_length-end
 slice_bounds-element_length-end c =
     let a = c.args in
@@ -36,17 +30,8 @@ slice_bounds-element_length-end c =
     let m = room a.start a.count (arity k * width k) (length s) c.loop-i.at c.loop-i.i (omega arith) (omega arith) c.loop-i.invariant.1 in
     omega (arith, m.fits, c.byte_count-each.ensures)
 
-pub overflow_add-long-in-loop-i-2 : goal.overflow_add-long-in-loop-i-2
-overflow_add-long-in-loop-i-2 c = omega (arith, c.element_length.ensures.small)
-
 pub overflow_add-long-in-loop-i-3 : goal.overflow_add-long-in-loop-i-3
 overflow_add-long-in-loop-i-3 c = omega (arith, c.element_length.ensures.small, adding_fits c.args.s.now c.loop-i.invariant.0 (omega arith))
-
-pub overflow_add-i : goal.overflow_add-i
-overflow_add-i c = omega arith
-
-pub loop-i-smaller : goal.loop-i-smaller
-loop-i-smaller c = omega arith
 
 pub loop-i-preserved : goal.loop-i-preserved
 loop-i-preserved c =

@@ -9,6 +9,3 @@ abbrev pub invariant-loop-i : goal.invariant-loop-i
 invariant-loop-i l =
     Adding l.s l.start l.count (numbers (numeric_is l.kind)) l.name l.at l.long l.i
     × (l.at + (l.count - l.i) * (arity (numeric_is l.kind) * width (numeric_is l.kind)) ≡ l.start + l.count * (arity (numeric_is l.kind) * width (numeric_is l.kind)))
-
-abbrev pub decreases-loop-i : goal.decreases-loop-i
-decreases-loop-i l = l.count - l.i

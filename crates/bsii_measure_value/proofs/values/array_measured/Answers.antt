@@ -1,47 +1,34 @@
-use mathlib.Core.Path.{sym, ap, ◌∙◌}
+use mathlib.Core.Path.{sym}
 use native.Mathlib.Omega.{arith}
-use Rattle.bsii_value.specs.Kinds.{kind_is}
-use Rattle.bsii_string.specs.Answers.{num_of}
 use Rattle.bsii_digits.proofs.Counts.{at_most_twenty}
-use Rattle.bsii_measure_value.proofs.ElementMeasures.{row_by}
+use Rattle.bsii_string.proofs.Passed.{passed_on}
+use Rattle.bsii_value.specs.Kinds.{kind_is}
 use Rattle.bsii_measure_value.proofs.ValueMeasures.{array_short, first_at, array_fault, array_fits, array_next}
-use borrow.Author.Rules.{rules}
 use Rattle.bsii_measure_value.proofs.values.array_measured.Goals as goal
 
-pub returns-in-Short : goal.returns-in-Short
-returns-in-Short c =
-    let a = c.args in
-    let e = sym c.le_u32-count.ensures ∙ ap (num_of a.s.now) c.in-Short.is in
-    array_short a.s.now a.at a.name (kind_is a.kind) e
+pub returns-in_err-n : goal.returns-in_err-n
+returns-in_err-n c = let a = c.args in rw (passed_on c.from_residual.ensures.1) (array_short a.s.now a.at a.name (kind_is a.kind) (sym c.in_err-n.ensures))
 
-pub row_measured-row-requires : goal.row_measured-row-requires
-row_measured-row-requires c =
+pub row_measured-requires : goal.row_measured-requires
+row_measured-requires c =
     let a = c.args in
-    let e = sym c.le_u32-count.ensures ∙ ap (num_of a.s.now) c.in-Got.is in
-    record { s_in_bounds = (omega arith, (first_at a.s.now a.at a.name (kind_is a.kind) e (omega arith)).1, omega arith); char_pairs = search rules }
+    (omega arith, (first_at a.s.now a.at a.name (kind_is a.kind) (sym c.in_ok-n.ensures) (omega arith)).1, omega arith)
 
-pub returns-in-Fault : goal.returns-in-Fault
-returns-in-Fault c =
+pub returns-in_err-row : goal.returns-in_err-row
+returns-in_err-row c =
     let a = c.args in
-    let e = sym c.le_u32-count.ensures ∙ ap (num_of a.s.now) c.in-Got.is in
-    array_fault a.s.now a.at a.name (kind_is a.kind) e (row_by c.in-Fault.is c.row_measured-row.ensures)
+    rw (passed_on c.from_residual-in_err-row.ensures.1) (array_fault a.s.now a.at a.name (kind_is a.kind) (sym c.in_ok-n.ensures) c.in_err-row.ensures)
 
-pub overflow_add-result-in-Next : goal.overflow_add-result-in-Next
-overflow_add-result-in-Next c =
-    let a = c.args in
-    let e = sym c.le_u32-count.ensures ∙ ap (num_of a.s.now) c.in-Got.is in
-    omega (arith, c.decimal_count.ensures, at_most_twenty c.in-Got.n (omega arith))
+pub overflow_add-result-2 : goal.overflow_add-result-2
+overflow_add-result-2 c = omega (arith, c.decimal_count.ensures, at_most_twenty c.in_ok-n.n (omega arith))
 
-pub overflow_add-result-in-Next-2 : goal.overflow_add-result-in-Next-2
-overflow_add-result-in-Next-2 c =
+pub overflow_add-result-3 : goal.overflow_add-result-3
+overflow_add-result-3 c =
     let a = c.args in
-    let e = sym c.le_u32-count.ensures ∙ ap (num_of a.s.now) c.in-Got.is in
-    let w = row_by c.in-Next.is c.row_measured-row.ensures in
-    omega (arith, c.decimal_count.ensures, at_most_twenty c.in-Got.n (omega arith), array_fits a.s.now a.at a.name (kind_is a.kind) e w)
+    omega (arith, c.decimal_count.ensures, at_most_twenty c.in_ok-n.n (omega arith), array_fits a.s.now a.at a.name (kind_is a.kind) (sym c.in_ok-n.ensures) c.in_ok-row.ensures)
 
-pub returns-in-Next : goal.returns-in-Next
-returns-in-Next c =
+pub returns : goal.returns
+returns c =
     let a = c.args in
-    let e = sym c.le_u32-count.ensures ∙ ap (num_of a.s.now) c.in-Got.is in
-    let w = row_by c.in-Next.is c.row_measured-row.ensures in
-    array_next a.s.now a.at a.name (kind_is a.kind) e w c.decimal_count.ensures (omega (arith, c.decimal_count.ensures, at_most_twenty c.in-Got.n (omega arith))) (omega arith) (omega arith)
+    array_next a.s.now a.at a.name (kind_is a.kind) (sym c.in_ok-n.ensures) c.in_ok-row.ensures c.decimal_count.ensures
+    (omega (arith, c.decimal_count.ensures, at_most_twenty c.in_ok-n.n (omega arith))) (omega arith) (omega arith)

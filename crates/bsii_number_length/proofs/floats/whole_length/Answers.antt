@@ -9,18 +9,18 @@ use native.Mathlib.Omega.{arith}
 use Rattle.bsii_number_length.proofs.floats.whole_length.Goals as goal
 
 pub overflow_add-result : goal.overflow_add-result
-overflow_add-result c = omega (arith, c.decimal_count.ensures, at_most_twenty c.args.size (omega arith))
+overflow_add-result c = omega (arith, c.decimal_count-digits.ensures, at_most_twenty c.args.n.size (omega arith))
 
-pub returns-then-negative : goal.returns-then-negative
+pub returns-then-n : goal.returns-then-n
 unfolding minus_if
-returns-then-negative c =
-    let size = c.args.size in
-    let e = ap (λ (b : Bool). length (minus_if b (decimal size))) c.if-negative.true in
-    (omega (arith, e, c.decimal_count.ensures), omega (arith, c.decimal_count.ensures, at_most_twenty size (omega arith)))
+returns-then-n c =
+    let size = c.args.n.size in
+    let e = ap (λ (b : Bool). length (minus_if b (decimal size))) c.if-n.true in
+    (omega (arith, e, c.decimal_count-digits.ensures), omega (arith, c.decimal_count-digits.ensures, at_most_twenty size (omega arith)))
 
-pub returns : goal.returns
+pub returns-else-n : goal.returns-else-n
 unfolding minus_if
-returns c =
-    let size = c.args.size in
-    let e = ap (λ (b : Bool). length (minus_if b (decimal size))) c.if-negative.false in
-    (omega (arith, e, c.decimal_count-2.ensures), omega (arith, c.decimal_count-2.ensures, at_most_twenty size (omega arith)))
+returns-else-n c =
+    let size = c.args.n.size in
+    let e = ap (λ (b : Bool). length (minus_if b (decimal size))) c.if-n.false in
+    (omega (arith, e, c.decimal_count-digits.ensures), omega (arith, c.decimal_count-digits.ensures, at_most_twenty size (omega arith)))

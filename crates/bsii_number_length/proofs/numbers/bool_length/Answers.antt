@@ -7,5 +7,5 @@ use Rattle.bsii_number_length.proofs.numbers.bool_length.Goals as goal
 pub returns-then-n-eq0 : goal.returns-then-n-eq0
 returns-then-n-eq0 c = (sym (ap length (false_text c.args.n c.if-n-eq0.true)), omega arith)
 
-pub returns : goal.returns
-returns c = (sym (ap length (true_text c.args.n c.if-n-eq0.false)), omega arith)
+pub returns-else-n-eq0 : goal.returns-else-n-eq0
+returns-else-n-eq0 c = (sym (ap length (true_text c.args.n c.if-n-eq0.false)), omega arith)

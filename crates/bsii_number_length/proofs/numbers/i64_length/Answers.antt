@@ -1,5 +1,4 @@
--- Below 2^63 the bits are the number itself; from there on they stand for 2^64 less, whose size is worked out so that no step leaves 64 bits.
-use Prim.Native.Nat.{◌+◌, ◌-◌}
+-- Below 2^63 the bits are the number itself; from there on they stand for 2^64 less, so 2^64 - n is its size behind a minus.
 use mathlib.Core.Path.{refl}
 use Rattle.bsii_digits.proofs.Counts.{at_most_twenty}
 use Rattle.bsii_number_length.proofs.LengthLaws.{positive_length, negative_length}
@@ -10,11 +9,9 @@ pub returns-then-n-lt9223372036854775808 : goal.returns-then-n-lt922337203685477
 returns-then-n-lt9223372036854775808 c = positive_length 0x8000_0000_0000_0000 c.args.n c.decimal_count.ensures (omega arith) (omega arith)
 
 pub overflow_add-result : goal.overflow_add-result
-overflow_add-result c =
-    let n = c.args.n in
-    omega (arith, c.decimal_count-2.ensures, at_most_twenty (0xffff_ffff_ffff_ffff - n + 1) (omega arith))
+overflow_add-result c = omega (arith, c.decimal_count-else-n-lt9223372036854775808.ensures, at_most_twenty c.wrapping_neg.result (omega arith))
 
-pub returns : goal.returns
-returns c =
-    let n = c.args.n in
-    negative_length 0x8000_0000_0000_0000 0xffff_ffff_ffff_ffff n (0xffff_ffff_ffff_ffff - n + 1) c.decimal_count-2.ensures refl (omega arith) (omega arith) (omega arith) (omega arith)
+pub returns-else-n-lt9223372036854775808 : goal.returns-else-n-lt9223372036854775808
+returns-else-n-lt9223372036854775808 c =
+    let size = c.wrapping_neg.result in
+    negative_length 0x8000_0000_0000_0000 0xffff_ffff_ffff_ffff c.args.n size c.decimal_count-else-n-lt9223372036854775808.ensures refl (omega arith) (omega arith) (omega (arith, c.wrapping_neg.ensures)) (omega arith)

@@ -10,7 +10,7 @@ returns-then-n-largest c =
     let a = c.args in
     (sym (ap length (nil_text a.largest a.n c.if-n-largest.true)), omega arith)
 
-pub returns : goal.returns
-returns c =
+pub returns-else-n-largest : goal.returns-else-n-largest
+returns-else-n-largest c =
     let a = c.args in
     (c.decimal_count.ensures ∙ sym (ap length (decimal_text a.largest a.n c.if-n-largest.false)), omega (arith, at_most_twenty a.n (omega arith)))

@@ -1,9 +1,10 @@
 -- The walk beside an empty index is the reading: how far that agrees is not asked.
+use Rattle.bsii_string.proofs.Passed.{passed_on}
 use Rattle.bsii_parse.proofs.Whole.{tree_read, tree_unread}
 use Rattle.bsii_parse.proofs.reading.tree_parser.Goals as goal
 
-pub returns-in-Read : goal.returns-in-Read
-returns-in-Read c = tree_read c.compare-compared.ensures c.in-Read.is
+pub returns-in_err-compared : goal.returns-in_err-compared
+returns-in_err-compared c = rw (passed_on c.from_residual.ensures.1) (tree_unread c.in_err-compared.ensures)
 
-pub returns-in-Refused : goal.returns-in-Refused
-returns-in-Refused c = tree_unread c.compare-compared.ensures c.in-Refused.is
+pub returns : goal.returns
+returns c = tree_read c.in_ok-compared.ensures

@@ -6,7 +6,7 @@ use Rattle.bsii_parse.proofs.Comparing.{Comparing}
 use Rattle.bsii_parse.proofs.walk.walk.Given as goal
 
 abbrev pub invariant-loop-next : goal.invariant-loop-next
-invariant-loop-next l = Comparing l.version l.s l.start l.initial.table l.index l.width l.p l.table l.agreed
+invariant-loop-next l = Comparing l.checked.version l.s l.start l.initial.table l.index l.width l.p l.table l.agreed
 
 abbrev pub decreases-loop-next : goal.decreases-loop-next
 decreases-loop-next l = length l.s - l.p.at

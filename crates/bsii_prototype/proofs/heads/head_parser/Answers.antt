@@ -1,24 +1,23 @@
 -- `heads::head_parser`: The law of the arm that was taken.
-use mathlib.Core.Path.{sym, ap, ◌∙◌}
+use mathlib.Core.Path.{sym, ◌∙◌}
 use lib.ListN.{drop}
-use Rattle.bsii_string.specs.Answers.{num_of}
+use Rattle.bsii_string.proofs.Passed.{passed_on}
 use Rattle.bsii_prototype.proofs.Beginnings.{head_short, head_marked, head_block}
 use Rattle.bsii_prototype.proofs.heads.head_parser.Goals as goal
 
-pub returns-then-n-eq0 : goal.returns-then-n-eq0
-returns-then-n-eq0 c =
+pub returns-then-id-eq0 : goal.returns-then-id-eq0
+returns-then-id-eq0 c =
     let a = c.args in
-    let e = sym c.le_u32-number.ensures ∙ ap (num_of a.s.now) c.in-Got.is in
-    c.marked_parser.ensures ∙ sym (head_marked a.at (drop a.at a.s.now) e c.if-n-eq0.true)
+    let e = sym c.in_ok-id.ensures in
+    c.marked_parser.ensures ∙ sym (head_marked a.at (drop a.at a.s.now) e c.if-id-eq0.true)
 
-pub returns-in-Short : goal.returns-in-Short
-returns-in-Short c =
+pub returns-in_err-id : goal.returns-in_err-id
+returns-in_err-id c =
     let a = c.args in
-    let e = sym c.le_u32-number.ensures ∙ ap (num_of a.s.now) c.in-Short.is in
-    sym (head_short a.at (drop a.at a.s.now) e)
+    rw (passed_on c.from_residual.ensures.1) (sym (head_short a.at (drop a.at a.s.now) (sym c.in_err-id.ensures)))
 
-pub returns-else-n-eq0 : goal.returns-else-n-eq0
-returns-else-n-eq0 c =
+pub returns : goal.returns
+returns c =
     let a = c.args in
-    let e = sym c.le_u32-number.ensures ∙ ap (num_of a.s.now) c.in-Got.is in
-    sym (head_block a.at (drop a.at a.s.now) e c.if-n-eq0.false)
+    let e = sym c.in_ok-id.ensures in
+    sym (head_block a.at (drop a.at a.s.now) e c.if-id-eq0.false)

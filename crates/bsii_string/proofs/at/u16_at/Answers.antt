@@ -1,5 +1,5 @@
--- With two bytes left, the little-endian number there is the first byte and 256 times the second (`two_bytes`); with fewer there is none, which counts as 0.
-use mathlib.Core.Path.{sym, ap}
+-- With two bytes left, the little-endian number there is theirs (`two_bytes`); with fewer there is none, which counts as 0.
+use mathlib.Core.Path.{sym, ap, ◌∙◌}
 use native.Mathlib.Omega.{arith}
 use Rattle.bsii_format.proofs.Positions.{number_at_law, number_short}
 use Rattle.bsii_string.specs.NumbersAt.{or_zero, number_at}
@@ -14,4 +14,4 @@ pub returns : goal.returns
 unfolding number_at or_zero
 returns c =
     let a = c.args in
-    cc (ap or_zero (number_at_law 2 a.s.now a.at (omega arith)), two_bytes a.s.now a.at)
+    omega (arith, c.from_le_bytes.ensures, two_bytes a.s.now a.at) ∙ sym (ap or_zero (number_at_law 2 a.s.now a.at (omega arith)))

@@ -1,14 +1,19 @@
--- `numbers::le_u8`: A byte is a number of one byte; where none is left the number runs out.
+-- `numbers::le_u8`: A byte is a number of one byte.
 use native.Mathlib.Omega.{arith}
-use Rattle.bsii_format.proofs.Positions.{number_at_law, number_short}
 use Rattle.bsii_string.proofs.Bytes.{one_byte}
-use Rattle.bsii_string.proofs.Items.{short_of}
+use Rattle.bsii_string.proofs.Passed.{passed_on}
+use Rattle.bsii_string.proofs.Widths.{bytes_there, number_there, number_cut}
 use Rattle.bsii_string.proofs.numbers.le_u8.Goals as goal
 
-pub returns-then-rest-lt1 : goal.returns-then-rest-lt1
-returns-then-rest-lt1 c = let a = c.args in rw c.short.ensures (short_of 1 c.left-rest.ensures (number_short 1 a.s.now a.at (omega arith)))
+pub bounds-s-at : goal.bounds-s-at
+bounds-s-at c = let a = c.args in omega (arith, bytes_there 1 a.s.now a.at c.in_ok-next.ensures)
+
+pub returns-in_err-next : goal.returns-in_err-next
+returns-in_err-next c =
+    let a = c.args in
+    rw (passed_on c.from_residual.ensures.1) (number_cut 1 a.s.now a.at c.in_err-next.ensures)
 
 pub returns : goal.returns
 returns c =
     let a = c.args in
-    cc (number_at_law 1 a.s.now a.at (omega arith), one_byte a.s.now a.at)
+    cc (number_there 1 a.s.now a.at c.in_ok-next.ensures, one_byte a.s.now a.at)

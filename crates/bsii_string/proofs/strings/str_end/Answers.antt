@@ -1,17 +1,13 @@
 -- `strings::str_end`: What the answer means ends where the specification's result does.
-use mathlib.Core.Path.{sym, ap, ◌∙◌}
-use Rattle.bsii_string.specs.Answers.{str_of, end_of}
-use Rattle.bsii_string.specs.declared.answers.Str.{Str}
+use mathlib.Core.Path.{ap}
+use Rattle.bsii_string.proofs.Passed.{passed_on}
+use Rattle.bsii_string.specs.Answers.{end_of}
 use Rattle.bsii_string.proofs.strings.str_end.Goals as goal
 
-pub returns-in-Text : goal.returns-in-Text
+pub returns-in_err-text : goal.returns-in_err-text
 unfolding end_of
-returns-in-Text c =
-    let a = c.args in
-    ap (λ (w : Str). end_of (str_of a.s.now w)) (sym c.in-Text.is) ∙ ap end_of c.str_parser-text.ensures
+returns-in_err-text c = rw (passed_on c.from_residual.ensures.1) (ap end_of c.in_err-text.ensures)
 
-pub returns-in-Refused : goal.returns-in-Refused
+pub returns : goal.returns
 unfolding end_of
-returns-in-Refused c =
-    let a = c.args in
-    ap (λ (w : Str). end_of (str_of a.s.now w)) (sym c.in-Refused.is) ∙ ap end_of c.str_parser-text.ensures
+returns c = ap end_of c.in_ok-text.ensures

@@ -1,16 +1,13 @@
-use mathlib.Core.Path.{refl, ◌∙◌}
-use native.Mathlib.Omega.{arith}
-use Rattle.bsii_string.proofs.Sequences.{ascii_more}
+-- `utf8::ascii_end`: Each byte in front of the first one past 0x7f is ASCII; where there is none, all are.
+use Prim.Native.Nat.{◌≤◌, ◌<◌}
+use borrow.Author.Tests.{tests}
+use Rattle.std.proofs.Common.{rules}
+use Rattle.std.proofs.lemmas.Iterator.{IsFirst-from_position, YieldsList-from_slice}
+use Rattle.bsii_string.proofs.Sequences.{ascii_run}
 use Rattle.bsii_string.proofs.utf8.ascii_end.Goals as goal
 
-pub loop-i-init : goal.loop-i-init
-loop-i-init c = refl
-
-pub returns-then-part-i-gt127 : goal.returns-then-part-i-gt127
-returns-then-part-i-gt127 c = c.loop-i.invariant
-
-pub loop-i-preserved : goal.loop-i-preserved
-loop-i-preserved c = ascii_more c.args.part.now c.loop-i.i (omega arith) (omega arith) ∙ c.loop-i.invariant
-
-pub returns : goal.returns
-returns c = c.loop-i.invariant
+pub returns-clause-rest : goal.returns-clause-rest
+returns-clause-rest c =
+    let s = c.args.part.now in
+    let first = IsFirst-from_position _ _ c.position.result (λ b. 0x7f < b) (λ b. b ≤ 0x7f) c.position.ensures.ran (YieldsList-from_slice s cc) (λ x q k. search (rules, tests)) (λ x q k. search (rules, tests)) in
+    rw c.unwrap_or.ensures (ascii_run s c.position.result first)

@@ -2,17 +2,19 @@
 -- starts; a refusal of the records is one of the whole text.
 use Rattle.bsii_format.specs.Text.{value_text}
 use Rattle.bsii_format.specs.BlockText.{every_block, file_opening, closing}
-use Rattle.bsii_text.proofs.WalkLaws.{file_refused, file_written, records_by}
+use Rattle.bsii_string.proofs.Passed.{passed_on}
+use Rattle.bsii_text.proofs.WalkLaws.{file_refused, file_written}
 use Rattle.bsii_text.proofs.records.write_bsii.Goals as goal
 
-pub returns-in-Refused : goal.returns-in-Refused
+pub returns-in_err-end : goal.returns-in_err-end
 unfolding file_opening
-returns-in-Refused c =
+returns-in_err-end c =
     let a = c.args in
-    file_refused value_text every_block a.s.now a.start a.table.now a.rows c.put_all-opening.ensures (records_by value_text every_block c.in-Refused.is c.write_records-blocks.ensures)
+    rw (passed_on c.from_residual.ensures.1)
+    (file_refused value_text every_block a.s.now a.start a.table.now a.rows c.put_all-opening.ensures c.in_err-end.ensures)
 
-pub returns-in-To : goal.returns-in-To
+pub returns : goal.returns
 unfolding file_opening closing
-returns-in-To c =
+returns c =
     let a = c.args in
-    file_written value_text every_block a.s.now a.start a.table.now a.rows c.put_all-opening.ensures (records_by value_text every_block c.in-To.is c.write_records-blocks.ensures) c.put_all.ensures
+    file_written value_text every_block a.s.now a.start a.table.now a.rows c.put_all-opening.ensures c.in_ok-end.ensures c.put_all.ensures

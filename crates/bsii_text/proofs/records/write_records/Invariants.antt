@@ -6,8 +6,8 @@ use Prim.Native.Nat.{◌-◌}
 use lib.ListN.{length}
 use Rattle.bsii_text.proofs.records.write_records.Given as goal
 
-abbrev pub invariant-loop-f : goal.invariant-loop-f
-invariant-loop-f l = Going value_text every_block l.version l.s l.start l.initial.table l.rows l.initial.out l.to l.at l.here l.table l.out
+abbrev pub invariant-loop-lines : goal.invariant-loop-lines
+invariant-loop-lines l = Going value_text every_block l.version l.s l.start l.initial.table l.rows l.initial.out l.to l.at l.here l.table l.out
 
-abbrev pub decreases-loop-f : goal.decreases-loop-f
-decreases-loop-f l = length l.s - l.at
+abbrev pub decreases-loop-lines : goal.decreases-loop-lines
+decreases-loop-lines l = length l.s - l.at

@@ -1,24 +1,23 @@
-use mathlib.Core.Path.{ap, ◌∙◌}
-use Prim.Native.Nat.{max, ◌+◌}
+use mathlib.Core.Path.{sym, ap, ◌∙◌}
 use native.Mathlib.Omega.{arith}
+use Prim.Native.Nat.{◌+◌}
 use lib.ListN.{drop}
-use Rattle.bsii_text_length.specs.Classes.{worst}
-use Rattle.bsii_text_length.proofs.ClassLaws.{worst_more, worst_none}
+use Rattle.bsii_text_length.specs.Classes.{larger, worst}
+use Rattle.bsii_text_length.proofs.ClassLaws.{max_larger, worst_more, worst_none, larger_none, larger_first}
 use Rattle.bsii_text_length.proofs.strings.worst.Goals as goal
 
-pub loop-i-init : goal.loop-i-init
-loop-i-init c = (omega arith, omega arith)
+pub loop-b-init : goal.loop-b-init
+loop-b-init c = larger_first (worst c.args.bytes.now)
 
-pub overflow_add-i : goal.overflow_add-i
-overflow_add-i c = omega arith
-
-pub loop-i-smaller : goal.loop-i-smaller
-loop-i-smaller c = omega arith
-
-pub loop-i-preserved : goal.loop-i-preserved
-loop-i-preserved c =
+pub loop-b-preserved : goal.loop-b-preserved
+loop-b-preserved c =
     let s = c.args.bytes.now in
-    (omega arith, ap (λ m. max m (worst (drop (c.loop-i.i + 1) s))) (c.larger-all.ensures ∙ ap (max c.loop-i.all) c.class.ensures) ∙ worst_more s c.loop-i.i c.loop-i.all (omega arith) ∙ c.loop-i.invariant.1)
+    let l = c.loop-b in
+    ap (λ m. larger m (worst (drop (l.b-index + 1) s))) (c.max-all.ensures ∙ max_larger l.all c.class_of.result ∙ ap (larger l.all) c.class_of.ensures)
+    ∙ worst_more s l.b-index l.all (omega arith)
+    ∙ l.invariant
 
 pub returns : goal.returns
-returns c = omega (arith, c.loop-i.invariant.1, worst_none c.args.bytes.now c.loop-i.i (omega arith))
+returns c =
+    let l = c.loop-b in
+    sym (ap (larger l.all) (worst_none c.args.bytes.now l.b-index (omega arith)) ∙ larger_none l.all) ∙ l.invariant

@@ -7,7 +7,7 @@ use lib.ListN.{drop}
 use Rattle.bsii_format.specs.Reader.{short_at}
 use Rattle.bsii_format.specs.Types.{width, arity}
 use Rattle.bsii_string.specs.Answers.{end_of}
-use Rattle.bsii_string.specs.declared.answers.Parsed.TheVariants.{Next}
+use Rattle.std.specs.Prelude.{Ok}
 use Rattle.bsii_value.specs.Kinds.{numeric_is}
 use Rattle.bsii_value.proofs.Elements.{numbers_end}
 use Rattle.bsii_value.proofs.NumberRows.{fitting, part, wide, row_whole, row_cut}
@@ -49,4 +49,4 @@ pub returns : goal.returns
 returns c =
     let a = c.args in
     let k = numeric_is a.n in
-    ap (λ (m : ℕ). Next (a.at + m)) c.byte_count-total.ensures ∙ row_whole a.s.now a.at (arity k) (width k) (omega arith) ∙ sym (numbers_end k a.at (drop a.at a.s.now))
+    ap (λ (m : ℕ). Ok (a.at + m)) c.byte_count-total.ensures ∙ row_whole a.s.now a.at (arity k) (width k) (omega arith) ∙ sym (numbers_end k a.at (drop a.at a.s.now))

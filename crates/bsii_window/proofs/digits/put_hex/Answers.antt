@@ -2,14 +2,10 @@
 use mathlib.Core.Path.{sym, ap, ◌∙◌}
 use native.Mathlib.Omega.{arith}
 use lib.ListN.{take}
-use lib.Seq.{length-take-le}
 use Rattle.bsii_format.specs.Digits.{hex_padded}
 use Rattle.bsii_window.proofs.Laws.{being, stored}
 use Rattle.bsii_digits.proofs.DigitLaws.{padded_length}
 use Rattle.bsii_window.proofs.digits.put_hex.Goals as goal
-
-pub slice_bounds-put_all-end : goal.slice_bounds-put_all-end
-slice_bounds-put_all-end c = sym (length-take-le c.args.count c.fill_hex.new.out (omega (arith, c.requires)))
 
 pub returns : goal.returns
 returns c =

@@ -11,7 +11,7 @@ use Rattle.bsii_window.proofs.digits.store_decimal.Goals as goal
 pub returns-then-n-lt10 : goal.returns-then-n-lt10
 returns-then-n-lt10 c =
     let n = c.args.n in
-    let text = ap (λ (d : ℕ). d ∷ []) c.digit.ensures ∙ sym (decimal_one n (omega arith)) in
+    let text = ap (λ (d : ℕ). d ∷ []) c.decimal_digit.ensures ∙ sym (decimal_one n (omega arith)) in
     (stored_being text c.store_byte.ensures, omega arith)
 
 pub overflow_add-end : goal.overflow_add-end

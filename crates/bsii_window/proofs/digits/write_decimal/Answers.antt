@@ -6,20 +6,11 @@ use native.Mathlib.Omega.{arith}
 use lib.ListN.{length}
 use lib.Seq.{sets}
 use Rattle.bsii_format.specs.Digits.{decimal}
-use Rattle.bsii_window.proofs.Laws.{past, starts, inside_sum}
+use Rattle.bsii_window.proofs.Laws.{past, inside_sum}
 use Rattle.bsii_window.proofs.digits.write_decimal.Goals as goal
 
 pub returns-in-Past : goal.returns-in-Past
-returns-in-Past c = past c.in-Past.is c.overlap_of-place.ensures c.decimal_count-count.ensures c.further.ensures (omega arith)
-
-pub overflow_add-start : goal.overflow_add-start
-overflow_add-start c = omega (arith, starts c.decimal_count-count.result c.in-Inside.is c.overlap_of-place.ensures)
-
-pub fill_decimal-requires : goal.fill_decimal-requires
-fill_decimal-requires c = (omega (arith, c.decimal_count-count.ensures), (starts c.decimal_count-count.result c.in-Inside.is c.overlap_of-place.ensures).1)
-
-pub overflow_add-result : goal.overflow_add-result
-overflow_add-result c = omega (arith, starts c.decimal_count-count.result c.in-Inside.is c.overlap_of-place.ensures)
+returns-in-Past c = past c.in-Past.is c.overlap_of.ensures c.decimal_count-count.ensures c.further.ensures (omega arith)
 
 pub returns-in-Inside : goal.returns-in-Inside
 returns-in-Inside c =
@@ -27,5 +18,5 @@ returns-in-Inside c =
     let start = c.in-Inside.start in
     let n = c.decimal_count-count.result in
     let z : start + n - length (decimal a.n) ≡ start = omega (arith, c.decimal_count-count.ensures) in
-    inside_sum c.in-Inside.is c.overlap_of-place.ensures c.decimal_count-count.ensures
+    inside_sum c.in-Inside.is c.overlap_of.ensures c.decimal_count-count.ensures
     (c.fill_decimal.ensures ∙ ap (λ (k : ℕ). sets a.out.now k (decimal a.n)) z) (omega arith)

@@ -6,8 +6,8 @@ use Rattle.bsii_window.proofs.Laws.{capped_fits, written_none, written_past, wri
 use borrow.Author.Rules.{rules}
 use Rattle.bsii_window.proofs.window.put.Goals as goal
 
-pub returns-then-at-lt9223372036854775808 : goal.returns-then-at-lt9223372036854775808
-returns-then-at-lt9223372036854775808 c = let a = c.args in record { next = search rules; window = sym (written_none a.out.now a.at (a.byte ∷ []) (omega arith)); room = omega arith }
+pub returns-then-at-lt-ORIGIN : goal.returns-then-at-lt-ORIGIN
+returns-then-at-lt-ORIGIN c = let a = c.args in record { next = search rules; window = sym (written_none a.out.now a.at (a.byte ∷ []) (omega arith)); room = omega arith }
 
 pub returns-then-out-index : goal.returns-then-out-index
 returns-then-out-index c = let a = c.args in record { next = search rules; window = sym (written_past a.out.now a.at (a.byte ∷ []) (omega arith) (omega arith)); room = omega arith }

@@ -8,8 +8,8 @@ use lib.Seq.{sets}
 use Rattle.bsii_window.proofs.Laws.{rest, capped_low, capped_high, written_none, written_before, written_past, written_in}
 use Rattle.bsii_window.proofs.window.put_across.Goals as goal
 
-pub returns-then-end-le9223372036854775808 : goal.returns-then-end-le9223372036854775808
-returns-then-end-le9223372036854775808 c =
+pub returns-then-end-le-ORIGIN : goal.returns-then-end-le-ORIGIN
+returns-then-end-le-ORIGIN c =
     let a = c.args in
     record { next = c.further-end.ensures; window = sym (written_none a.out.now a.at a.text.now (capped_low a.at (length a.text.now) (omega (arith, c.further-end.ensures)))); room = omega arith }
 
@@ -19,8 +19,8 @@ slice_bounds-store-count c = let a = c.args in omega (arith, capped_high a.at (l
 pub slice_bounds-store-start : goal.slice_bounds-store-start
 slice_bounds-store-start c = let a = c.args in omega (arith, capped_high a.at (length a.text.now) (omega (arith, c.further-end.ensures)))
 
-pub returns-then-at-lt9223372036854775808 : goal.returns-then-at-lt9223372036854775808
-returns-then-at-lt9223372036854775808 c =
+pub returns-then-at-lt-ORIGIN : goal.returns-then-at-lt-ORIGIN
+returns-then-at-lt-ORIGIN c =
     let a = c.args in
     record { next = c.further-end.ensures; window = c.store.ensures ∙ ap (sets a.out.now 0) (rest (0x8000_0000_0000_0000 - a.at) a.text.now) ∙ sym (written_before a.out.now a.at a.text.now (omega arith)); room = omega arith }
 

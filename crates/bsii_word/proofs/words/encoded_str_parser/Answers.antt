@@ -1,24 +1,22 @@
 -- `words::encoded_str_parser`: The word is read, bit 63 dropped, and its digits tested.
-use mathlib.Core.Path.{sym, ap, ◌∙◌}
+use mathlib.Core.Path.{sym, ◌∙◌}
 use lib.ListN.{drop}
-use Rattle.bsii_string.specs.Answers.{num_of64}
+use Rattle.bsii_string.proofs.Passed.{passed_on}
 use Rattle.bsii_word.proofs.Base38.{accepted, not_accepted}
 use Rattle.bsii_word.proofs.WordLaws.{word_short, word_whole, word_not}
 use Rattle.bsii_word.proofs.words.encoded_str_parser.Goals as goal
 
-pub returns-in-Short64 : goal.returns-in-Short64
-returns-in-Short64 c =
+pub returns-in_err-n : goal.returns-in_err-n
+returns-in_err-n c =
     let a = c.args in
-    sym (word_short (drop a.at a.s.now) a.at (sym c.le_u64-word.ensures ∙ ap (num_of64 a.s.now) c.in-Short64.is))
+    rw (passed_on c.from_residual.ensures.1) (sym (word_short (drop a.at a.s.now) a.at (sym c.in_err-n.ensures)))
 
-pub returns-in-Length : goal.returns-in-Length
-returns-in-Length c =
+pub returns-in-Some : goal.returns-in-Some
+returns-in-Some c =
     let a = c.args in
-    let e = sym c.le_u64-word.ensures ∙ ap (num_of64 a.s.now) c.in-Got64.is in
-    sym (word_whole (drop a.at a.s.now) a.at _ _ _ e (accepted _ (sym c.spelled_length-spelling.ensures ∙ c.in-Length.is)))
+    sym (word_whole (drop a.at a.s.now) a.at _ _ _ (sym c.in_ok-n.ensures) (accepted _ (sym c.spelled_length.ensures ∙ c.in-Some.is)))
 
-pub returns-in-ZeroDigit : goal.returns-in-ZeroDigit
-returns-in-ZeroDigit c =
+pub returns-in-None : goal.returns-in-None
+returns-in-None c =
     let a = c.args in
-    let e = sym c.le_u64-word.ensures ∙ ap (num_of64 a.s.now) c.in-Got64.is in
-    rw c.refused.ensures (sym (word_not (drop a.at a.s.now) a.at _ _ _ e (not_accepted _ (sym c.spelled_length-spelling.ensures ∙ c.in-ZeroDigit.is))))
+    rw c.refused.ensures (sym (word_not (drop a.at a.s.now) a.at _ _ _ (sym c.in_ok-n.ensures) (not_accepted _ (sym c.spelled_length.ensures ∙ c.in-None.is))))

@@ -1,30 +1,24 @@
-use mathlib.Core.Path.{refl, sym, ◌∙◌}
-use Rattle.bsii_text_length.proofs.StringLaws.{inside, before, past}
-use Rattle.bsii_write.proofs.RunLaws.{run_more, run_stops, run_ends}
-use native.Mathlib.Omega.{arith}
-use borrow.Author.Rules.{rules}
+-- The first byte that is not raw is where `position` finds it among the bytes from the start on, or their end.
+use Prim.Native.Nat.{ℕ, ◌+◌, ◌-◌}
+use mathlib.Core.Path.{◌≡◌, ap, ◌∙◌}
+use lib.ListN.{length, take, drop}
+use Rattle.std.proofs.Common.{rules, tests}
+use Rattle.std.specs.Prelude.{not}
+use Rattle.std.proofs.lemmas.Iterator.{YieldsList-from_slice}
+use Rattle.std.proofs.lemmas.Iterator.Search.{position_from_yields_List}
+use Rattle.bsii_format.specs.Utf8.{◌to◌, within}
+use Rattle.bsii_window.proofs.Laws.{rest}
+use Rattle.bsii_write.specs.Runs.{run_end}
+use Rattle.bsii_write.proofs.RunLaws.{run_found}
 use Rattle.bsii_write.proofs.strings.run_end.Goals as goal
 
-pub loop-i-init : goal.loop-i-init
-loop-i-init c = (search rules, refl)
-
-pub returns-then-bytes-i-lt32 : goal.returns-then-bytes-i-lt32
-returns-then-bytes-i-lt32 c =
+found : (c : goal.After-unwrap_or) → c.args.start + c.unwrap_or.result ≡ run_end c.args.bytes.now c.args.start
+found c =
     let s = c.args.bytes.now in
-    let i = c.loop-i.i in
-    sym (run_stops s i (omega arith) (before 32 127 _ c.if-bytes-i-lt32.true)) ∙ c.loop-i.invariant.1
-
-pub returns-then-bytes-i-gt127 : goal.returns-then-bytes-i-gt127
-returns-then-bytes-i-gt127 c =
-    let s = c.args.bytes.now in
-    let i = c.loop-i.i in
-    sym (run_stops s i (omega arith) (past 32 127 _ c.if-bytes-i-gt127.true)) ∙ c.loop-i.invariant.1
-
-pub loop-i-preserved : goal.loop-i-preserved
-loop-i-preserved c =
-    let s = c.args.bytes.now in
-    let i = c.loop-i.i in
-    (omega arith, sym (run_more s i (omega arith) (inside 32 127 _ c.if-bytes-i-lt32.false c.if-bytes-i-gt127.false)) ∙ c.loop-i.invariant.1)
+    let i = c.args.start in
+    let p = position_from_yields_List (λ (y : ℕ). not (within (32 to 127) y)) _ _ c.position.result c.position.ensures.ran
+    (YieldsList-from_slice (drop i s) (c.iter.ensures.rest ∙ rest i s)) (λ x b q k. search (rules, tests)) in
+    ap (λ (m : ℕ). i + m) c.unwrap_or.ensures ∙ run_found s i c.position.result (length (take (length s - i) (drop i s))) (ap length (rest i s)) p
 
 pub returns : goal.returns
-returns c = sym (run_ends c.args.bytes.now c.loop-i.i c.loop-i-test.false) ∙ c.loop-i.invariant.1
+returns c = found c

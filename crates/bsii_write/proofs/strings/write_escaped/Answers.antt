@@ -1,4 +1,4 @@
-use Rattle.bsii_window.proofs.Loops.{begin, turn, end, kept}
+use Rattle.bsii_window.proofs.Loops.{begin, turn, end}
 use Rattle.bsii_text_length.proofs.StringLaws.{escaped_none}
 use Rattle.bsii_write.proofs.RunLaws.{run_after, run_inside, run_then}
 use native.Mathlib.Omega.{arith}
@@ -33,9 +33,6 @@ loop-i-preserved c =
     let loop = c.loop-i in
     let run_end = c.run_end-end in
     turn loop.invariant c.write_run-to.ensures (run_then a.bytes.now loop.i run_end.result run_end.ensures)
-
-pub shape_of-out : goal.shape_of-out
-shape_of-out c = kept c.loop-i.invariant
 
 pub returns : goal.returns
 returns c = end c.loop-i.invariant (escaped_none c.args.bytes.now c.loop-i.i c.loop-i-test.false)

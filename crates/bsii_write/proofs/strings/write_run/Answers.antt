@@ -7,14 +7,12 @@ use Rattle.bsii_write.specs.Runs.{escape}
 use Rattle.bsii_write.proofs.RunLaws.{run_escape, run_last}
 use Rattle.bsii_write.proofs.strings.write_run.Goals as goal
 
-pub overflow_cast-bytes : goal.overflow_cast-bytes
-overflow_cast-bytes c = omega (arith, c.type_inv.bytes c.args.end)
-
 pub returns-then-end-bytes : goal.returns-then-end-bytes
 unfolding escape
 returns-then-end-bytes c =
     let a = c.args in
-    being (sym (run_escape a.bytes.now a.start a.end (omega arith))) (then c.put_all-next.ensures (then c.put_all-digits.ensures c.write_hex_padded.ensures))
+    let e = run_escape a.bytes.now a.start a.end (omega arith) in
+    being (sym (rw (← c.from.ensures) at e)) (then c.put_all-next.ensures (then c.put_all-digits.ensures c.write_hex_padded.ensures))
 
 pub returns : goal.returns
 returns c =

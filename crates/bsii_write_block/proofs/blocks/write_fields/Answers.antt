@@ -1,24 +1,19 @@
 use mathlib.Core.Path.{refl, ◌∙◌}
-use native.Mathlib.Omega.{arith}
 use Rattle.bsii_format.specs.Text.{value_text}
+use Rattle.bsii_string.proofs.Passed.{passed_on}
 use Rattle.bsii_write_block.proofs.FieldLaws.{turned_by}
 use Rattle.bsii_write_block.proofs.blocks.write_fields.Goals as goal
 
-pub loop-f-init : goal.loop-f-init
-loop-f-init c = (λ r new h. h, refl)
+pub loop-next-init : goal.loop-next-init
+loop-next-init c = (λ r new h. h, refl)
 
-pub returns-in-End : goal.returns-in-End
-returns-in-End c = c.loop-f.invariant.0 _ _ (turned_by value_text c.args.version c.args.s.now c.loop-f.p c.loop-f.out _ c.in-End.is c.write_next-turn.ensures)
+pub returns-in_err-next : goal.returns-in_err-next
+returns-in_err-next c = rw (passed_on c.from_residual.ensures.1) (c.loop-next.invariant.0 _ _ c.in_err-next.ensures)
 
-pub returns-in-Refused : goal.returns-in-Refused
-returns-in-Refused c = c.loop-f.invariant.0 _ _ (turned_by value_text c.args.version c.args.s.now c.loop-f.p c.loop-f.out _ c.in-Refused.is c.write_next-turn.ensures)
+pub loop-next-preserved : goal.loop-next-preserved
+loop-next-preserved c =
+    let t = turned_by value_text c.args.version c.args.s.now c.loop-next.p c.loop-next.out _ c.in-Some.is c.in_ok-next.ensures in
+    (λ r new h. c.loop-next.invariant.0 r new (t.3 r new h), t.2 ∙ c.loop-next.invariant.1)
 
-pub loop-f-smaller : goal.loop-f-smaller
-loop-f-smaller c =
-    let t = turned_by value_text c.args.version c.args.s.now c.loop-f.p c.loop-f.out _ c.in-Go.is c.write_next-turn.ensures in
-    omega (arith, t.0, t.1)
-
-pub loop-f-preserved : goal.loop-f-preserved
-loop-f-preserved c =
-    let t = turned_by value_text c.args.version c.args.s.now c.loop-f.p c.loop-f.out _ c.in-Go.is c.write_next-turn.ensures in
-    (λ r new h. c.loop-f.invariant.0 r new (t.3 r new h), t.2 ∙ c.loop-f.invariant.1)
+pub returns : goal.returns
+returns c = c.loop-next.invariant.0 _ _ (turned_by value_text c.args.version c.args.s.now c.loop-next.p c.loop-next.out _ c.in_default.is c.in_ok-next.ensures)

@@ -9,7 +9,6 @@ use Rattle.bsii_window.proofs.Stores.{stored_inside}
 use Rattle.bsii_window.proofs.Laws.{same, past_by, starts}
 use Rattle.bsii_write_id.proofs.IdLaws.{most_bytes}
 use Rattle.bsii_write_word.proofs.WordLaws.{put_stored}
-use borrow.Author.Rules.{rules}
 use Rattle.bsii_write_id.proofs.ids.write_id.Goals as goal
 
 pub returns-then-raw-gt2033 : goal.returns-then-raw-gt2033
@@ -27,7 +26,7 @@ returns-in-Across c =
     record { writes = λ i h. put_stored (f.ensures.stores i h) (omega (arith, f.ensures.most)) c.put_all.ensures; size = same c.put_all.ensures }
 
 pub store_id-end-requires-in-Inside : goal.store_id-end-requires-in-Inside
-store_id-end-requires-in-Inside c = record { raw_in_bounds = omega (arith, (starts (29 + 2 * length c.args.raw.now) c.in-Inside.is c.overlap_of-place.ensures).1); char_pairs = search rules }
+store_id-end-requires-in-Inside c = omega (arith, (starts (29 + 2 * length c.args.raw.now) c.in-Inside.is c.overlap_of-place.ensures).1)
 
 pub overflow_add-result : goal.overflow_add-result
 overflow_add-result c =

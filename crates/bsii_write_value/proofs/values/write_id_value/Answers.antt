@@ -1,28 +1,9 @@
 -- An accepted id ends where skip_id does, so that the bytes up to there are its own, and the line is theirs.
-use mathlib.Core.Path.{sym, ◌∙◌}
-use native.Mathlib.Omega.{arith}
-use Rattle.bsii_format.specs.Types.{id}
-use Rattle.bsii_skip.specs.Unchecked.{unchecked_element}
-use Rattle.bsii_field.proofs.Bounds.{element_moves}
-use Rattle.bsii_write_value.proofs.LineLaws.{line_refused, own_line}
+use Rattle.bsii_write_value.proofs.LineLaws.{id_refused, id_own}
 use Rattle.bsii_write_value.proofs.values.write_id_value.Goals as goal
 
-pub returns-in-Fault : goal.returns-in-Fault
-unfolding unchecked_element
-returns-in-Fault c = let a = c.args in line_refused (λ x. x) a.s.now a.at id a.d (sym c.in-Fault.is ∙ c.skip_id-end.ensures)
+pub returns-in_default : goal.returns-in_default
+returns-in_default g c = let a = c.args in id_refused (g.L.Label.of a.label) a.s.now a.at a.d c.in_default.ensures
 
-pub slice_bounds-id_line-count-in-Next : goal.slice_bounds-id_line-count-in-Next
-unfolding unchecked_element
-slice_bounds-id_line-count-in-Next c = let a = c.args in omega (arith, element_moves id a.s.now a.at (sym c.in-Next.is ∙ c.skip_id-end.ensures))
-
-pub slice_bounds-id_line-start-in-Next : goal.slice_bounds-id_line-start-in-Next
-unfolding unchecked_element
-slice_bounds-id_line-start-in-Next c = let a = c.args in omega (arith, element_moves id a.s.now a.at (sym c.in-Next.is ∙ c.skip_id-end.ensures))
-
-pub slice_bounds-id_line-end-in-Next : goal.slice_bounds-id_line-end-in-Next
-unfolding unchecked_element
-slice_bounds-id_line-end-in-Next c = let a = c.args in omega (arith, element_moves id a.s.now a.at (sym c.in-Next.is ∙ c.skip_id-end.ensures))
-
-pub returns-in-Next : goal.returns-in-Next
-unfolding unchecked_element
-returns-in-Next c = let a = c.args in own_line (λ x. x) a.s.now a.at id a.d tt (sym c.in-Next.is ∙ c.skip_id-end.ensures) c.id_line.ensures
+pub returns : goal.returns
+returns g c = let a = c.args in id_own (g.L.Label.of a.label) a.s.now a.at a.d c.in-Ok.ensures c.id_line.ensures

@@ -1,33 +1,13 @@
 -- An accepted value that is numbers ends where numeric_end does, so that the bytes up to there are its own, and the line is theirs; an enum's is write_enum's.
-use mathlib.Core.Path.{sym, ap, ◌∙◌}
-use native.Mathlib.Omega.{arith}
-use lib.ListN.{drop}
-use Rattle.bsii_format.specs.Types.{numbers}
 use Rattle.bsii_value.specs.Kinds.{numeric_is}
 use Rattle.bsii_value.proofs.ElementTexts.{other}
-use Rattle.bsii_skip.proofs.Skips.{numbers_same}
-use Rattle.bsii_field.proofs.Bounds.{element_moves}
-use Rattle.bsii_write_value.proofs.LineLaws.{kind_by, line_refused, own_line}
+use Rattle.bsii_write_value.proofs.LineLaws.{numeric_refused, numeric_own}
 use Rattle.bsii_write_value.proofs.values.write_number.Goals as goal
 
-pub returns-in-Enum : goal.returns-in-Enum
-returns-in-Enum c = kind_by (ap (λ n. numbers (numeric_is n)) (sym c.in-Enum.is)) c.write_enum.ensures
+pub returns-in_default-numeric_end : goal.returns-in_default-numeric_end
+returns-in_default-numeric_end g c = let a = c.args in numeric_refused (g.L.Label.of a.label) a.s.now a.at a.d (numeric_is a.n) c.in_default-numeric_end.ensures
 
-pub returns-in-Fault : goal.returns-in-Fault
-returns-in-Fault c =
+pub returns : goal.returns
+returns g c =
     let a = c.args in
-    line_refused (λ x. x) a.s.now a.at (numbers (numeric_is a.n)) a.d (sym c.in-Fault.is ∙ c.numeric_end-end.ensures ∙ numbers_same (numeric_is a.n) a.at (drop a.at a.s.now))
-
-pub slice_bounds-number_line-count-in-Next : goal.slice_bounds-number_line-count-in-Next
-slice_bounds-number_line-count-in-Next c = let a = c.args in omega (arith, element_moves (numbers (numeric_is a.n)) a.s.now a.at (sym c.in-Next.is ∙ c.numeric_end-end.ensures ∙ numbers_same (numeric_is a.n) a.at (drop a.at a.s.now)))
-
-pub slice_bounds-number_line-start-in-Next : goal.slice_bounds-number_line-start-in-Next
-slice_bounds-number_line-start-in-Next c = let a = c.args in omega (arith, element_moves (numbers (numeric_is a.n)) a.s.now a.at (sym c.in-Next.is ∙ c.numeric_end-end.ensures ∙ numbers_same (numeric_is a.n) a.at (drop a.at a.s.now)))
-
-pub slice_bounds-number_line-end-in-Next : goal.slice_bounds-number_line-end-in-Next
-slice_bounds-number_line-end-in-Next c = let a = c.args in omega (arith, element_moves (numbers (numeric_is a.n)) a.s.now a.at (sym c.in-Next.is ∙ c.numeric_end-end.ensures ∙ numbers_same (numeric_is a.n) a.at (drop a.at a.s.now)))
-
-pub returns-in-Next : goal.returns-in-Next
-returns-in-Next c =
-    let a = c.args in
-    own_line (λ x. x) a.s.now a.at (numbers (numeric_is a.n)) a.d (other a.n c.in_default.not-Enum) (sym c.in-Next.is ∙ c.numeric_end-end.ensures ∙ numbers_same (numeric_is a.n) a.at (drop a.at a.s.now)) c.number_line.ensures
+    numeric_own (g.L.Label.of a.label) a.s.now a.at a.d (numeric_is a.n) (other a.n c.in_default.not-Enum) c.in-Ok.ensures c.number_line.ensures

@@ -1,23 +1,9 @@
 -- An accepted string ends where skip_str does, and its bytes stand behind their length.
-use mathlib.Core.Path.{sym, ◌∙◌}
-use native.Mathlib.Omega.{arith}
-use Rattle.bsii_write_value.proofs.ValueLaws.{string_room, string_short, string_line}
+use Rattle.bsii_write_value.proofs.ValueLaws.{string_short, string_line}
 use Rattle.bsii_write_value.proofs.values.write_string_value.Goals as goal
 
-pub returns-in-Fault : goal.returns-in-Fault
-returns-in-Fault c = let a = c.args in string_short (λ x. x) a.s.now a.at a.d (sym c.in-Fault.is ∙ c.skip_str-end.ensures)
+pub returns-in_default : goal.returns-in_default
+returns-in_default g c = let a = c.args in string_short (g.L.Label.of a.label) a.s.now a.at a.d c.in_default.ensures
 
-pub overflow_add-at : goal.overflow_add-at
-overflow_add-at c = let a = c.args in omega (arith, string_room a.s.now a.at (sym c.in-Next.is ∙ c.skip_str-end.ensures))
-
-pub slice_bounds-text_line-count-in-Next : goal.slice_bounds-text_line-count-in-Next
-slice_bounds-text_line-count-in-Next c = let a = c.args in omega (arith, string_room a.s.now a.at (sym c.in-Next.is ∙ c.skip_str-end.ensures))
-
-pub slice_bounds-text_line-start-in-Next : goal.slice_bounds-text_line-start-in-Next
-slice_bounds-text_line-start-in-Next c = let a = c.args in omega (arith, string_room a.s.now a.at (sym c.in-Next.is ∙ c.skip_str-end.ensures))
-
-pub slice_bounds-text_line-end-in-Next : goal.slice_bounds-text_line-end-in-Next
-slice_bounds-text_line-end-in-Next c = let a = c.args in omega (arith, string_room a.s.now a.at (sym c.in-Next.is ∙ c.skip_str-end.ensures))
-
-pub returns-in-Next : goal.returns-in-Next
-returns-in-Next c = let a = c.args in string_line (λ x. x) a.s.now a.at a.d (sym c.in-Next.is ∙ c.skip_str-end.ensures) c.text_line.ensures
+pub returns : goal.returns
+returns g c = let a = c.args in string_line (g.L.Label.of a.label) a.s.now a.at a.d c.in-Ok.ensures c.text_line.ensures

@@ -1,13 +1,11 @@
 -- An accepted word is a number's low 63 bits, and the line is theirs.
-use mathlib.Core.Path.{sym, ap, ◌∙◌}
 use Rattle.bsii_format.specs.Strings.{low63}
-use Rattle.bsii_string.specs.Answers.{num_of64}
 use Rattle.bsii_write_value.proofs.ValueLaws.{word_short, word_line}
 use Rattle.bsii_write_value.proofs.values.write_word.Goals as goal
 
-pub returns-in-Short64 : goal.returns-in-Short64
-returns-in-Short64 c = let a = c.args in word_short (λ x. x) a.s.now a.at a.d (sym c.le_u64-number.ensures ∙ ap (num_of64 a.s.now) c.in-Short64.is)
+pub returns-in_default : goal.returns-in_default
+returns-in_default g c = let a = c.args in word_short (g.L.Label.of a.label) a.s.now a.at a.d c.in_default.ensures
 
-pub returns-in-Got64 : goal.returns-in-Got64
+pub returns : goal.returns
 unfolding low63
-returns-in-Got64 c = let a = c.args in word_line (λ x. x) a.s.now a.at a.d (sym c.le_u64-number.ensures ∙ ap (num_of64 a.s.now) c.in-Got64.is) c.word_line.ensures
+returns g c = let a = c.args in word_line (g.L.Label.of a.label) a.s.now a.at a.d c.in-Ok.ensures c.word_line.ensures

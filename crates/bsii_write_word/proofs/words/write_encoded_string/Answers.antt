@@ -6,7 +6,6 @@ use lib.Seq.{length-take-le}
 use Rattle.bsii_window.proofs.Stores.{stored_inside}
 use Rattle.bsii_window.proofs.Laws.{past_by, starts}
 use Rattle.bsii_write_word.proofs.WordLaws.{put_stored}
-use borrow.Author.Rules.{rules}
 use Rattle.bsii_write_word.proofs.words.write_encoded_string.Goals as goal
 
 pub returns-in-Past : goal.returns-in-Past
@@ -19,7 +18,7 @@ pub returns-in-Across : goal.returns-in-Across
 returns-in-Across c = let f = c.store_encoded-end in put_stored f.ensures.0 f.ensures.1 c.put_all.ensures
 
 pub store_encoded-end-requires-in-Inside : goal.store_encoded-end-requires-in-Inside
-store_encoded-end-requires-in-Inside c = record { to_in_bounds = (starts 13 c.in-Inside.is c.overlap_of-place.ensures).1; char_pairs = search rules }
+store_encoded-end-requires-in-Inside c = (starts 13 c.in-Inside.is c.overlap_of-place.ensures).1
 
 pub overflow_add-result : goal.overflow_add-result
 overflow_add-result c = omega (arith, c.store_encoded-end-in-Inside.ensures.1, (starts 13 c.in-Inside.is c.overlap_of-place.ensures).1)

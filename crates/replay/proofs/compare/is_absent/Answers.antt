@@ -1,9 +1,7 @@
-use mathlib.Core.Path.{ap}
+use mathlib.Core.Path.{sym, ap, ◌∙◌}
+use Rattle.bsii_format.proofs.Causes.{same_not}
 use Rattle.replay.specs.Agree.{is_absent}
 use Rattle.replay.proofs.compare.is_absent.Goals as goal
 
-pub returns-in-Number : goal.returns-in-Number
-returns-in-Number c = ap is_absent c.in-Number.ensures.reply
-
-pub returns-in-Refused : goal.returns-in-Refused
-returns-in-Refused c = ap is_absent c.in-Refused.ensures.reply
+pub returns-in-Ok : goal.returns-in-Ok
+returns-in-Ok c = ap is_absent c.in-Ok.ensures.reply

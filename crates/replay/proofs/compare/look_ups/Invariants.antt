@@ -1,4 +1,4 @@
--- The loop ends, since a look_up goes on behind where it started (`Later`), so less of the record is left; the invariant is that the table keeps its length.
+-- The loop ends, since a look_up goes on behind where it started, so less of the record is left; the invariant is that the table keeps its length.
 use Prim.Native.Nat.{◌-◌}
 use mathlib.Core.Path.{◌≡◌}
 use lib.ListN.{length}

@@ -5,8 +5,8 @@ use lib.Dec.{eqb}
 use Rattle.replay.specs.Agree.{same_reading}
 use Rattle.replay.proofs.compare.same_reading.Goals as goal
 
-pub returns-in-Refused : goal.returns-in-Refused
-returns-in-Refused c = let a = c.args in ap (λ (n : ℕ). eqb n a.reply) c.rust_number.ensures ∙ ap (same_reading a.reply a.prototypes a.blocks) c.in-Refused.ensures.reply
+pub returns-in-Err : goal.returns-in-Err
+returns-in-Err c = let a = c.args in ap (λ (n : ℕ). eqb n a.reply) c.rust_number.ensures ∙ ap (same_reading a.reply a.prototypes a.blocks) c.in-Err.ensures.reply
 
-pub returns-in-Read : goal.returns-in-Read
-returns-in-Read c = let a = c.args in c.same_counts.ensures ∙ ap (same_reading a.reply a.prototypes a.blocks) c.in-Read.ensures.reply
+pub returns-in-Ok : goal.returns-in-Ok
+returns-in-Ok c = let a = c.args in c.same_counts.ensures ∙ ap (same_reading a.reply a.prototypes a.blocks) c.in-Ok.ensures.reply

@@ -12,10 +12,10 @@ use Rattle.sii_decode.proofs.printed.print_into.Goals as goal
 pub returns-then-input-gt65536 : goal.returns-then-input-gt65536
 returns-then-input-gt65536 c = subst (Starts _ _) (ap (λ (f : Refusal). printed (refuses (fault_is f))) c.refused.ensures ∙ sym (longer c.args.input.now c.if-input-gt65536.true)) c.print_refusal.ensures
 
-pub returns-in-Text : goal.returns-in-Text
-returns-in-Text c = call_answers c.args.input.now c.args.output.now c.if-input-gt65536.false c.requires.0 c.requires.1 c.in-Text.ensures.reply
+pub returns-in-Ok : goal.returns-in-Ok
+returns-in-Ok c = call_answers c.args.input.now c.args.output.now c.if-input-gt65536.false c.requires.0 c.requires.1 c.in-Ok.ensures.reply
 
-pub returns-in-Refused : goal.returns-in-Refused
-returns-in-Refused c =
-    let e = call_answers c.args.input.now c.args.output.now c.if-input-gt65536.false c.requires.0 c.requires.1 c.in-Refused.ensures.reply in
-    subst (Starts _ _) (sym e) c.print_refusal-in-Refused.ensures
+pub returns-in-Err : goal.returns-in-Err
+returns-in-Err c =
+    let e = call_answers c.args.input.now c.args.output.now c.if-input-gt65536.false c.requires.0 c.requires.1 c.in-Err.ensures.reply in
+    subst (Starts _ _) (sym e) c.print_refusal-in-Err.ensures

@@ -1,5 +1,0 @@
-use Rattle.bsii_base38.proofs.Rule.{low_marked}
-use Rattle.bsii_base38.proofs.low_zero.Goals as goal
-
-pub returns : goal.returns
-returns c = rw c.pair_at.ensures (low_marked c.args.r c.requires.1)

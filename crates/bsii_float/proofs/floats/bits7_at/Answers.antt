@@ -1,4 +1,0 @@
-use Rattle.bsii_float.proofs.floats.bits7_at.Goals as goal
-
-pub returns : goal.returns
-returns c = cc

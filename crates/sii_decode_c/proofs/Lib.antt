@@ -1,3 +1,0 @@
--- The laws that the proofs share.
-pub mod Signed
-pub mod Words
