@@ -26,6 +26,7 @@ fn field_found(s: &[u8], version: u32, b: Block, name: &[u8]) -> Option<Value>
     value_at(s, version, fields, start, index)
 }
 
+// A `From<Value>` could not require that the value's end is behind its start, so the field is written out here and in bsii_index_field.
 fn placed(s: &[u8], version: u32, b: Block, name: &[u8]) -> Result<Field, Refusal>
     ensures { FieldPlaced version s.now b name.now result }
 {

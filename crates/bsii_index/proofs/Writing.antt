@@ -32,7 +32,7 @@ use Rattle.bsii_index_record.specs.Records.{Width, record_is}
 use Rattle.bsii_index_record.specs.declared.IndexRecord.{IndexRecord}
 use Rattle.bsii_index.specs.Answers.{length_is}
 use Rattle.bsii_index.specs.Indexes.{Writable, RecordsWritten, Readable, ReadWritten}
-use Rattle.bsii_index.specs.declared.write.LengthRefusal.{LengthRefusal}
+use Rattle.bsii_string.specs.declared.answers.Unwritten.{Unwritten}
 use Rattle.std.specs.Prelude.{Ok, Err, Result as Outcome}
 use Rattle.bsii_index.proofs.Counting.{blocks_indexed, blocks_limited}
 
@@ -200,7 +200,7 @@ module _ {s t : List ℕ} where
   pub tree_readable : {w : ℕ} → Width w → {a : Totals} {t' : List ℕ} → ReadTree s t (Ok a) t' → Readable a.version s t' w a.blocks
   tree_readable h r = readable_of h r refl
 
-  written_of : {r : Outcome Totals Refusal} {t' : List ℕ} → ReadTree s t r t' → {a : Totals} → r ≡ Ok a → {w : ℕ} {space t'' space' : List ℕ} {k : Outcome ℕ LengthRefusal}
+  written_of : {r : Outcome Totals Refusal} {t' : List ℕ} → ReadTree s t r t' → {a : Totals} → r ≡ Ok a → {w : ℕ} {space t'' space' : List ℕ} {k : Outcome ℕ Unwritten}
       → ReadWritten a.version s t' space w k t'' space' → length_is k space' ≡ write_index_call w (length t) s space
   unfolding write_index_call of_file
   written_of {t' = t'} (read f {rows = rows} {n = n} e k l) {a} z {w} {space} y =
@@ -210,7 +210,7 @@ module _ {s t : List ℕ} where
       ∙ ap (λ i. write_answer length space (gives (index_bytes w i))) (sym (index_at_law (length t) s e)) ∙ rw e refl
   written_of (unread e l) z y = cc
 
-  pub tree_written : {a : Totals} {t' : List ℕ} → ReadTree s t (Ok a) t' → {w : ℕ} {space t'' space' : List ℕ} {k : Outcome ℕ LengthRefusal}
+  pub tree_written : {a : Totals} {t' : List ℕ} → ReadTree s t (Ok a) t' → {w : ℕ} {space t'' space' : List ℕ} {k : Outcome ℕ Unwritten}
       → ReadWritten a.version s t' space w k t'' space' → length_is k space' ≡ write_index_call w (length t) s space
   tree_written r y = written_of r refl y
 

@@ -11,7 +11,7 @@ use Rattle.bsii_parse.specs.Walks.{records_at, index_at}
 use Rattle.bsii_index_record.specs.Records.{Width}
 use Rattle.bsii_index.specs.Answers.{checked_is, length_is}
 use Rattle.bsii_string.specs.declared.answers.Refusal.{Refusal}
-use Rattle.bsii_index.specs.declared.write.LengthRefusal.{LengthRefusal}
+use Rattle.bsii_string.specs.declared.answers.Unwritten.{Unwritten}
 
 -- ---- check
 
@@ -48,7 +48,7 @@ pub record Readable (version : ℕ) (s t : List ℕ) (w blocks : ℕ) : Type 0 w
   pub counted : blocks ≡ length (index_at 8 records.records)
   pub few : blocks ≤ length_limit
 
-pub record ReadWritten (version : ℕ) (s t space : List ℕ) (w : ℕ) (r : Outcome ℕ LengthRefusal) (t' space' : List ℕ) : Type 0 where
+pub record ReadWritten (version : ℕ) (s t space : List ℕ) (w : ℕ) (r : Outcome ℕ Unwritten) (t' space' : List ℕ) : Type 0 where
   pub answers : (q : Records) (n : ℕ) → records_at version (length t / 3) [] 8 s ≡ ok q n (drop n s)
       → length_is r space' ≡ write_answer length space (gives (index_bytes w (index_at 8 q.records)))
   pub size : length t' ≡ length t

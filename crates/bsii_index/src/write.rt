@@ -12,23 +12,8 @@ use bsii_index_record::{WIDTH, put_record};
 use bsii_parse::parts::Known;
 use bsii_parse::reading::tree_parser;
 use bsii_parse::walk::{Progress, ReadStep, entry_of, record_step};
-use bsii_string::answers::{Refusal, refused};
+use bsii_string::answers::{Unwritten, refused};
 use bsii_table::clear;
-
-// A refusal, with the needed length where it is that of a short space, else 0.
-#[derive(Drop)]
-pub struct LengthRefusal {
-    pub refusal: Refusal,
-    pub needed: usize,
-}
-
-impl From<Refusal> for LengthRefusal {
-    ghost from_gives = { λ f r. r ≡ record { refusal = f; needed = 0 } };
-
-    fn from(refusal: Refusal) -> LengthRefusal {
-        LengthRefusal { refusal, needed: 0 }
-    }
-}
 
 // The records of an accepted file from `start` on, with an empty table and room for all.
 fn write_records(
@@ -77,13 +62,13 @@ fn write_read(
     space: &mut [u8],
     width: usize,
     blocks: usize,
-) -> Result<usize, LengthRefusal>
+) -> Result<usize, Unwritten>
     requires { Readable version file.now table.old width blocks }
     ensures { ReadWritten version file.now table.old space.old width result table.new space.new }
 {
     let length = blocks * (4 * width);
     if space.len() < length {
-        return Err(LengthRefusal {
+        return Err(Unwritten {
             refusal: refused(Cause::OutputShort, 0),
             needed: length,
         });
@@ -93,12 +78,7 @@ fn write_read(
 }
 
 // The answer, with the table as it was left by the walks.
-fn write(
-    file: &[u8],
-    table: &mut [u32],
-    space: &mut [u8],
-    width: usize,
-) -> Result<usize, LengthRefusal>
+fn write(file: &[u8], table: &mut [u32], space: &mut [u8], width: usize) -> Result<usize, Unwritten>
     requires { Width width }
     ensures { length_is result space.new ≡ write_index_call width (length table.old) file.now space.old }
 {
@@ -106,7 +86,7 @@ fn write(
     write_read(file, totals.version, table, space, width, totals.blocks)
 }
 
-pub fn write_index(file: &[u8], table: &mut [u32], space: &mut [u8]) -> Result<usize, LengthRefusal>
+pub fn write_index(file: &[u8], table: &mut [u32], space: &mut [u8]) -> Result<usize, Unwritten>
     ensures reply { length_is result space.new ≡ write_index_call index_width (length table.old) file.now space.old }
     ensures zeros { table.new ≡ table_after table.old }
 {

@@ -26,6 +26,7 @@ pub struct Tally {
 }
 
 // A record was passed, or the records end.
+// An enum and no closures, as ReadStep.
 #[derive(Clone, Copy)]
 pub enum SumStep {
     Go(Progress, Tally),

@@ -30,7 +30,7 @@ use Rattle.bsii_forecast.specs.declared.answers.Figures.{Figures}
 use Rattle.bsii_forecast.proofs.ForeseeLaws.{file_framed}
 use Rattle.bsii_output.specs.Answers.{text_is, TextWritten}
 use Rattle.bsii_output.specs.declared.text.Converted.{Converted}
-use Rattle.bsii_output.specs.declared.text.TextRefusal.{TextRefusal}
+use Rattle.bsii_string.specs.declared.answers.Unwritten.{Unwritten}
 
 -- a window that has room for the whole text
 whole : (old x : List ℕ) {r : ℕ} {new : List ℕ} → length x ≤ length old → Wrote old 0x8000_0000_0000_0000 x r new → new ≡ x ++ drop (length x) old
@@ -49,7 +49,7 @@ module _ (text : ValuePrototype → Value → Option (List ℕ)) (prints : DataB
     }
 
     -- what has a text is not refused
-    pub text_unrefused : {f : Refusal} {t' new : List ℕ} → BsiiWritten text prints a.version s 8 t a.rows old (Err f) t' new → {r : Outcome Converted TextRefusal} → TextWritten text prints a s t old r new
+    pub text_unrefused : {f : Refusal} {t' new : List ℕ} → BsiiWritten text prints a.version s 8 t a.rows old (Err f) t' new → {r : Outcome Converted Unwritten} → TextWritten text prints a s t old r new
     text_unrefused {f} {t'} {new} b = record {
       answers = λ rooms last rest w x q z. absurd (subst (λ (o : Reply (List ℕ)). TextsAre old 0x8000_0000_0000_0000 o (Err f) new) q (b.writes rooms last rest w).0);
     }
@@ -75,7 +75,7 @@ foreseen_readable {s} {t} {t' = t'} (foreseen f x e h w l) =
     let p = file_parts (length t) s e in
     record { short = p.short; inside = p.inside; rooms = length t / 3; last = prototypes_of f.records; rest = f.records; standing = w }
 
-pub call_written : {s t : List ℕ} {a : Figures} {t' : List ℕ} → Foresees s t (Ok a) t' → {out : List ℕ} {reply : Outcome Converted TextRefusal} {new : List ℕ}
+pub call_written : {s t : List ℕ} {a : Figures} {t' : List ℕ} → Foresees s t (Ok a) t' → {out : List ℕ} {reply : Outcome Converted Unwritten} {new : List ℕ}
     → TextWritten value_text every_block a s t' out reply new → text_is reply new ≡ text_call (length t) s out
 unfolding text_call text_of of_file steps_in
 call_written {s} {t} {t' = t'} (foreseen f x e h w l) v =

@@ -12,10 +12,10 @@ use Rattle.bsii_walk.specs.Seek.{WalkAt}
 use Rattle.bsii_forecast.specs.Lengths.{framed_text}
 use Rattle.bsii_forecast.specs.declared.answers.Figures.{Figures}
 use Rattle.bsii_output.specs.declared.text.Converted.{Converted}
-use Rattle.bsii_output.specs.declared.text.TextRefusal.{TextRefusal}
+use Rattle.bsii_string.specs.declared.answers.Unwritten.{Unwritten}
 
 -- with the output after the call
-abbrev pub text_is : Outcome Converted TextRefusal → List ℕ → TextAnswer
+abbrev pub text_is : Outcome Converted Unwritten → List ℕ → TextAnswer
 text_is (Ok a) output = record { reply = gives (record { size = a.length; steps = a.steps }); needed = 0; output = output }
 text_is (Err r) output = record { reply = refuses (fault_is r.refusal); needed = r.needed; output = output }
 
@@ -23,6 +23,6 @@ text_is (Err r) output = record { reply = refuses (fault_is r.refusal); needed =
 -- `every_block` in the text call.
 module _ (text : ValuePrototype → Value → Option (List ℕ)) (prints : DataBlock → List Record → Bool) where
   -- a text x whose length is foreseen, and the foreseen steps
-  pub record TextWritten (a : Figures) (s t old : List ℕ) (r : Outcome Converted TextRefusal) (new : List ℕ) : Type 0 where
+  pub record TextWritten (a : Figures) (s t old : List ℕ) (r : Outcome Converted Unwritten) (new : List ℕ) : Type 0 where
     pub answers : (rooms : ℕ) (last : List Prototype) (rest : List Record) → WalkAt a.version s rooms a.rows last t 8 [] rest → (x : List ℕ)
         → framed_text text prints last rest ≡ gives x → a.text ≡ length x → text_is r new ≡ text_answer a.steps old (gives x)

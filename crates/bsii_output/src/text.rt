@@ -9,7 +9,7 @@ ghost use Rattle.bsii_output.specs.Answers.{text_is, TextWritten};
 use bsii_forecast::answers::Figures;
 use bsii_forecast::forecast::foresee;
 use bsii_format::Cause;
-use bsii_string::answers::{Refusal, refused};
+use bsii_string::answers::{Unwritten, refused};
 use bsii_table::clear;
 use bsii_text::records::write_bsii;
 
@@ -20,33 +20,18 @@ pub struct Converted {
     pub steps: usize,
 }
 
-// A refusal, with the needed length where the output is too short, else 0.
-#[derive(Drop)]
-pub struct TextRefusal {
-    pub refusal: Refusal,
-    pub needed: usize,
-}
-
-impl From<Refusal> for TextRefusal {
-    ghost from_gives = { λ f r. r ≡ record { refusal = f; needed = 0 } };
-
-    fn from(refusal: Refusal) -> TextRefusal {
-        TextRefusal { refusal, needed: 0 }
-    }
-}
-
 // The text of a file with these figures.
 fn write_foreseen(
     file: &[u8],
     table: &mut [u32],
     output: &mut [u8],
     figures: Figures,
-) -> Result<Converted, TextRefusal>
+) -> Result<Converted, Unwritten>
     requires { Readable figures.version file.now 8 table.old figures.rows }
     ensures { TextWritten value_text every_block figures file.now table.old output.old result output.new }
 {
     if output.len() < figures.text {
-        return Err(TextRefusal {
+        return Err(Unwritten {
             refusal: refused(Cause::OutputShort, 0),
             needed: figures.text,
         });
@@ -60,14 +45,14 @@ fn write_foreseen(
 }
 
 // The answer, with the table as it was left by the walks.
-fn write_text(file: &[u8], table: &mut [u32], output: &mut [u8]) -> Result<Converted, TextRefusal>
+fn write_text(file: &[u8], table: &mut [u32], output: &mut [u8]) -> Result<Converted, Unwritten>
     ensures { text_is result output.new ≡ text_call (length table.old) file.now output.old }
 {
     let figures = foresee(file, table)?;
     write_foreseen(file, table, output, figures)
 }
 
-pub fn to_siin(file: &[u8], table: &mut [u32], output: &mut [u8]) -> Result<Converted, TextRefusal>
+pub fn to_siin(file: &[u8], table: &mut [u32], output: &mut [u8]) -> Result<Converted, Unwritten>
     ensures reply { text_is result output.new ≡ text_call (length table.old) file.now output.old }
     ensures zeros { table.new ≡ table_after table.old }
 {

@@ -31,6 +31,7 @@ pub struct Under {
 }
 
 // A prototype or a block was passed, or the records end.
+// An enum and no closures: the loop does something of its own behind each case, by what the case carries, so closures are no plainer.
 #[derive(Drop)]
 pub enum ReadStep {
     Prototype(Progress),

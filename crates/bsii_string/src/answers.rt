@@ -48,3 +48,18 @@ pub struct Text {
     pub start: usize,
     pub next: usize,
 }
+
+// What a call that writes refuses: with the length that it needs where the room is too short, else 0.
+#[derive(Drop)]
+pub struct Unwritten {
+    pub refusal: Refusal,
+    pub needed: usize,
+}
+
+impl From<Refusal> for Unwritten {
+    ghost from_gives = { λ f r. r ≡ record { refusal = f; needed = 0 } };
+
+    fn from(refusal: Refusal) -> Unwritten {
+        Unwritten { refusal, needed: 0 }
+    }
+}

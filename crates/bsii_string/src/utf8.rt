@@ -101,6 +101,7 @@ fn ascii_end(part: &[u8]) -> usize
         .unwrap_or(part.len())
 }
 
+// Table 3-7 stands here in the specification's words, which edits of it hold; std's from_utf8 promises its own, so a proof that they are one would be no plainer.
 pub fn is_utf8(part: &[u8]) -> bool
     ensures { result ≡ utf8 part.now }
 {

@@ -86,16 +86,12 @@ fn is_absent(file: &[u8], table: &mut [u32], name: &[u8], n: usize) -> bool
 
 // Whether the blocks under the name have these numbers, in order, and there are no more.
 fn same_numbers(file: &[u8], table: &mut [u32], name: &[u8], numbers: &[u8]) -> bool {
-    let mut n = 0;
-    let mut at = 0;
-    while at < numbers.len() {
-        if !same_number(file, table, name, n, number(numbers, at)) {
+    for (n, word) in numbers.chunks(4).enumerate() {
+        if !same_number(file, table, name, n, number(word, 0)) {
             return false;
         }
-        n += 1;
-        at += 4;
     }
-    is_absent(file, table, name, n)
+    is_absent(file, table, name, numbers.len().div_ceil(4))
 }
 
 // The look-up at a position of the record: a name, and the numbers of its blocks. Where the next one starts.

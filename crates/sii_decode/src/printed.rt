@@ -13,6 +13,7 @@ use bsii_window::digits::write_decimal;
 use bsii_window::window::put_all;
 
 // `refused N at P` and a line feed, at the output's start; the position behind it.
+// By pieces and not by a Display: the clause says every byte, and a text made by `write!` would need a buffer of its own, without a heap.
 fn write_refusal(output: &mut [u8], f: Refusal) -> usize
     ensures { Wrote output.old 0x8000_0000_0000_0000 (printed (refuses (fault_is f))) result output.new }
 {

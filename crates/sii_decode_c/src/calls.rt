@@ -11,9 +11,9 @@ use bsii_file::blocks::{BlockHead, block_at, blocks_by_prototype_name};
 use bsii_file::prototypes::{PrototypeHead, get_prototype};
 use bsii_file_field::answers::Field;
 use bsii_file_field::fields::field;
-use bsii_output::text::{Converted, TextRefusal, to_siin};
+use bsii_output::text::{Converted, to_siin};
 use bsii_parse::reading::{Reading, parse};
-use bsii_string::answers::Refusal;
+use bsii_string::answers::{Refusal, Unwritten};
 
 #[repr(C)]
 #[derive(Drop)]
@@ -199,10 +199,10 @@ pub struct SiiText {
     pub steps: u64,
 }
 
-impl From<Result<Converted, TextRefusal>> for SiiText {
+impl From<Result<Converted, Unwritten>> for SiiText {
     ghost from_gives = { λ reply out. out ≡ text_out (text_is reply []) };
 
-    fn from(reply: Result<Converted, TextRefusal>) -> SiiText {
+    fn from(reply: Result<Converted, Unwritten>) -> SiiText {
         match reply {
             Ok(a) => SiiText {
                 number: 0,

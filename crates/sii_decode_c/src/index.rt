@@ -9,9 +9,9 @@ ghost use Rattle.sii_decode_c.specs.Exports.{number_out, field_out, length_out, 
 use crate::calls::{SiiField, SiiNumber};
 use bsii_file::once::defines_once;
 use bsii_index::check::check_index;
-use bsii_index::write::{LengthRefusal, write_index};
+use bsii_index::write::write_index;
 use bsii_index_field::field_by_index;
-use bsii_string::answers::Refusal;
+use bsii_string::answers::{Refusal, Unwritten};
 
 #[repr(C)]
 #[derive(Drop)]
@@ -22,10 +22,10 @@ pub struct SiiLength {
     pub length: u64,
 }
 
-impl From<Result<usize, LengthRefusal>> for SiiLength {
+impl From<Result<usize, Unwritten>> for SiiLength {
     ghost from_gives = { λ reply out. out ≡ length_out (length_is reply []) };
 
-    fn from(reply: Result<usize, LengthRefusal>) -> SiiLength {
+    fn from(reply: Result<usize, Unwritten>) -> SiiLength {
         match reply {
             Ok(n) => SiiLength {
                 number: 0,
