@@ -140,6 +140,7 @@ fn extended(n: i32) -> u64
     i64::from(n).cast_unsigned()
 }
 
+// One struct of C for all seventeen kinds, so a match that fills it.
 fn copied(answer: Element) -> SiiElement
     ensures { result ≡ datum_out (datum_is answer) }
 {

@@ -17,8 +17,10 @@ use Rattle.bsii_string.specs.NumbersAt.{numbers_at}
 use Rattle.bsii_value.specs.declared.types.Numeric.{Numeric}
 use Rattle.bsii_float.specs.Bits.{floats_of}
 use Rattle.bsii_float.specs.declared.floats.Floats.{Floats}
+use Rattle.bsii_float.specs.declared.floats.Bits.{Bits}
 use Rattle.bsii_element.specs.Cases.{datum_is, int3_of}
 use Rattle.bsii_element.specs.declared.answers.Int3.{Int3}
+use Rattle.bsii_element.specs.declared.answers.Element.{Element}
 use Rattle.bsii_element.specs.declared.answers.Element.TheVariants.{FloatVec2, FloatVec3, FloatVec4, FloatVec7, FloatVec8, Int32Vec3}
 use Rattle.bsii_element.proofs.SignedBits.{signed_is}
 use Rattle.bsii_element.proofs.numeric.numeric_of.Goals as goal
@@ -31,6 +33,10 @@ unfolding nonzero
 nonzero_is zero = refl
 nonzero_is (suc n) = ap not (eqb-suc-zero n)
 
+-- A vector of any number of floats is the element of the floats of its bits.
+floats_are : {n : ℕ} (make : Floats n → Element) {v : Floats n} {b bits : Bits n} → v ≡ floats_of b → b ≡ bits → datum_is (make v) ≡ datum_is (make (floats_of bits))
+floats_are make f b = ap (λ v. datum_is (make v)) (f ∙ ap floats_of b)
+
 pub returns-in-Float : goal.returns-in-Float
 unfolding arity width numeric_datum numbers_at
 returns-in-Float c =
@@ -39,33 +45,23 @@ returns-in-Float c =
 
 pub returns-in-FloatVec2 : goal.returns-in-FloatVec2
 unfolding arity width numeric_datum numbers_at
-returns-in-FloatVec2 c =
-    let a = c.args in
-    ap (λ (v : Floats 2). datum_is (FloatVec2 v)) (c.floats_of.ensures ∙ ap (floats_of {n = 2}) c.bits_at.ensures) ∙ ap (Answer a.raw.now) (sym c.in-FloatVec2.is)
+returns-in-FloatVec2 c = floats_are FloatVec2 c.floats_of.ensures c.bits_at.ensures ∙ ap (Answer c.args.raw.now) (sym c.in-FloatVec2.is)
 
 pub returns-in-FloatVec3 : goal.returns-in-FloatVec3
 unfolding arity width numeric_datum numbers_at
-returns-in-FloatVec3 c =
-    let a = c.args in
-    ap (λ (v : Floats 3). datum_is (FloatVec3 v)) (c.floats_of-in-FloatVec3.ensures ∙ ap (floats_of {n = 3}) c.bits_at-in-FloatVec3.ensures) ∙ ap (Answer a.raw.now) (sym c.in-FloatVec3.is)
+returns-in-FloatVec3 c = floats_are FloatVec3 c.floats_of-in-FloatVec3.ensures c.bits_at-in-FloatVec3.ensures ∙ ap (Answer c.args.raw.now) (sym c.in-FloatVec3.is)
 
 pub returns-in-FloatVec4 : goal.returns-in-FloatVec4
 unfolding arity width numeric_datum numbers_at
-returns-in-FloatVec4 c =
-    let a = c.args in
-    ap (λ (v : Floats 4). datum_is (FloatVec4 v)) (c.floats_of-in-FloatVec4.ensures ∙ ap (floats_of {n = 4}) c.bits_at-in-FloatVec4.ensures) ∙ ap (Answer a.raw.now) (sym c.in-FloatVec4.is)
+returns-in-FloatVec4 c = floats_are FloatVec4 c.floats_of-in-FloatVec4.ensures c.bits_at-in-FloatVec4.ensures ∙ ap (Answer c.args.raw.now) (sym c.in-FloatVec4.is)
 
 pub returns-in-FloatVec7 : goal.returns-in-FloatVec7
 unfolding arity width numeric_datum numbers_at
-returns-in-FloatVec7 c =
-    let a = c.args in
-    ap (λ (v : Floats 7). datum_is (FloatVec7 v)) (c.floats_of-in-FloatVec7.ensures ∙ ap (floats_of {n = 7}) c.bits_at-in-FloatVec7.ensures) ∙ ap (Answer a.raw.now) (sym c.in-FloatVec7.is)
+returns-in-FloatVec7 c = floats_are FloatVec7 c.floats_of-in-FloatVec7.ensures c.bits_at-in-FloatVec7.ensures ∙ ap (Answer c.args.raw.now) (sym c.in-FloatVec7.is)
 
 pub returns-in-FloatVec8 : goal.returns-in-FloatVec8
 unfolding arity width numeric_datum numbers_at
-returns-in-FloatVec8 c =
-    let a = c.args in
-    ap (λ (v : Floats 8). datum_is (FloatVec8 v)) (c.floats_of-in-FloatVec8.ensures ∙ ap (floats_of {n = 8}) c.bits_at-in-FloatVec8.ensures) ∙ ap (Answer a.raw.now) (sym c.in-FloatVec8.is)
+returns-in-FloatVec8 c = floats_are FloatVec8 c.floats_of-in-FloatVec8.ensures c.bits_at-in-FloatVec8.ensures ∙ ap (Answer c.args.raw.now) (sym c.in-FloatVec8.is)
 
 pub returns-in-Int32 : goal.returns-in-Int32
 unfolding arity width numeric_datum numbers_at
