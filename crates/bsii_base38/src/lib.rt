@@ -9,15 +9,17 @@ ghost use Rattle.bsii_base38.specs.Pairs.{pair_of, CharPairs as Rule, has_zero, 
 use crate::table::CHAR_PAIRS;
 
 // The table. That each entry is what the rule says is part of the type: who is lent one need not ask for it.
-#[derive(Drop)]
+#[derive(Clone, Copy)]
 pub struct CharPairs {
-    entries: [u16; 1444],
-    ghost rule: { Rule entries },
+    pub entries: [u16; 1444],
+    pub ghost rule: { Rule entries },
 }
 
 impl CharPairs {
     // A constant is built on the stack for each use, so a walk over a file takes the table once and lends it down.
-    pub fn new() -> CharPairs {
+    pub fn new() -> CharPairs
+        ensures { Rule result.entries }
+    {
         CharPairs {
             entries: CHAR_PAIRS,
         }

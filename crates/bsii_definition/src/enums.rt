@@ -6,9 +6,9 @@ use bsii_string::numbers::{le_u32, quad, size};
 
 // A pair of an enum list: its number and its string, behind which the next pair stands.
 #[derive(Clone, Copy)]
-struct EnumPair {
-    number: u32,
-    string: Text,
+pub struct EnumPair {
+    pub number: u32,
+    pub string: Text,
 }
 
 // A pair has eight bytes at least, so one test serves for its number and its string's length.

@@ -18,7 +18,7 @@ use bsii_write::strings::write_string;
 use bsii_write_id::ids::{store_id, write_id};
 use bsii_write_word::words::{store_encoded, write_encoded_string};
 
-const LINE_END: u8 = b'\n';
+pub const LINE_END: u8 = b'\n';
 
 // How many elements an array has.
 pub fn count_line(out: &mut [u8], to: usize, name: &[u8], n: u32) -> usize

@@ -17,11 +17,11 @@ use bsii_write_value::values::Lines;
 
 // Where the walk along a block's fields is: at these definitions, in force and last, at this value, with its text behind this position.
 #[derive(Clone, Copy)]
-struct FieldPlace {
-    field: usize,
-    last_field: usize,
-    at: usize,
-    to: usize,
+pub struct FieldPlace {
+    pub field: usize,
+    pub last_field: usize,
+    pub at: usize,
+    pub to: usize,
 }
 
 // The next field, if there is one.

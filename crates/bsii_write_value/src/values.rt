@@ -25,7 +25,7 @@ pub struct Lines {
 }
 
 // The string that the last definition's list gives to the enum value at an offset.
-fn enum_text(s: &[u8], at: usize, d: Definition) -> Option<Text>
+pub fn enum_text(s: &[u8], at: usize, d: Definition) -> Option<Text>
     ensures { EnumTextOf s.now at d result }
 {
     let Ok((n, _)) = le_u32(s, at) else {
